@@ -1,0 +1,17 @@
+pub mod TextLemmas
+pub mod NameLemmas
+pub mod LabelLemmas
+pub mod BookLemmas
+pub mod AnswerLemmas
+pub mod AcceptedLemmas
+pub mod TreeLemmas
+pub mod CallLemmas
+pub mod ForestLemmas
+pub mod PushLemmas
+pub mod ApplyLemmas
+pub mod RunLemmas
+pub mod OrderLemmas
+pub mod RootLemmas
+pub mod ListableLemmas
+pub mod MetricLemmas
+mod Examples

@@ -1,0 +1,141 @@
+-- Which calls are accepted, and what each refusal carries.
+use Rattle.std.specs.Prelude.{◌≡◌, ℕ, ◌+◌, Bool, true, false, ◌&&◌, not, List, [], ◌∷◌, ◌++◌, Option, None, Some, Result, Ok, Err, length, if◌then◌else◌, nat_le, is_some, ◌⊎◌}
+use Rattle.std.specs.String.{string_bytes}
+use Rattle.fm_grammar.specs.NameTests.{is_snake_case, is_word, is_label_name}
+use Rattle.fm_grammar.specs.declared.MetricType.{MetricType}
+use Rattle.fm_book.specs.Texts.{Text, Labels, has_name}
+use Rattle.fm_book.specs.Registration.{Registration, SeenUnit, takes_no_unit, is_same_metric, text_of_unit}
+use Rattle.fm_book.specs.Book.{Call, Subsystem, Register, Book, metrics_at, children_at, missing_along, with_more}
+use Rattle.fm_book.specs.declared.RegistryError as errors
+
+-- why a call is refused, with the text that the refusal carries
+pub data Refusal : Type 0 where
+  InvalidNameFormat : Text → Refusal
+  MustHaveAnEmptyUnitString : Text → Refusal
+  OtherUnitFormatMustBeLowercase : Text → Refusal
+  AlreadyExists : Text → Refusal
+  Memory : Refusal
+  InvalidNamespace : Text → Refusal
+  InvalidSubsystemName : Text → Refusal
+  InvalidLabelName : Text → Refusal
+  DuplicateLabel : Text → Refusal
+  NoSuchSubsystem : Text → Refusal
+  TooDeep : Text → Refusal
+
+-- an error, with its text as bytes
+abbrev pub seen_error : errors.RegistryError → Refusal
+seen_error (errors.TheVariants.InvalidNameFormat name) = InvalidNameFormat (string_bytes name)
+seen_error (errors.TheVariants.MustHaveAnEmptyUnitString name) = MustHaveAnEmptyUnitString (string_bytes name)
+seen_error (errors.TheVariants.OtherUnitFormatMustBeLowercase unit) = OtherUnitFormatMustBeLowercase (string_bytes unit)
+seen_error (errors.TheVariants.AlreadyExists name) = AlreadyExists (string_bytes name)
+seen_error errors.TheVariants.Memory = Memory
+seen_error (errors.TheVariants.InvalidNamespace namespace) = InvalidNamespace (string_bytes namespace)
+seen_error (errors.TheVariants.InvalidSubsystemName name) = InvalidSubsystemName (string_bytes name)
+seen_error (errors.TheVariants.InvalidLabelName name) = InvalidLabelName (string_bytes name)
+seen_error (errors.TheVariants.DuplicateLabel name) = DuplicateLabel (string_bytes name)
+seen_error (errors.TheVariants.NoSuchSubsystem name) = NoSuchSubsystem (string_bytes name)
+seen_error (errors.TheVariants.TooDeep name) = TooDeep (string_bytes name)
+
+-- the refusal that a result carries
+abbrev pub refusal_of : {T : Type 0} → Result T errors.RegistryError → Option Refusal
+refusal_of (Ok _) = None
+refusal_of (Err e) = Some (seen_error e)
+
+-- the first refusal of a list of tests
+abbrev pub first_of : List (Bool × Refusal) → Option Refusal
+first_of [] = None
+first_of (test ∷ tests) = if test.0 then Some test.1 else first_of tests
+
+-- a refusal, or else the later one
+abbrev pub or_then : Option Refusal → Option Refusal → Option Refusal
+or_then (Some refusal) later = Some refusal
+or_then None later = later
+
+-- the first label whose name is invalid
+abbrev pub first_bad_label : Labels → Option Refusal
+first_bad_label [] = None
+first_bad_label (label ∷ labels) = if is_label_name label.name then first_bad_label labels else Some (InvalidLabelName label.name)
+
+-- the unit's text is not a word
+abbrev pub is_bad_unit : Option SeenUnit → Bool
+is_bad_unit None = false
+is_bad_unit (Some unit) = not (is_word unit.text)
+
+-- why a name with a type and a unit is refused, whatever metrics are there
+abbrev pub name_refusal : Text → MetricType → Option SeenUnit → Option Refusal
+name_refusal name metric_type unit =
+    first_of (
+    (not (is_snake_case name), InvalidNameFormat name)
+    ∷ (is_some unit && takes_no_unit metric_type, MustHaveAnEmptyUnitString name)
+    ∷ (is_bad_unit unit, OtherUnitFormatMustBeLowercase (text_of_unit unit))
+    ∷ [])
+
+module _ {M : Type 0} where
+  -- whether a metric of the list has this name, type and unit
+  abbrev pub has_metric : List (Registration M) → Registration M → Bool
+  has_metric [] registration = false
+  has_metric (other ∷ others) registration = if is_same_metric registration other then true else has_metric others registration
+
+  -- why a registry with these metrics refuses a registration
+  abbrev pub metric_refusal : List (Registration M) → Registration M → Option Refusal
+  metric_refusal there registration =
+      first_of (
+      (not (is_snake_case registration.name), InvalidNameFormat registration.name)
+      ∷ (is_some registration.unit && takes_no_unit registration.metric_type, MustHaveAnEmptyUnitString registration.name)
+      ∷ (is_bad_unit registration.unit, OtherUnitFormatMustBeLowercase (text_of_unit registration.unit))
+      ∷ (has_metric there registration, AlreadyExists registration.name)
+      ∷ [])
+
+-- why a registry at this depth refuses a subsystem, whatever its labels are
+abbrev pub name_or_depth_refusal : ℕ → Text → Option Refusal
+name_or_depth_refusal depth name = first_of ((not (is_snake_case name), InvalidSubsystemName name) ∷ (nat_le 64 depth, TooDeep name) ∷ [])
+
+-- why a registry at this depth refuses a subsystem
+abbrev pub subsystem_refusal : ℕ → Text → Labels → Option Refusal
+subsystem_refusal depth name labels = or_then (name_or_depth_refusal depth name) (first_bad_label labels)
+
+-- why a root refuses its namespace
+abbrev pub namespace_refusal : Text → Option Refusal
+namespace_refusal namespace = first_of ((not (is_snake_case namespace), InvalidNamespace namespace) ∷ [])
+
+-- why a label is refused behind labels with these names
+abbrev pub label_refusal_behind : List Text → Text → Option Refusal
+label_refusal_behind before name = first_of ((not (is_label_name name), InvalidLabelName name) ∷ (has_name before name, DuplicateLabel name) ∷ [])
+
+-- the first refusal of labels that stand behind others with these names
+abbrev pub labels_refusal_behind : List Text → Labels → Option Refusal
+labels_refusal_behind before [] = None
+labels_refusal_behind before (label ∷ labels) = or_then (label_refusal_behind before label.name) (labels_refusal_behind (before ++ label.name ∷ []) labels)
+
+-- why a root refuses its labels
+abbrev pub root_labels_refusal : Labels → Option Refusal
+root_labels_refusal labels = labels_refusal_behind [] labels
+
+-- a name on the way that is not there
+abbrev pub missing_name : Option Text → Option Refusal
+missing_name None = None
+missing_name (Some name) = Some (NoSuchSubsystem name)
+
+module _ {M : Type 0} where
+  -- the answer to a call, read from the book alone
+  abbrev pub answer : Book M → Call M → Option Refusal
+  answer b (Subsystem path name labels) = or_then (missing_name (missing_along b.calls [] path)) (subsystem_refusal (b.depth + length path) name labels)
+  answer b (Register path registration) = or_then (missing_name (missing_along b.calls [] path)) (metric_refusal (metrics_at b.calls path) registration)
+
+  -- what an accepted call adds to the book: nothing where it asks for a subsystem that is there
+  abbrev pub gained : Book M → Call M → List (Call M)
+  gained b (Subsystem path name labels) = if has_name (children_at b.calls path) name then [] else Subsystem path name labels ∷ []
+  gained b (Register path registration) = Register path registration ∷ []
+
+  -- the book after an answer
+  abbrev pub after_if : Option Refusal → Book M → Call M → Book M
+  after_if None b call = with_more b (gained b call)
+  after_if (Some _) b call = b
+
+  -- the book after a call
+  abbrev pub after : Book M → Call M → Book M
+  after b call = after_if (answer b call) b call
+
+-- a call got the wanted answer, or found no memory
+abbrev pub IsAnswered : Option Refusal → Option Refusal → Type 0
+IsAnswered got wanted = (got ≡ Some Memory) ⊎ (got ≡ wanted)

@@ -1,0 +1,12 @@
+pub mod Errors
+pub mod Texts
+pub mod Registration
+pub mod Book
+pub mod Answer
+pub mod Accepted
+pub mod Tree
+pub mod Steps
+pub mod TreeCode
+pub mod Loan
+pub mod Listing
+pub mod Running

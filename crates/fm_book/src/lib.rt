@@ -1,0 +1,119 @@
+//! The tree of registries against the book of accepted calls.
+#![tactic(auto)]
+
+ghost use Rattle.std.specs.Prelude.{◌≡◌};
+ghost use Rattle.fm_book.specs.Errors.{error_number};
+
+use thiserror::Error;
+
+/// Why a registry refuses a call. Each kind but `Memory` carries the text that it is about.
+#[derive(Clone, Debug, PartialEq, Eq, Drop, Error)]
+pub enum RegistryError {
+    /// The name of a metric is not in snake case.
+    #[error("The name of metric '{name}' should be snake_case")]
+    InvalidNameFormat { name: String },
+    /// A metric whose type has no unit was given one.
+    #[error("The type of metric '{name}' must have an empty unit string")]
+    MustHaveAnEmptyUnitString { name: String },
+    /// The text of a unit is not a word of lowercase letters and digits.
+    #[error("The format of unit '{unit}' must be lowercase")]
+    OtherUnitFormatMustBeLowercase { unit: String },
+    /// The registry has a metric with this name, type and unit.
+    #[error("The metric '{name}' to be registered already exists in the registry")]
+    AlreadyExists { name: String },
+    /// No memory could be had.
+    #[error("Memory")]
+    Memory,
+    /// The namespace of a root is not in snake case.
+    #[error("InvalidNamespace")]
+    InvalidNamespace { namespace: String },
+    /// The name of a subsystem is not in snake case.
+    #[error("InvalidSubsystemName")]
+    InvalidSubsystemName { name: String },
+    /// The name of a label is not a label name.
+    #[error("InvalidLabelName")]
+    InvalidLabelName { name: String },
+    /// A label of a root has the name of one before it.
+    #[error("DuplicateLabel")]
+    DuplicateLabel { name: String },
+    /// No subsystem has the name that a path asks for.
+    #[error("NoSuchSubsystem")]
+    NoSuchSubsystem { name: String },
+    /// The subsystem would lie deeper than 64 registries below a root.
+    #[error("TooDeep")]
+    TooDeep { name: String },
+}
+
+impl RegistryError {
+    /// The number of this kind of refusal.
+    pub fn number(&self) -> u8
+        ensures { result ≡ error_number self.now }
+    {
+        match self {
+            RegistryError::InvalidNameFormat { .. } => 1,
+            RegistryError::MustHaveAnEmptyUnitString { .. } => 2,
+            RegistryError::OtherUnitFormatMustBeLowercase { .. } => 3,
+            RegistryError::AlreadyExists { .. } => 4,
+            RegistryError::Memory => 5,
+            RegistryError::InvalidNamespace { .. } => 6,
+            RegistryError::InvalidSubsystemName { .. } => 7,
+            RegistryError::InvalidLabelName { .. } => 8,
+            RegistryError::DuplicateLabel { .. } => 9,
+            RegistryError::NoSuchSubsystem { .. } => 10,
+            RegistryError::TooDeep { .. } => 11,
+        }
+    }
+}
+
+#[cfg(test)]
+mod tests {
+    use super::*;
+    use std::alloc::Global;
+    use std::test::Fail;
+
+    fn text_of(alloc: Global, error: RegistryError) -> Result<String, Fail> {
+        Ok(error.to_string(alloc)?)
+    }
+
+    #[test]
+    fn refusals_print_what_they_are_about(rt: HostRuntime) -> Result<(), Fail> {
+        let alloc = rt.alloc();
+        let name = String::from_str(alloc, "Bad")?;
+        let text = text_of(alloc, RegistryError::InvalidNameFormat { name })?;
+        assert_eq!(rt;
+            text.as_str(),
+            "The name of metric 'Bad' should be snake_case"
+        );
+        let name = String::from_str(alloc, "up")?;
+        let text = text_of(alloc, RegistryError::MustHaveAnEmptyUnitString { name })?;
+        assert_eq!(rt;
+            text.as_str(),
+            "The type of metric 'up' must have an empty unit string"
+        );
+        let unit = String::from_str(alloc, "Hz")?;
+        let text = text_of(
+            alloc,
+            RegistryError::OtherUnitFormatMustBeLowercase { unit },
+        )?;
+        assert_eq!(rt; text.as_str(), "The format of unit 'Hz' must be lowercase");
+        let name = String::from_str(alloc, "up")?;
+        let text = text_of(alloc, RegistryError::AlreadyExists { name })?;
+        assert_eq!(rt;
+            text.as_str(),
+            "The metric 'up' to be registered already exists in the registry"
+        );
+        Ok(())
+    }
+
+    #[test]
+    fn other_refusals_print_their_kind(rt: HostRuntime) -> Result<(), Fail> {
+        let alloc = rt.alloc();
+        assert_eq!(rt; RegistryError::Memory.number(), 5);
+        assert_eq!(rt; text_of(alloc, RegistryError::Memory)?.as_str(), "Memory");
+        let name = String::from_str(alloc, "deep")?;
+        let deep = RegistryError::TooDeep { name };
+        assert_eq!(rt; deep.number(), 11);
+        assert_eq!(rt; text_of(alloc, deep)?.as_str(), "TooDeep");
+        Ok(())
+    }
+}

@@ -1,0 +1,19 @@
+-- Cases of options and answers.
+use Rattle.std.proofs.Common.{◌≡◌, Option, Some, None, Result, Ok, Err, ◌⊎◌, inl, inr, refl}
+use Rattle.fm_text.specs.declared.error.EncodeError.{EncodeError}
+
+pub option_cases : {X : Type 0} → (o : Option X) → (o ≡ None) ⊎ ((x : X) × (o ≡ Some x))
+option_cases None = inl refl
+option_cases (Some x) = inr (x, refl)
+
+pub answer_cases : (r : Result (Unit {0}) EncodeError) → (r ≡ Ok tt) ⊎ ((e : EncodeError) × (r ≡ Err e))
+answer_cases (Ok _) = inl refl
+answer_cases (Err e) = inr (e, refl)
+
+pub none_from_not : {X : Type 0} → (o : Option X) → ((x : X) → o ≡ Some x → ⊥) → o ≡ None
+none_from_not None never = refl
+none_from_not (Some x) never = absurd (never x refl)
+
+pub ok_from_not : (r : Result (Unit {0}) EncodeError) → ((e : EncodeError) → r ≡ Err e → ⊥) → r ≡ Ok tt
+ok_from_not (Ok _) never = refl
+ok_from_not (Err e) never = absurd (never e refl)

@@ -1,0 +1,213 @@
+-- Members of a metric, one after the other.
+use Rattle.std.proofs.Common.{◌≡◌, ℕ, List, [], ◌∷◌, ◌++◌, Option, Some, None, Result, Ok, Err, ◌⊎◌, inl, inr, refl, sym, ◌∙◌, ap, subst, append_assoc, append-nil, map, MatchResult, ◌<◌, ◌+◌, length, get_or, take}
+use Rattle.std.proofs.lemmas.List.{take_more}
+use Rattle.std.specs.List.{flat_map}
+use Rattle.std.proofs.lemmas.Grind.{flat_map-append}
+use Rattle.fm_grammar.specs.Exposition.{Label, Sample}
+use Rattle.fm_grammar.specs.declared.MetricType.{MetricType}
+use Rattle.fm_text.specs.declared.error.EncodeError.{EncodeError}
+use Rattle.fm_encoder.specs.Labels.{HandedLabel, LabelsClean, LabelsFault, all_written, handed_again}
+use Rattle.fm_encoder.specs.Points.{Point, Member, Setting, Context, PointClean, PartsFault, point_samples, MembersClean, MembersFault, member_samples, members_samples}
+use Rattle.fm_encoder.specs.Gathered.{GatheredPoints, GatheredMembers, OwnRefusal, own_refusal, answer}
+use Rattle.fm_encoder.specs.Hands.{HandsPoints, HandsMembers, PointsClean, PointsFault, points_samples, MembersOf, members_of, Joined, OffersOf}
+use Rattle.fm_encoder.specs.Steps.{BeginsMember, EndsPoints}
+use Rattle.fm_encoder.proofs.Cases.{option_cases, answer_cases}
+use Rattle.fm_encoder.proofs.LabelSetLemmas.{own_refusal_is}
+
+abbrev pub context_of : List Label → Setting → Context
+context_of labels s = record { setting = s; constants = labels }
+
+-- what a metric encoder shows of its point encoder
+abbrev pub shown : List Label → GatheredPoints → GatheredMembers
+shown labels g = record { context = context_of labels g.setting; samples = g.samples; refused = g.refused }
+
+pub none_before_ends : (visited : Result (Unit {0}) EncodeError) (mid new : GatheredPoints) → EndsPoints visited mid new → new.refused ≡ None → mid.refused ≡ None
+none_before_ends visited mid new ends none =
+    elim (option_cases mid.refused) [ inl e ↦ e | inr (k, e) ↦ (let same : new ≡ mid = ends.kept k e in cc) ]
+
+pub none_before_points : {A : List Point → Type 0} {F : Type 0} (old mid : GatheredPoints) (r : Result (Unit {0}) EncodeError) → HandsPoints A F old mid r → mid.refused ≡ None → old.refused ≡ None
+none_before_points old mid r hands none =
+    elim (option_cases old.refused) [ inl e ↦ e | inr (k, e) ↦ (let same : mid ≡ old = hands.kept k e in cc) ]
+
+module _ (constants : List Label) (labels : List HandedLabel) where
+  -- the labels that stand first in each sample
+  abbrev all : List HandedLabel
+  all = handed_again constants ++ labels
+
+  -- clean points under clean labels are clean members
+  MembersClean-of : (g : GatheredPoints) (ps : List Point) → (g.deferred ≡ None → LabelsClean g.setting.metric_type [] all) → (g.deferred ≡ None → g.common ≡ all_written all) → PointsClean g ps → MembersClean (context_of constants g.setting) (members_of labels ps)
+  MembersClean-of g [] clean common h = tt
+  MembersClean-of g (p ∷ ps) clean common h =
+      ((clean h.0, subst (λ (ls : List Label). PointClean g.setting ls p) (common h.0) h.1), MembersClean-of g ps clean common h.2)
+
+  -- and have the same samples
+  members_samples-of : (g : GatheredPoints) (ps : List Point) → (g.deferred ≡ None → g.common ≡ all_written all) → PointsClean g ps → points_samples g ps ≡ members_samples (context_of constants g.setting) (members_of labels ps)
+  members_samples-of g [] common h = refl
+  members_samples-of g (p ∷ ps) common h =
+      let first : point_samples g.setting g.common p ≡ point_samples g.setting (all_written all) p = ap (λ (ls : List Label). point_samples g.setting ls p) (common h.0) in
+      let rest = members_samples-of g ps common h.2 in
+      λ i. first i ++ rest i
+
+  -- a fault of points is one of members, or the labels' own refusal
+  MembersFault-of : (k : EncodeError) (F : Type 0) (g : GatheredPoints) (ps : List Point) → (g.deferred ≡ Some k → OwnRefusal F k ⊎ LabelsFault k g.setting.metric_type [] all)
+      → (g.deferred ≡ None → g.common ≡ all_written all) → PointsFault k g ps → OwnRefusal F k ⊎ MembersFault k (context_of constants g.setting) (members_of labels ps)
+  MembersFault-of k F g [] deferred common h = absurd h
+  MembersFault-of k F g (p ∷ ps) deferred common (inl (inl mismatch)) = inr (inl (inr (inl mismatch)))
+  MembersFault-of k F g (p ∷ ps) deferred common (inl (inr (inl d))) =
+      elim (deferred d) [ inl own ↦ inl own | inr fault ↦ inr (inl (inl fault)) ]
+  MembersFault-of k F g (p ∷ ps) deferred common (inl (inr (inr (none, parts)))) =
+      inr (inl (inr (inr (subst (λ (ls : List Label). PartsFault k g.setting ls p) (common none) parts))))
+  MembersFault-of k F g (p ∷ ps) deferred common (inr more) =
+      elim (MembersFault-of k F g ps deferred common more) [ inl own ↦ inl own | inr fault ↦ inr (inr fault) ]
+
+OwnRefusal-left : {F G : Type 0} (k : EncodeError) → OwnRefusal F k → OwnRefusal (F ⊎ G) k
+OwnRefusal-left k (inl m) = inl m
+OwnRefusal-left k (inr f) = inr (f.0, inl f.1)
+
+OwnRefusal-right : {F G : Type 0} (k : EncodeError) → OwnRefusal G k → OwnRefusal (F ⊎ G) k
+OwnRefusal-right k (inl m) = inl m
+OwnRefusal-right k (inr f) = inr (f.0, inr f.1)
+
+-- the points of a metric under one member's labels
+pub HandsMembers-one : (constants : List Label) (labels : List HandedLabel) (A : List Point → Type 0) (F G : Type 0) (old begun mid new : GatheredPoints) (visited : Result (Unit {0}) EncodeError) → BeginsMember (handed_again constants ++ labels) F old begun → HandsPoints A G begun mid visited → EndsPoints visited mid new → old.refused ≡ None → HandsMembers (MembersOf labels A) (F ⊎ G) (shown constants old) (shown constants new) (answer new.refused)
+HandsMembers-one constants labels A F G old begun mid new visited begins hands ends accepting =
+    let begun_none : begun.refused ≡ None = begins.refused ∙ accepting in
+    let same_context : context_of constants begun.setting ≡ context_of constants old.setting = ap (context_of constants) begins.setting in
+    let label_type = λ (type : MetricType). LabelsClean type [] (handed_again constants ++ labels) in
+    record {
+      context = ap (context_of constants) (ends.place.setting ∙ hands.place.setting ∙ begins.setting);
+      kept = λ k e. absurd cc;
+      handed = λ o n r.
+          (let m = none_before_ends visited mid new ends n in
+          let h = hands.handed begun_none m (ends.visited_ok m n) in
+          let clean = MembersClean-of constants labels begun h.0 (λ d. subst label_type (ap (λ (s : Setting). s.metric_type) (sym begins.setting)) (begins.clean d)) begins.common h.2 in
+          let lines = members_samples-of constants labels begun h.0 begins.common h.2 in (
+            members_of labels h.0,
+            (h.0, h.1, refl),
+            subst (λ (x : Context). MembersClean x (members_of labels h.0)) same_context clean,
+            ends.samples ∙ h.3 ∙ (λ i. begins.samples i ++ lines i) ∙ ap (λ (x : Context). old.samples ++ members_samples x (members_of labels h.0)) same_context,
+          ));
+      own = λ e n r. (let none : Ok tt ≡ Err e = rw n at r in cc);
+      refused = λ k o n. elim (option_cases mid.refused) [
+        | inr (j, e) ↦
+            (let again : new ≡ mid = ends.kept j e in
+            let same : j ≡ k = cc in
+            elim (hands.refused k begun_none (e ∙ ap Some same)) [
+              | inl own ↦ inl (OwnRefusal-right k own)
+              | inr (ps, admitted, fault) ↦
+                  elim (MembersFault-of constants labels k F begun ps (λ d. subst (λ (type : MetricType). OwnRefusal F k ⊎ LabelsFault k type [] (handed_again constants ++ labels)) (ap (λ (s : Setting). s.metric_type) (sym begins.setting)) (begins.deferred k d)) begins.common fault) [
+                    | inl own ↦ inl (OwnRefusal-left k own)
+                    | inr members ↦ inr (members_of labels ps, (ps, admitted, refl), subst (λ (x : Context). MembersFault k x (members_of labels ps)) same_context members)
+                  ]
+            ])
+        | inl m ↦ elim (answer_cases visited) [
+          | inl v ↦ (let none : new.refused ≡ None = ends.ok m v in absurd cc)
+          | inr (e, v) ↦
+              (let kept : Some (own_refusal e) ≡ Some k = sym (ends.own e m v) ∙ n in
+              let same : own_refusal e ≡ k = cc in
+              inl (OwnRefusal-right k (subst (OwnRefusal G) same (own_refusal_is G e (hands.own e m v)))))
+        ]
+      ];
+    }
+
+-- what is read of the labels is what the next points have
+pub BeginsMember-read : {L : Type 0} (items : L → List Label) (all : List HandedLabel) (F : Type 0) (old new : GatheredPoints) (read : Result L EncodeError) → new.setting ≡ old.setting → new.samples ≡ old.samples → new.refused ≡ old.refused → MatchResult read (λ ls. (new.deferred ≡ None) × (new.common ≡ items ls)) (λ k. new.deferred ≡ Some k) → MatchResult read (λ ls. LabelsClean old.setting.metric_type [] all × (items ls ≡ all_written all)) (λ k. OwnRefusal F k ⊎ LabelsFault k old.setting.metric_type [] all) → BeginsMember all F old new
+BeginsMember-read items all F old new (Ok ls) setting samples refused taken clean = record {
+  setting = setting;
+  samples = samples;
+  refused = refused;
+  clean = λ _. clean.0;
+  common = λ _. taken.1 ∙ clean.1;
+  deferred = λ k e. absurd cc;
+}
+BeginsMember-read items all F old new (Err j) setting samples refused taken fault = record {
+  setting = setting;
+  samples = samples;
+  refused = refused;
+  clean = λ e. absurd cc;
+  common = λ e. absurd cc;
+  deferred = λ k e. (let same : j ≡ k = cc in subst (λ (i : EncodeError). OwnRefusal F i ⊎ LabelsFault i old.setting.metric_type [] all) same fault);
+}
+
+MembersClean-append : (context : Context) (xs ys : List Member) → MembersClean context xs → MembersClean context ys → MembersClean context (xs ++ ys)
+MembersClean-append context [] ys h after = after
+MembersClean-append context (x ∷ xs) ys h after = (h.0, MembersClean-append context xs ys h.1 after)
+
+MembersFault-after : (k : EncodeError) (context : Context) (xs ys : List Member) → MembersFault k context ys → MembersFault k context (xs ++ ys)
+MembersFault-after k context [] ys h = h
+MembersFault-after k context (x ∷ xs) ys h = inr (MembersFault-after k context xs ys h)
+
+pub none_before_members : {A : List Member → Type 0} {F : Type 0} (old mid : GatheredMembers) (r : Result (Unit {0}) EncodeError) → HandsMembers A F old mid r → mid.refused ≡ None → old.refused ≡ None
+none_before_members old mid r hands none =
+    elim (option_cases old.refused) [ inl e ↦ e | inr (k, e) ↦ (let same : mid ≡ old = hands.kept k e in cc) ]
+
+-- members of a first part that was not refused, and then of another
+pub HandsMembers-then : {A B : List Member → Type 0} {F : Type 0} (old mid new : GatheredMembers) (first r : Result (Unit {0}) EncodeError) → HandsMembers A F old mid first → first ≡ Ok tt → (old.refused ≡ None → mid.refused ≡ None) → HandsMembers B F mid new r → HandsMembers (Joined A B) F old new r
+HandsMembers-then {A} {B} {F} old mid new first r a ok accepted b = record {
+  context = b.context ∙ a.context;
+  kept = λ k e. (let same : mid ≡ old = a.kept k e in let again : new ≡ mid = b.kept k (ap (λ (g : GatheredMembers). g.refused) same ∙ e) in again ∙ same);
+  handed = λ o n e.
+      (let m = accepted o in
+      let x = a.handed o m ok in
+      let y = b.handed m n e in (
+        x.0 ++ y.0,
+        (x.0, y.0, x.1, y.1, refl),
+        MembersClean-append old.context x.0 y.0 x.2 (rw a.context at y.2),
+        (let lines : members_samples old.context (x.0 ++ y.0) ≡ members_samples old.context x.0 ++ members_samples old.context y.0 = flat_map-append (member_samples old.context) x.0 y.0 in
+            let after : new.samples ≡ (old.samples ++ members_samples old.context x.0) ++ members_samples old.context y.0 = rw (a.context, x.3) at y.3 in
+            rw lines (after ∙ append_assoc old.samples _ _)),
+      ));
+  own = λ e n w. b.own e n w;
+  refused = λ k o n.
+      (let m = accepted o in
+      let x = a.handed o m ok in
+      elim (b.refused k m n) [
+        | inl own ↦ inl own
+        | inr (ys, admitted, fault) ↦ inr (x.0 ++ ys, (x.0, ys, x.1, admitted, refl), MembersFault-after k old.context x.0 ys (rw a.context at fault))
+      ]);
+}
+
+pub HandsMembers-weaker : {A B : List Member → Type 0} {F G : Type 0} (old new : GatheredMembers) (r : Result (Unit {0}) EncodeError) → ((ms : List Member) → A ms → B ms) → (F → G) → HandsMembers A F old new r → HandsMembers B G old new r
+HandsMembers-weaker old new r admits weaker a = record {
+  context = a.context;
+  kept = a.kept;
+  handed = λ o n e. (let h = a.handed o n e in (h.0, admits h.0 h.1, h.2, h.3));
+  own = λ e n w. elim (a.own e n w) [ inl memory ↦ inl memory | inr fault ↦ inr (weaker fault) ];
+  refused = λ k o n. elim (a.refused k o n) [
+    | inl (inl memory) ↦ inl (inl memory)
+    | inl (inr fault) ↦ inl (inr (fault.0, weaker fault.1))
+    | inr (ms, admitted, fault) ↦ inr (ms, admits ms admitted, fault)
+  ];
+}
+
+pub HandsMembers-nothing : {A : List Member → Type 0} {F : Type 0} (g : GatheredMembers) → A [] → HandsMembers A F g g (Ok tt)
+HandsMembers-nothing g admitted = record {
+  context = refl;
+  kept = λ _ _. refl;
+  handed = λ _ _ _. ([], admitted, tt, sym (append-nil g.samples));
+  own = λ e n w. absurd cc;
+  refused = λ k o n. absurd cc;
+}
+
+-- one point without member labels, and the members that it makes
+pub HandsMembers-bare : (p : Point) (F G : Type 0) (old new : GatheredMembers) (r : Result (Unit {0}) EncodeError) → (F → ⊥) → HandsMembers (MembersOf [] (λ ps. ps ≡ p ∷ [])) (F ⊎ G) old new r → HandsMembers (λ ms. ms ≡ record { labels = []; point = p } ∷ []) G old new r
+HandsMembers-bare p F G old new r never a =
+    HandsMembers-weaker old new r (λ ms m. m.2 ∙ ap (members_of []) m.1) (λ (h : _). elim h [ inl own ↦ absurd (never own) | inr fault ↦ fault ]) a
+
+-- one pair more
+pub OffersOf-push : {S M : Type 0} (labels : S → List HandedLabel) (Points : M → List Point → Type 0) (xs : List (S × M)) (x : S × M) (ms : List Member) → Joined (OffersOf labels Points xs) (MembersOf (labels x.0) (Points x.1)) ms → OffersOf labels Points (xs ++ x ∷ []) ms
+OffersOf-push labels Points [] x ms (xs_none, bs, none, own, is) =
+    (bs, [], own, refl, is ∙ ap (λ (zs : List Member). zs ++ bs) none ∙ sym (append-nil bs))
+OffersOf-push labels Points (y ∷ xs) x ms (front, bs, (first, rest, own_first, offered, front_is), own, is) = (
+  first,
+  rest ++ bs,
+  own_first,
+  OffersOf-push labels Points xs x (rest ++ bs) (rest, bs, offered, own, refl),
+  is ∙ ap (λ (zs : List Member). zs ++ bs) front_is ∙ append_assoc first rest bs,
+)
+
+-- a loop over pairs that each hand over their members: one pair more
+pub HandsMembers-more : {S M : Type 0} {F : Type 0} (labels : S → List HandedLabel) (Points : M → List Point → Type 0) (xs : List (S × M)) (i : ℕ) (x : S × M) → i < length xs → x ≡ get_or xs i x → (old mid new : GatheredMembers) (r : Result (Unit {0}) EncodeError) → HandsMembers (OffersOf labels Points (take i xs)) F old mid (Ok tt) → (old.refused ≡ None → mid.refused ≡ None) → HandsMembers (MembersOf (labels x.0) (Points x.1)) F mid new r → HandsMembers (OffersOf labels Points (take (i + 1) xs)) F old new r
+HandsMembers-more {S} {M} labels Points xs i x within is old mid new r before accepted one =
+    let more : take (i + 1) xs ≡ take i xs ++ x ∷ [] = take_more xs i x within ∙ ap (λ (y : S × M). take i xs ++ y ∷ []) (sym is) in
+    rw more (HandsMembers-weaker old new r (OffersOf-push labels Points (take i xs) x) (λ fault. fault) (HandsMembers-then old mid new (Ok tt) r before refl accepted one))

@@ -1,0 +1,87 @@
+-- The names of labels, and that clean labels have valid and different names.
+use Rattle.std.proofs.Common.{◌≡◌, ◌≢◌, ℕ, ◌<◌, ◌+◌, zero, suc, List, [], ◌∷◌, ◌++◌, length, get_or, take, map, inl, inr, refl, sym, ap, subst, ◌∙◌, arith, append-nil, append_assoc, String, Global, string_bytes, Contains, Result, Ok, Err, MatchResult, IfOk}
+use Rattle.std.specs.List.{AllByRecursion}
+use Rattle.std.proofs.lemmas.List.{take_more, map-append}
+use Rattle.std.proofs.lemmas.List.Elements.{Contains-append_left, Contains-append_right, Contains-append_cases}
+use Rattle.fm_grammar.specs.declared.MetricType.{MetricType}
+use Rattle.fm_grammar.specs.Exposition.{Text, Label}
+use Rattle.fm_grammar.specs.Names.{IsLabelName, AllDifferent}
+use Rattle.fm_grammar.specs.WellFormed.{AreLabels}
+use Rattle.fm_text.specs.Samples.{label_of, labels_of}
+use Rattle.fm_encoder.specs.Labels.{HandedLabel, NamePiece, ValuePiece, label_names, NameFits, LabelClean, LabelsClean, written, all_written, handed_again}
+
+abbrev pub Pairs : Type 0
+Pairs = List (String Global × String Global)
+
+Contains-cons : (x y : Text) (xs : List Text) → Contains xs x → Contains (y ∷ xs) x
+Contains-cons x y xs there = Contains-append_right (y ∷ []) xs x there
+
+Contains-one : (x y : Text) → Contains (y ∷ []) x → y ≡ x
+Contains-one x y (zero, within, is) = is
+Contains-one x y (suc i, within, is) = absurd (omega arith)
+
+-- a label of the list has the name
+pub name_there : (ls : Pairs) (i : ℕ) (l : String Global × String Global) (name : Text) → i < length ls → l ≡ get_or ls i l → string_bytes l.0 ≡ name → Contains (label_names (labels_of ls)) name
+name_there [] i l name within is named = absurd (omega arith)
+name_there (x ∷ ls) zero l name within is named = (0, omega arith, ap (λ (p : String Global × String Global). string_bytes p.0) (sym is) ∙ named)
+name_there (x ∷ ls) (suc i) l name within is named = Contains-cons name _ _ (name_there ls i l name (omega arith) is named)
+
+names-append : (xs ys : Pairs) → label_names (labels_of (xs ++ ys)) ≡ label_names (labels_of xs) ++ label_names (labels_of ys)
+names-append [] ys = refl
+names-append (x ∷ xs) ys = ap (λ (ns : List Text). string_bytes x.0 ∷ ns) (names-append xs ys)
+
+-- one label more, with another name
+pub name_absent : (ls : Pairs) (i : ℕ) (l : String Global × String Global) (name : Text) → i < length ls → l ≡ get_or ls i l → ¬ (string_bytes l.0 ≡ name) → ¬ (Contains (label_names (labels_of (take i ls))) name) → ¬ (Contains (label_names (labels_of (take (i + 1) ls))) name)
+name_absent ls i l name within is other before there =
+    let more : take (i + 1) ls ≡ take i ls ++ l ∷ [] = take_more ls i l within ∙ ap (λ (x : String Global × String Global). take i ls ++ x ∷ []) (sym is) in
+    let split : Contains (label_names (labels_of (take i ls)) ++ string_bytes l.0 ∷ []) name =
+    subst (λ (ns : List Text). Contains ns name) (ap (λ (xs : Pairs). label_names (labels_of xs)) more ∙ names-append (take i ls) (l ∷ [])) there in
+    elim (Contains-append_cases _ _ name split) [ inl h ↦ before h | inr h ↦ other (Contains-one name (string_bytes l.0) h) ]
+
+names_of-append : (xs ys : List Label) → label_names (xs ++ ys) ≡ label_names xs ++ label_names ys
+names_of-append [] ys = refl
+names_of-append (x ∷ xs) ys = ap (λ (ns : List Text). x.name ∷ ns) (names_of-append xs ys)
+
+valid-push : (xs : List Label) (l : Label) → AllByRecursion (λ label. IsLabelName label.name) xs → IsLabelName l.name → AllByRecursion (λ label. IsLabelName label.name) (xs ++ l ∷ [])
+valid-push [] l h valid = (valid, tt)
+valid-push (x ∷ xs) l h valid = (h.0, valid-push xs l h.1 valid)
+
+others-push : (names : List Text) (name last : Text) → AllByRecursion (λ other. other ≢ name) names → last ≢ name → AllByRecursion (λ other. other ≢ name) (names ++ last ∷ [])
+others-push [] name last h other = (other, tt)
+others-push (n ∷ names) name last h other = (h.0, others-push names name last h.1 other)
+
+different-push : (names : List Text) (last : Text) → AllDifferent names → ¬ (Contains names last) → AllDifferent (names ++ last ∷ [])
+different-push [] last h fresh = (tt, tt)
+different-push (n ∷ names) last h fresh =
+    (others-push names n last h.0 (λ same. fresh (0, omega arith, sym same)), different-push names last h.1 (λ there. fresh (Contains-cons last n names there)))
+
+-- a label whose name fits, behind well-formed labels
+AreLabels-push : (type : MetricType) (before : List Label) (l : Label) → AreLabels before → NameFits type before l.name → AreLabels (before ++ l ∷ [])
+AreLabels-push type before l h fits = record {
+  names = valid-push before l h.names fits.valid;
+  different = subst AllDifferent (sym (names_of-append before (l ∷ []))) (different-push (label_names before) l.name h.different fits.fresh);
+}
+
+AreLabels-clean : (type : MetricType) (before : List Label) (label : HandedLabel) → AreLabels before → LabelClean type before label → AreLabels (before ++ written label)
+AreLabels-clean type before label h (inl none) = subst (λ (l : HandedLabel). AreLabels (before ++ written l)) (sym none) (subst AreLabels (sym (append-nil before)) h)
+AreLabels-clean type before label h (inr (n, t, is, fits)) =
+    subst (λ (l : HandedLabel). AreLabels (before ++ written l)) (sym is) (AreLabels-push type before (record { name = n; value = t }) h fits)
+
+AreLabels-after : (type : MetricType) (before : List Label) (labels : List HandedLabel) → AreLabels before → LabelsClean type before labels → AreLabels (before ++ all_written labels)
+AreLabels-after type before [] h clean = subst AreLabels (sym (append-nil before)) h
+AreLabels-after type before (label ∷ labels) h clean =
+    subst AreLabels (append_assoc before (written label) (all_written labels)) (AreLabels-after type (before ++ written label) labels (AreLabels-clean type before label h clean.0) clean.1)
+
+-- clean labels are well formed as they are written
+pub AreLabels-written : (type : MetricType) (labels : List HandedLabel) → LabelsClean type [] labels → AreLabels (all_written labels)
+AreLabels-written type labels clean = AreLabels-after type [] labels (record { names = tt; different = tt }) clean
+
+-- written labels are handed over again as pairs of two strings hand them over
+pub handed_again-pairs : (ls : Pairs) → map (λ p. NamePiece (string_bytes p.0) ∷ ValuePiece (string_bytes p.1) ∷ []) ls ≡ handed_again (labels_of ls)
+handed_again-pairs [] = refl
+handed_again-pairs (l ∷ ls) = ap (λ (hs : List HandedLabel). (NamePiece (string_bytes l.0) ∷ ValuePiece (string_bytes l.1) ∷ []) ∷ hs) (handed_again-pairs ls)
+
+-- labels that were read clean are well formed
+pub AreLabels-read : {L E : Type 0} (items : L → List Label) (type : MetricType) (all : List HandedLabel) (Refused : E → Type 0) (read : Result L E) → MatchResult read (λ ls. LabelsClean type [] all × (items ls ≡ all_written all)) Refused → IfOk read (λ ls. AreLabels (items ls))
+AreLabels-read items type all Refused (Ok ls) h = subst AreLabels (sym h.1) (AreLabels-written type all h.0)
+AreLabels-read items type all Refused (Err e) h = tt

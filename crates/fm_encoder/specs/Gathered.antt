@@ -1,0 +1,63 @@
+-- What encoders have gathered so far, and what they have refused.
+use Rattle.std.specs.Prelude.{◌≡◌, List, Option, Some, None, Result, Ok, Err, ◌⊎◌}
+use Rattle.fm_grammar.specs.declared.MetricType.{MetricType}
+use Rattle.fm_grammar.specs.Exposition.{Label, Value, Exemplar, Sample}
+use Rattle.fm_text.specs.declared.error.EncodeError.{EncodeError}
+use Rattle.fm_text.specs.declared.error.EncodeError.TheVariants.{Memory, MetricFault}
+use Rattle.fm_encoder.specs.Labels.{HandedLabel}
+use Rattle.fm_encoder.specs.Points.{Setting, Context}
+
+-- a label encoder: the labels before, and the pieces of the label under way
+pub record GatheredPieces : Type 0 where
+  pub metric_type : MetricType
+  pub labels : List Label
+  pub pieces : HandedLabel
+  pub refused : Option EncodeError
+
+-- a label set encoder
+pub record GatheredLabels : Type 0 where
+  pub metric_type : MetricType
+  pub labels : List Label
+  pub refused : Option EncodeError
+
+-- a value encoder
+pub record GatheredNumbers : Type 0 where
+  pub numbers : List Value
+  pub refused : Option EncodeError
+
+-- an exemplar encoder
+pub record GatheredExemplars : Type 0 where
+  pub exemplars : List Exemplar
+  pub refused : Option EncodeError
+
+-- a point encoder; a refusal of the common labels waits in `deferred` for the next point
+pub record GatheredPoints : Type 0 where
+  pub setting : Setting
+  pub common : List Label
+  pub deferred : Option EncodeError
+  pub samples : List Sample
+  pub refused : Option EncodeError
+
+-- a metric encoder
+pub record GatheredMembers : Type 0 where
+  pub context : Context
+  pub samples : List Sample
+  pub refused : Option EncodeError
+
+-- what an encoder's own call answers: the first refusal, for good
+abbrev pub answer : Option EncodeError → Result (Unit {0}) EncodeError
+answer None = Ok tt
+answer (Some k) = Err k
+
+-- the refusal that an encoder makes of an error that what it visited answered of itself
+abbrev pub own_refusal : EncodeError → EncodeError
+own_refusal Memory = Memory
+own_refusal _ = MetricFault
+
+-- an encoder refused so: for want of memory, or since what it visited may answer errors of its own
+abbrev pub OwnRefusal : Type 0 → EncodeError → Type 0
+OwnRefusal MayFault k = (k ≡ Memory) ⊎ ((k ≡ MetricFault) × MayFault)
+
+-- an error of what was visited, where nothing was refused
+abbrev pub OwnError : Type 0 → EncodeError → Type 0
+OwnError MayFault e = (e ≡ Memory) ⊎ MayFault

@@ -1,0 +1,103 @@
+-- What is promised of those that write to encoders. Each record says: an encoder that had refused is as it was. Where
+-- nothing is refused, `Ok` means that the parts were handed over whole and are clean, and an error is want of memory or
+-- one that was declared. What is refused is want of memory, a declared error, or a fault that stands in the parts.
+-- Of the answer nothing is said once something is refused: a metric may lie, and breaks no document.
+use Rattle.std.specs.Prelude.{◌≡◌, ◌≤◌, List, [], ◌∷◌, ◌++◌, map, length, Option, Some, None, Result, Ok, Err, ◌⊎◌}
+use Rattle.std.specs.List.{flat_map}
+use Rattle.fm_grammar.specs.Exposition.{Value, Sample}
+use Rattle.fm_text.specs.declared.error.EncodeError.{EncodeError}
+use Rattle.fm_text.specs.declared.error.EncodeError.TheVariants.{Memory, ValueTwice, KindMismatch}
+use Rattle.fm_encoder.specs.Labels.{HandedLabel, PieceFault, LabelsFault, LabelsClean, all_written}
+use Rattle.fm_encoder.specs.Points.{HandedExemplar, ExemplarClean, ExemplarFault, written_as, Point, type_of, PointClean, PartsFault, point_samples, Member, MembersClean, MembersFault, members_samples}
+use Rattle.fm_encoder.specs.Gathered.{GatheredPieces, GatheredLabels, GatheredNumbers, GatheredExemplars, GatheredPoints, GatheredMembers, OwnRefusal, OwnError}
+
+-- of what hands these pieces of a label to a label encoder
+pub record HandsPieces (pieces : HandedLabel) (MayFault : Type 0) (old new : GatheredPieces) (result : Result (Unit {0}) EncodeError) : Type 0 where
+  pub type_kept : new.metric_type ≡ old.metric_type
+  pub labels_kept : new.labels ≡ old.labels
+  pub kept : (k : EncodeError) → old.refused ≡ Some k → new ≡ old
+  pub handed : old.refused ≡ None → new.refused ≡ None → result ≡ Ok tt → new.pieces ≡ old.pieces ++ pieces
+  pub own : (e : EncodeError) → new.refused ≡ None → result ≡ Err e → OwnError MayFault e
+  pub refused : (k : EncodeError) → old.refused ≡ None → new.refused ≡ Some k → (k ≡ Memory) ⊎ PieceFault k old.metric_type old.labels (old.pieces ++ pieces)
+
+-- of what hands these labels to a label set encoder
+pub record HandsLabels (labels : List HandedLabel) (MayFault : Type 0) (old new : GatheredLabels) (result : Result (Unit {0}) EncodeError) : Type 0 where
+  pub type_kept : new.metric_type ≡ old.metric_type
+  pub kept : (k : EncodeError) → old.refused ≡ Some k → new ≡ old
+  pub clean : old.refused ≡ None → new.refused ≡ None → result ≡ Ok tt → LabelsClean old.metric_type old.labels labels
+  pub handed : old.refused ≡ None → new.refused ≡ None → result ≡ Ok tt → new.labels ≡ old.labels ++ all_written labels
+  pub own : (e : EncodeError) → new.refused ≡ None → result ≡ Err e → OwnError MayFault e
+  pub refused : (k : EncodeError) → old.refused ≡ None → new.refused ≡ Some k → OwnRefusal MayFault k ⊎ LabelsFault k old.metric_type old.labels labels
+
+-- of what hands these numbers to a value encoder
+pub record HandsNumbers (numbers : List Value) (MayFault : Type 0) (old new : GatheredNumbers) (result : Result (Unit {0}) EncodeError) : Type 0 where
+  pub kept : (k : EncodeError) → old.refused ≡ Some k → new ≡ old
+  pub handed : old.refused ≡ None → new.refused ≡ None → result ≡ Ok tt → new.numbers ≡ old.numbers ++ numbers
+  pub own : (e : EncodeError) → new.refused ≡ None → result ≡ Err e → OwnError MayFault e
+  pub refused : (k : EncodeError) → old.refused ≡ None → new.refused ≡ Some k → (k ≡ ValueTwice) × (2 ≤ length (old.numbers ++ numbers))
+
+-- of what hands these exemplars to an exemplar encoder that has none
+pub record HandsExemplars (exemplars : List HandedExemplar) (MayFault : Type 0) (old new : GatheredExemplars) (result : Result (Unit {0}) EncodeError) : Type 0 where
+  pub kept : (k : EncodeError) → old.refused ≡ Some k → new ≡ old
+  pub clean : old.refused ≡ None → new.refused ≡ None → result ≡ Ok tt → old.exemplars ≡ [] → ExemplarClean exemplars
+  pub handed : old.refused ≡ None → new.refused ≡ None → result ≡ Ok tt → new.exemplars ≡ old.exemplars ++ map written_as exemplars
+  pub own : (e : EncodeError) → new.refused ≡ None → result ≡ Err e → OwnError MayFault e
+  pub refused : (k : EncodeError) → old.refused ≡ None → old.exemplars ≡ [] → new.refused ≡ Some k → OwnRefusal MayFault k ⊎ ExemplarFault k exemplars
+
+-- points under the common labels of one member
+abbrev pub PointsClean : GatheredPoints → List Point → Type 0
+PointsClean g [] = Unit {0}
+PointsClean g (point ∷ points) = (g.deferred ≡ None) × PointClean g.setting g.common point × PointsClean g points
+
+-- the fault stands in a point: in its type, in the common labels, or, where these are clean, in its parts
+abbrev pub PointFaultHere : EncodeError → GatheredPoints → Point → Type 0
+PointFaultHere k g point =
+    ((k ≡ KindMismatch) × (¬ (type_of point ≡ g.setting.metric_type)))
+    ⊎ ((g.deferred ≡ Some k) ⊎ ((g.deferred ≡ None) × PartsFault k g.setting g.common point))
+
+abbrev pub PointsFault : EncodeError → GatheredPoints → List Point → Type 0
+PointsFault k g [] = ⊥
+PointsFault k g (point ∷ points) = PointFaultHere k g point ⊎ PointsFault k g points
+
+abbrev pub points_samples : GatheredPoints → List Point → List Sample
+points_samples g = flat_map (point_samples g.setting g.common)
+
+-- the same but for the samples and the refusal
+pub record SamePlace (old new : GatheredPoints) : Type 0 where
+  pub setting : new.setting ≡ old.setting
+  pub common : new.common ≡ old.common
+  pub deferred : new.deferred ≡ old.deferred
+
+-- of what hands over points to a point encoder: some list of points that it admits
+pub record HandsPoints (Admitted : List Point → Type 0) (MayFault : Type 0) (old new : GatheredPoints) (result : Result (Unit {0}) EncodeError) : Type 0 where
+  pub place : SamePlace old new
+  pub kept : (k : EncodeError) → old.refused ≡ Some k → new ≡ old
+  pub handed : old.refused ≡ None → new.refused ≡ None → result ≡ Ok tt → (points : List Point) × Admitted points × PointsClean old points × (new.samples ≡ old.samples ++ points_samples old points)
+  pub own : (e : EncodeError) → new.refused ≡ None → result ≡ Err e → OwnError MayFault e
+  pub refused : (k : EncodeError) → old.refused ≡ None → new.refused ≡ Some k → OwnRefusal MayFault k ⊎ ((points : List Point) × Admitted points × PointsFault k old points)
+
+-- of what offers members to a metric encoder: some list of members that it admits
+pub record HandsMembers (Admitted : List Member → Type 0) (MayFault : Type 0) (old new : GatheredMembers) (result : Result (Unit {0}) EncodeError) : Type 0 where
+  pub context : new.context ≡ old.context
+  pub kept : (k : EncodeError) → old.refused ≡ Some k → new ≡ old
+  pub handed : old.refused ≡ None → new.refused ≡ None → result ≡ Ok tt → (members : List Member) × Admitted members × MembersClean old.context members × (new.samples ≡ old.samples ++ members_samples old.context members)
+  pub own : (e : EncodeError) → new.refused ≡ None → result ≡ Err e → OwnError MayFault e
+  pub refused : (k : EncodeError) → old.refused ≡ None → new.refused ≡ Some k → OwnRefusal MayFault k ⊎ ((members : List Member) × Admitted members × MembersFault k old.context members)
+
+-- the members of these points under the same labels
+abbrev pub members_of : List HandedLabel → List Point → List Member
+members_of ls = map (λ p. record { labels = ls; point = p })
+
+-- the members of some list of points that is admitted
+abbrev pub MembersOf : List HandedLabel → (List Point → Type 0) → List Member → Type 0
+MembersOf labels Admitted members = (points : List Point) × Admitted points × (members ≡ members_of labels points)
+
+-- the members of these pairs of a label set and what hands over points, in order
+abbrev pub OffersOf : {S M : Type 0} → (S → List HandedLabel) → (M → List Point → Type 0) → List (S × M) → List Member → Type 0
+OffersOf labels Points [] members = members ≡ []
+OffersOf labels Points (pair ∷ pairs) members =
+    (own : List Member) × (rest : List Member) × MembersOf (labels pair.0) (Points pair.1) own × OffersOf labels Points pairs rest × (members ≡ own ++ rest)
+
+-- members of one list, and then of another
+abbrev pub Joined : (List Member → Type 0) → (List Member → Type 0) → List Member → Type 0
+Joined First Second members = (xs : List Member) × (ys : List Member) × First xs × Second ys × (members ≡ xs ++ ys)

@@ -1,0 +1,9 @@
+pub use Rattle.fm_grammar.specs.Exposition
+pub use Rattle.fm_grammar.specs.WellFormed
+pub mod Labels
+pub mod Points
+pub mod Gathered
+pub mod Hands
+pub mod Steps
+pub mod Offers
+pub mod Gathering

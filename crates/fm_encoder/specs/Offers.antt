@@ -1,0 +1,27 @@
+-- What a metric admits, as samples under its registration, and which fault stands in it.
+use Rattle.std.specs.Prelude.{◌≡◌, ℕ, List, Option, ◌⊎◌}
+use Rattle.fm_grammar.specs.Exposition.{Sample}
+use Rattle.fm_grammar.specs.declared.MetricType.{MetricType}
+use Rattle.fm_grammar.specs.Exposition.{Text, Label}
+use Rattle.fm_text.specs.declared.error.EncodeError.{EncodeError}
+use Rattle.fm_text.specs.declared.error.EncodeError.TheVariants.{MetricFault}
+use Rattle.fm_encoder.specs.Points.{Member, Context, MembersClean, MembersFault, members_samples}
+
+-- the context of a family's members: its printed name, type, constant labels and timestamp
+abbrev pub context_at : Text → MetricType → List Label → Option ℕ → Context
+context_at n type labels stamp = record { setting = record { name = n; metric_type = type; time = stamp }; constants = labels }
+
+-- the samples are those of a clean offer that the metric admits, under a timestamp that it admits
+pub record AdmitsSamples (Offers : List Member → Type 0) (Stamps : Option ℕ → Type 0) (name : Text) (type : MetricType) (constants : List Label) (samples : List Sample) : Type 0 where
+  pub members : List Member
+  pub stamp : Option ℕ
+  pub offered : Offers members
+  pub stamped : Stamps stamp
+  pub clean : MembersClean (context_at name type constants stamp) members
+  pub are : samples ≡ members_samples (context_at name type constants stamp) members
+
+-- The fault stands in an offer that the metric admits, or the metric declares that it may answer an error of its own.
+abbrev pub MetricHasFault : EncodeError → (List Member → Type 0) → (Option ℕ → Type 0) → Type 0 → Text → MetricType → List Label → Type 0
+MetricHasFault k Offers Stamps MayFault name type constants =
+    ((k ≡ MetricFault) × MayFault)
+    ⊎ ((members : List Member) × (stamp : Option ℕ) × Offers members × Stamps stamp × MembersFault k (context_at name type constants stamp) members)

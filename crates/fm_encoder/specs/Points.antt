@@ -1,0 +1,175 @@
+-- Points and members as they are handed over, when they are clean, which fault stands in them, and their samples.
+use Rattle.std.specs.Prelude.{◌≡◌, ◌≤◌, ◌<◌, ◌/◌, ℕ, ℤ, pos, Bool, List, [], ◌∷◌, ◌++◌, map, length, Contains, Option, Some, None, ◌⊎◌, if◌then◌else◌}
+use Rattle.std.specs.List.{flat_map}
+use Rattle.std.specs.Duration.{as_nanos}
+use Rattle.std.specs.declared.time.Duration.{Duration}
+use Rattle.fm_grammar.specs.declared.MetricType.{MetricType}
+use Rattle.fm_grammar.specs.declared.MetricType.TheVariants.{Unknown, Gauge, Counter, StateSet, Info as InfoType}
+use Rattle.fm_grammar.specs.declared.SampleKind.{SampleKind}
+use Rattle.fm_grammar.specs.declared.SampleKind.TheVariants.{Plain, Total, Created, Info}
+use Rattle.fm_grammar.specs.Exposition.{Text, Label, Value, Whole, Millis, Exemplar, Sample}
+use Rattle.fm_grammar.specs.WellFormed.{label_code_points}
+use Rattle.fm_text.specs.declared.error.EncodeError.{EncodeError}
+use Rattle.fm_text.specs.declared.error.EncodeError.TheVariants.{DuplicateLabel, KindMismatch, MissingValue, ValueTwice, ExemplarTwice, ExemplarTooLong}
+use Rattle.fm_encoder.specs.Labels.{HandedLabel, LabelsFault, LabelsClean, all_written, handed_again, label_names}
+
+-- the whole milliseconds of a duration
+abbrev pub millis : Duration → ℕ
+millis duration = as_nanos duration / 1000000
+
+-- an exemplar as it is handed over; its value is in millionths, its time in milliseconds
+pub record HandedExemplar : Type 0 where
+  pub labels : List HandedLabel
+  pub value : ℤ
+  pub time : Option ℕ
+
+-- A point as it is handed over. A value is the list of the numbers that its object wrote, an exemplar the list of the
+-- exemplars that its object wrote, a time of creation is in milliseconds.
+pub data Point : Type 0 where
+  UnknownPoint : List Value → Point
+  GaugePoint : List Value → Point
+  CounterPoint : List Value → List HandedExemplar → Option ℕ → Point
+  StateSetPoint : List (Text × Bool) → Point
+  InfoPoint : List HandedLabel → Point
+
+-- a member: its labels, each as its pieces, and its point
+pub record Member : Type 0 where
+  pub labels : List HandedLabel
+  pub point : Point
+
+-- what the points of a metric are written under: the family's printed name, its type, and its timestamp in milliseconds
+pub record Setting : Type 0 where
+  pub name : Text
+  pub metric_type : MetricType
+  pub time : Option ℕ
+
+-- what the members of a metric are written under: the same, and the constant labels
+pub record Context : Type 0 where
+  pub setting : Setting
+  pub constants : List Label
+
+-- the type that a point belongs to
+abbrev pub type_of : Point → MetricType
+type_of (UnknownPoint numbers) = Unknown
+type_of (GaugePoint numbers) = Gauge
+type_of (CounterPoint numbers exemplars created) = Counter
+type_of (StateSetPoint states) = StateSet
+type_of (InfoPoint labels) = InfoType
+
+-- a value object wrote just one number
+abbrev pub NumberClean : List Value → Type 0
+NumberClean numbers = (number : Value) × (numbers ≡ number ∷ [])
+
+abbrev pub NumberFault : EncodeError → List Value → Type 0
+NumberFault MissingValue numbers = numbers ≡ []
+NumberFault ValueTwice numbers = 2 ≤ length numbers
+NumberFault _ numbers = ⊥
+
+-- An exemplar object wrote nothing, or one exemplar with clean labels of at most 128 code points. Exemplar labels have no
+-- reserved names, as those of an unknown metric have none.
+abbrev pub ExemplarClean : List HandedExemplar → Type 0
+ExemplarClean exemplars =
+    (exemplars ≡ []) ⊎ ((exemplar : HandedExemplar) × (exemplars ≡ exemplar ∷ []) × LabelsClean Unknown [] exemplar.labels
+    × (label_code_points (all_written exemplar.labels) ≤ 128))
+
+abbrev pub ExemplarFault : EncodeError → List HandedExemplar → Type 0
+ExemplarFault k exemplars =
+    ((k ≡ ExemplarTwice) × (2 ≤ length exemplars))
+    ⊎ ((exemplar : HandedExemplar) × Contains exemplars exemplar
+    × (LabelsFault k Unknown [] exemplar.labels ⊎ ((k ≡ ExemplarTooLong) × (128 < label_code_points (all_written exemplar.labels)))))
+
+-- what stands in a point of its family's type, under these common labels
+abbrev pub PartsClean : Setting → List Label → Point → Type 0
+PartsClean setting common (UnknownPoint numbers) = NumberClean numbers
+PartsClean setting common (GaugePoint numbers) = NumberClean numbers
+PartsClean setting common (CounterPoint numbers exemplars created) = NumberClean numbers × ExemplarClean exemplars
+PartsClean setting common (StateSetPoint states) = (states ≡ []) ⊎ (¬ (Contains (label_names common) setting.name))
+PartsClean setting common (InfoPoint labels) = LabelsClean setting.metric_type common labels
+
+abbrev pub PartsFault : EncodeError → Setting → List Label → Point → Type 0
+PartsFault k setting common (UnknownPoint numbers) = NumberFault k numbers
+PartsFault k setting common (GaugePoint numbers) = NumberFault k numbers
+PartsFault k setting common (CounterPoint numbers exemplars created) = NumberFault k numbers ⊎ ExemplarFault k exemplars
+PartsFault k setting common (StateSetPoint states) = (k ≡ DuplicateLabel) × (¬ (states ≡ [])) × Contains (label_names common) setting.name
+PartsFault k setting common (InfoPoint labels) = LabelsFault k setting.metric_type common labels
+
+-- the point has its family's type, and its parts are clean
+pub record PointClean (setting : Setting) (common : List Label) (point : Point) : Type 0 where
+  pub type : type_of point ≡ setting.metric_type
+  pub parts : PartsClean setting common point
+
+-- the fault stands in the point
+abbrev pub PointFault : EncodeError → Setting → List Label → Point → Type 0
+PointFault k setting common point =
+    ((k ≡ KindMismatch) × (¬ (type_of point ≡ setting.metric_type))) ⊎ PartsFault k setting common point
+
+-- a sample without exemplar, whose own labels come after the common ones
+abbrev pub plain_sample : Setting → List Label → SampleKind → List Label → Value → Sample
+plain_sample setting common k own v = record { kind = k; labels = common ++ own; value = v; time = setting.time; exemplar = None }
+
+-- an exemplar as it stands on a sample
+abbrev pub written_as : HandedExemplar → Exemplar
+written_as handed = record { labels = all_written handed.labels; value = handed.value; time = handed.time }
+
+-- the exemplar that stands on a sample
+abbrev pub written_exemplar : List HandedExemplar → Option Exemplar
+written_exemplar [] = None
+written_exemplar (handed ∷ more) = Some (written_as handed)
+
+-- a `Created` sample, where there is one
+abbrev pub created_samples : Setting → List Label → Option ℕ → List Sample
+created_samples setting common None = []
+created_samples setting common (Some t) = plain_sample setting common Created [] (Millis t) ∷ []
+
+abbrev pub total_sample : Setting → List Label → List HandedExemplar → Value → Sample
+total_sample setting common exemplars number = record (plain_sample setting common Total [] number) { exemplar = written_exemplar exemplars }
+
+-- 1 for a state that is on, else 0
+abbrev pub state_value : Bool → Value
+state_value is_on = Whole (pos (if is_on then 1 else 0))
+
+abbrev pub state_sample : Setting → List Label → Text × Bool → Sample
+state_sample setting common state = plain_sample setting common Plain (record { name = setting.name; value = state.0 } ∷ []) (state_value state.1)
+
+-- the samples of a clean point under these common labels, in order
+abbrev pub point_samples : Setting → List Label → Point → List Sample
+point_samples setting common (UnknownPoint numbers) = map (plain_sample setting common Plain []) numbers
+point_samples setting common (GaugePoint numbers) = map (plain_sample setting common Plain []) numbers
+point_samples setting common (CounterPoint numbers exemplars created) =
+    map (total_sample setting common exemplars) numbers ++ created_samples setting common created
+point_samples setting common (StateSetPoint states) = map (state_sample setting common) states
+point_samples setting common (InfoPoint labels) = plain_sample setting common Info (all_written labels) (Whole (pos 1)) ∷ []
+
+-- the labels that stand first in each sample of a member: the constant ones, and then the member's
+abbrev pub common_handed : Context → Member → List HandedLabel
+common_handed context member = handed_again context.constants ++ member.labels
+
+abbrev pub common_written : Context → Member → List Label
+common_written context member = all_written (common_handed context member)
+
+abbrev pub MemberClean : Context → Member → Type 0
+MemberClean context member =
+    LabelsClean context.setting.metric_type [] (common_handed context member)
+    × PointClean context.setting (common_written context member) member.point
+
+-- the fault stands in the member
+abbrev pub MemberFault : EncodeError → Context → Member → Type 0
+MemberFault k context member =
+    LabelsFault k context.setting.metric_type [] (common_handed context member)
+    ⊎ PointFault k context.setting (common_written context member) member.point
+
+abbrev pub MembersClean : Context → List Member → Type 0
+MembersClean context [] = Unit {0}
+MembersClean context (member ∷ members) = MemberClean context member × MembersClean context members
+
+-- the fault stands in one of the members
+abbrev pub MembersFault : EncodeError → Context → List Member → Type 0
+MembersFault k context [] = ⊥
+MembersFault k context (member ∷ members) = MemberFault k context member ⊎ MembersFault k context members
+
+abbrev pub member_samples : Context → Member → List Sample
+member_samples context member = point_samples context.setting (common_written context member) member.point
+
+-- the samples of a clean offer, member by member
+abbrev pub members_samples : Context → List Member → List Sample
+members_samples context = flat_map (member_samples context)

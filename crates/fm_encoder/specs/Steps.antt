@@ -1,0 +1,75 @@
+-- What the encoders' own steps do.
+use Rattle.std.specs.Prelude.{◌≡◌, ◌≤◌, List, [], ◌∷◌, ◌++◌, length, Option, Some, None, Result, Ok, Err, ◌⊎◌, Contains, IfSome}
+use Rattle.fm_grammar.specs.declared.MetricType.{MetricType}
+use Rattle.fm_grammar.specs.declared.SampleKind.{SampleKind}
+use Rattle.fm_grammar.specs.Exposition.{Value, Whole, Fixed, Millis, Exemplar, Sample}
+use Rattle.fm_grammar.specs.WellFormed.{ValueFits, ValueSuits, kinds_of, ExemplarAllowed, IsExemplar}
+use Rattle.fm_text.specs.declared.error.EncodeError.{EncodeError}
+use Rattle.fm_text.specs.declared.error.EncodeError.TheVariants.{Memory, MalformedLabel, ValueTwice, MissingValue, KindMismatch}
+use Rattle.fm_encoder.specs.Labels.{HandedLabel, LabelsFault, LabelsClean, LabelClean, IsMalformed, written, all_written}
+use Rattle.fm_encoder.specs.Gathered.{GatheredPieces, GatheredPoints, own_refusal, OwnRefusal}
+use Rattle.fm_encoder.specs.Hands.{SamePlace}
+
+-- The end of a label, where what was visited had answered `visited`: a whole label is written, an own error is
+-- refused, and so is a malformed label.
+pub record EndsLabel (visited : Result (Unit {0}) EncodeError) (old new : GatheredPieces) : Type 0 where
+  pub type_kept : new.metric_type ≡ old.metric_type
+  pub kept : (k : EncodeError) → old.refused ≡ Some k → new ≡ old
+  pub visited_ok : old.refused ≡ None → new.refused ≡ None → visited ≡ Ok tt
+  pub pieces : old.refused ≡ None → new.refused ≡ None → new.pieces ≡ []
+  pub clean : old.refused ≡ None → new.refused ≡ None → LabelClean old.metric_type old.labels old.pieces
+  pub labels : old.refused ≡ None → new.refused ≡ None → new.labels ≡ old.labels ++ written old.pieces
+  pub own : (e : EncodeError) → old.refused ≡ None → visited ≡ Err e → new.refused ≡ Some (own_refusal e)
+  pub refused : (k : EncodeError) → old.refused ≡ None → visited ≡ Ok tt → new.refused ≡ Some k → (k ≡ Memory) ⊎ ((k ≡ MalformedLabel) × IsMalformed old.pieces)
+
+-- why a value is refused whose object hands over these numbers
+abbrev pub NumberRefusal : List Value → Type 0 → EncodeError → Type 0
+NumberRefusal numbers MayFault k =
+    OwnRefusal MayFault k ⊎ (((k ≡ ValueTwice) × (2 ≤ length numbers)) ⊎ ((k ≡ MissingValue) × (numbers ≡ [])))
+
+-- a value that a metric may hand over: a whole number or millionths within their range
+abbrev pub IsNumber : Value → Type 0
+IsNumber (Whole z) = ValueFits (Whole z)
+IsNumber (Fixed z) = ValueFits (Fixed z)
+IsNumber (Millis t) = ⊥
+
+-- the parts of a sample that its family's type rules
+pub record FitsType (type : MetricType) (k : SampleKind) (v : Value) (e : Option Exemplar) : Type 0 where
+  pub kind : Contains (kinds_of type) k
+  pub suits : ValueSuits k v
+  pub value : ValueFits v
+  pub allowed : ExemplarAllowed k e
+  pub exemplar : IfSome e IsExemplar
+
+-- the tests of a point's type, and of whether its common labels were refused
+pub record BeginsPoint (type : MetricType) (old new : GatheredPoints) : Type 0 where
+  pub place : SamePlace old new
+  pub samples : new.samples ≡ old.samples
+  pub kept : (k : EncodeError) → old.refused ≡ Some k → new ≡ old
+  pub same_type : new.refused ≡ None → type ≡ old.setting.metric_type
+  pub no_deferred : new.refused ≡ None → old.deferred ≡ None
+  pub refused : (k : EncodeError) → old.refused ≡ None → new.refused ≡ Some k → ((k ≡ KindMismatch) × (¬ (type ≡ old.setting.metric_type))) ⊎ (old.deferred ≡ Some k)
+
+-- one sample more, or want of memory
+pub record PushesSample (sample : Sample) (old new : GatheredPoints) : Type 0 where
+  pub place : SamePlace old new
+  pub samples : new.refused ≡ None → new.samples ≡ old.samples ++ sample ∷ []
+  pub refused : (k : EncodeError) → new.refused ≡ Some k → k ≡ Memory
+
+-- The labels of the next points are read: they are clean and written out, or their refusal waits.
+pub record BeginsMember (labels : List HandedLabel) (MayFault : Type 0) (old new : GatheredPoints) : Type 0 where
+  pub setting : new.setting ≡ old.setting
+  pub samples : new.samples ≡ old.samples
+  pub refused : new.refused ≡ old.refused
+  pub clean : new.deferred ≡ None → LabelsClean old.setting.metric_type [] labels
+  pub common : new.deferred ≡ None → new.common ≡ all_written labels
+  pub deferred : (k : EncodeError) → new.deferred ≡ Some k → OwnRefusal MayFault k ⊎ LabelsFault k old.setting.metric_type [] labels
+
+-- The end of a member, where the point had answered `visited`: an own error is refused.
+pub record EndsPoints (visited : Result (Unit {0}) EncodeError) (old new : GatheredPoints) : Type 0 where
+  pub place : SamePlace old new
+  pub samples : new.samples ≡ old.samples
+  pub kept : (k : EncodeError) → old.refused ≡ Some k → new ≡ old
+  pub visited_ok : old.refused ≡ None → new.refused ≡ None → visited ≡ Ok tt
+  pub own : (e : EncodeError) → old.refused ≡ None → visited ≡ Err e → new.refused ≡ Some (own_refusal e)
+  pub ok : old.refused ≡ None → visited ≡ Ok tt → new.refused ≡ None

@@ -1,0 +1,269 @@
+//! Labels: what hands them over, and the encoders that gather them.
+ghost use Rattle.std.specs.Prelude.{◌≡◌, ◌↔◌, IsTrue, IfOk, ℕ, List, [], ◌∷◌, ◌++◌, Bool, ◌⊎◌, Some, None, Ok, Err, string_bytes, MatchResult};
+ghost use Rattle.fm_text.specs.declared.error.EncodeError.{EncodeError};
+ghost use Rattle.fm_text.specs.Samples.{labels_of, label_of};
+ghost use Rattle.fm_encoder.specs.Labels.{HandedLabel, NamePiece, ValuePiece};
+ghost use Rattle.fm_encoder.specs.Gathered.{GatheredPieces, GatheredLabels, answer, own_refusal};
+ghost use Rattle.fm_encoder.specs.Hands.{HandsPieces, HandsLabels};
+ghost use Rattle.fm_encoder.specs.Steps.{EndsLabel};
+
+use crate::names::{has_name, is_reserved};
+use crate::own::own_refusal;
+use fm_grammar::MetricType;
+use fm_raw::name::is_label_name;
+use fm_text::EncodeError;
+use std::alloc::Global;
+use std::marker::Model;
+
+/// Something that hands over the name of a label.
+pub trait EncodeLabelName {
+    /// The pieces that `encode` hands over, mostly one name.
+    ghost pieces: { Self → HandedLabel };
+
+    /// `encode` may answer an error of its own other than `Memory`.
+    ghost may_fault: { Self → Type 0 } = { λ _. ⊥ };
+
+    /// Hands the name to the encoder, by `encode_label_name`.
+    fn encode(&self, encoder: &mut LabelEncoder) -> Result<(), EncodeError>
+        ensures { HandsPieces (pieces self.now) (may_fault self.now) encoder.old encoder.new result };
+}
+
+/// Something that hands over the value of a label.
+pub trait EncodeLabelValue {
+    /// The pieces that `encode` hands over, mostly one value.
+    ghost pieces: { Self → HandedLabel };
+
+    /// `encode` may answer an error of its own other than `Memory`.
+    ghost may_fault: { Self → Type 0 } = { λ _. ⊥ };
+
+    /// A label with this value is left out.
+    ghost is_skipped: { Self → Bool };
+
+    /// Hands the value to the encoder, by one of its value calls.
+    fn encode(&self, encoder: &mut LabelEncoder) -> Result<(), EncodeError>
+        ensures { HandsPieces (pieces self.now) (may_fault self.now) encoder.old encoder.new result };
+
+    /// Whether a label with this value is left out: `false` for most values.
+    fn skip_encoding(&self) -> bool
+        ensures { result ≡ is_skipped self.now };
+}
+
+/// Something that hands over a label.
+pub trait EncodeLabel {
+    /// The pieces that `encode` hands over: a name and a value, or nothing for a label that is left out.
+    ghost pieces: { Self → HandedLabel };
+
+    /// `encode` may answer an error of its own other than `Memory`.
+    ghost may_fault: { Self → Type 0 } = { λ _. ⊥ };
+
+    /// Hands the label to the encoder.
+    fn encode(&self, encoder: &mut LabelEncoder) -> Result<(), EncodeError>
+        ensures { HandsPieces (pieces self.now) (may_fault self.now) encoder.old encoder.new result };
+}
+
+/// Gathers the pieces of one label behind the labels before it.
+#[derive(Drop)]
+pub struct LabelEncoder {
+    alloc: Global,
+    metric_type: MetricType,
+    labels: Vec<(String, String)>,
+    name: Option<String>,
+    value: Option<String>,
+    refused: Option<EncodeError>,
+}
+
+impl Model for LabelEncoder {
+    ghost use Rattle.std.specs.Prelude.{◌≡◌, string_bytes, ℕ, List, Some};
+    ghost use Rattle.std.specs.Option.{option_map};
+    ghost use Rattle.fm_text.specs.Samples.{labels_of};
+    ghost use Rattle.fm_encoder.specs.Labels.{NameFits, pieces_of};
+    ghost use Rattle.fm_encoder.specs.Gathered.{GatheredPieces};
+
+    ghost Value = { GatheredPieces };
+
+    ghost view = { λ e. record {
+      metric_type = e.metric_type;
+      labels = labels_of e.labels.items;
+      pieces = pieces_of (option_map (λ s. string_bytes s) e.name) (option_map (λ s. string_bytes s) e.value);
+      refused = e.refused;
+    } };
+
+    ghost invariant = { λ e. (n : List ℕ) → option_map (λ s. string_bytes s) e.name ≡ Some n
+        → NameFits e.metric_type (labels_of e.labels.items) n };
+}
+
+impl LabelEncoder {
+    pub(crate) fn new(alloc: Global, metric_type: MetricType) -> LabelEncoder
+        ensures { result ≡ record { metric_type = metric_type; labels = []; pieces = []; refused = None } }
+    {
+        LabelEncoder {
+            alloc,
+            metric_type,
+            labels: Vec::new(alloc),
+            name: None,
+            value: None,
+            refused: None,
+        }
+    }
+
+    fn refuse(&mut self, error: EncodeError) -> Result<(), EncodeError>
+        ensures refused { self.new ≡ record self.old { refused = Some error } }
+        ensures answered { result ≡ Err error }
+    {
+        self.refused = Some(error);
+        Err(error)
+    }
+
+    /// Takes the label's name. It is refused, in this order, as `MalformedLabel` behind another piece, as
+    /// `InvalidLabelName` where it is no label name, as `ReservedLabel` where the metric's type keeps it for itself,
+    /// and as `DuplicateLabel` where a label before has it. It may find no memory.
+    pub fn encode_label_name(&mut self, name: &str) -> Result<(), EncodeError>
+        ensures handed { HandsPieces (NamePiece name.now ∷ []) ⊥ self.old self.new result }
+        ensures answered { result ≡ answer self.new.refused }
+    {
+        if let Some(error) = self.refused {
+            return Err(error);
+        }
+        if self.name.is_some() || self.value.is_some() {
+            return self.refuse(EncodeError::MalformedLabel);
+        }
+        if !is_label_name(name) {
+            return self.refuse(EncodeError::InvalidLabelName);
+        }
+        if is_reserved(self.metric_type, name) {
+            return self.refuse(EncodeError::ReservedLabel);
+        }
+        if has_name(self.labels.as_slice(), name) {
+            return self.refuse(EncodeError::DuplicateLabel);
+        }
+        match String::from_str(self.alloc, name) {
+            Ok(text) => {
+                self.name = Some(text);
+                Ok(())
+            }
+            Err(_) => self.refuse(EncodeError::Memory),
+        }
+    }
+
+    /// Takes the label's value as it is. It is refused as `MalformedLabel` before the name or behind another value,
+    /// and may find no memory.
+    pub fn encode_str_value(&mut self, value: &str) -> Result<(), EncodeError>
+        ensures handed { HandsPieces (ValuePiece value.now ∷ []) ⊥ self.old self.new result }
+        ensures answered { result ≡ answer self.new.refused }
+    {
+        if let Some(error) = self.refused {
+            return Err(error);
+        }
+        if self.name.is_none() || self.value.is_some() {
+            return self.refuse(EncodeError::MalformedLabel);
+        }
+        match String::from_str(self.alloc, value) {
+            Ok(text) => {
+                self.value = Some(text);
+                Ok(())
+            }
+            Err(_) => self.refuse(EncodeError::Memory),
+        }
+    }
+
+    // Writes a label whose name fits.
+    fn write_label(&mut self, label: (String, String)) -> Result<(), EncodeError>
+        requires fresh { self.old.pieces ≡ [] }
+        requires accepting { self.old.refused ≡ None }
+        ensures type_kept { self.new.metric_type ≡ self.old.metric_type }
+        ensures pieces { self.new.pieces ≡ [] }
+        ensures labels { self.new.refused ≡ None → self.new.labels ≡ self.old.labels ++ label_of label ∷ [] }
+        ensures refused { (k : EncodeError) → self.new.refused ≡ Some k → k ≡ EncodeError.Memory }
+        ensures answered { result ≡ answer self.new.refused }
+    {
+        if let Err(_) = self.labels.push(label) {
+            return self.refuse(EncodeError::Memory);
+        }
+        Ok(())
+    }
+
+    // Ends the label under way, where what was visited answered `visited`.
+    fn end_label(&mut self, visited: Result<(), EncodeError>) -> Result<(), EncodeError>
+        ensures ended { EndsLabel visited self.old self.new }
+        ensures answered { result ≡ answer self.new.refused }
+    {
+        if let Some(error) = self.refused {
+            return Err(error);
+        }
+        if let Err(error) = visited {
+            return self.refuse(own_refusal(error));
+        }
+        match (self.name.take(), self.value.take()) {
+            (None, None) => Ok(()),
+            (Some(name), Some(value)) => self.write_label((name, value)),
+            _ => self.refuse(EncodeError::MalformedLabel),
+        }
+    }
+
+    fn into_labels(self) -> Vec<(String, String)>
+        ensures { labels_of result.items ≡ self.labels }
+    {
+        let LabelEncoder { labels, .. } = self;
+        labels
+    }
+}
+
+/// Gathers the labels of a label set.
+#[derive(Drop)]
+pub struct LabelSetEncoder {
+    label: LabelEncoder,
+}
+
+impl Model for LabelSetEncoder {
+    ghost use Rattle.std.specs.Prelude.{◌≡◌, [], None};
+    ghost use Rattle.fm_encoder.specs.Gathered.{GatheredLabels};
+
+    ghost Value = { GatheredLabels };
+
+    ghost view = { λ e. record {
+      metric_type = e.label.metric_type;
+      labels = e.label.labels;
+      refused = e.label.refused;
+    } };
+
+    ghost invariant = { λ e. e.label.refused ≡ None → e.label.pieces ≡ [] };
+}
+
+impl LabelSetEncoder {
+    pub(crate) fn new(alloc: Global, metric_type: MetricType) -> LabelSetEncoder
+        ensures { result ≡ record { metric_type = metric_type; labels = []; refused = None } }
+    {
+        LabelSetEncoder {
+            label: LabelEncoder::new(alloc, metric_type),
+        }
+    }
+
+    /// Takes one more label. Beside the refusals of its name, a name without a value is refused as `MalformedLabel`,
+    /// and an error of the label's own as `Memory` or `MetricFault`.
+    pub fn encode<L: EncodeLabel>(&mut self, label: &L) -> Result<(), EncodeError>
+        ensures handed { HandsLabels (L.pieces label.now ∷ []) (L.may_fault label.now) self.old self.new result }
+        ensures answered { result ≡ answer self.new.refused }
+    {
+        let visited = label.encode(&mut self.label);
+        self.label.end_label(visited)
+    }
+
+    // The labels, where nothing was refused and what was visited answered `visited`.
+    pub(crate) fn end(
+        self,
+        visited: Result<(), EncodeError>,
+    ) -> Result<Vec<(String, String)>, EncodeError>
+        ensures { MatchResult result
+            (λ labels. (self.refused ≡ None) × (visited ≡ Ok tt) × (labels_of labels.items ≡ self.labels))
+            (λ k. (self.refused ≡ Some k) ⊎ ((e : EncodeError) × (self.refused ≡ None) × (visited ≡ Err e) × (k ≡ own_refusal e))) }
+    {
+        let LabelSetEncoder { label } = self;
+        if let Some(error) = label.refused {
+            return Err(error);
+        }
+        match visited {
+            Ok(()) => Ok(label.into_labels()),
+            Err(error) => Err(own_refusal(error)),
+        }
+    }
+}

@@ -1,0 +1,144 @@
+//! Names and values of labels: texts, truth values, millionths and options, and labels that are pairs of them.
+ghost use Rattle.std.specs.Prelude.{◌≡◌, [], ◌∷◌, ◌++◌, ◌⊎◌, false, true, if◌then◌else◌, MatchOption, codes, string_bytes};
+ghost use Rattle.std.specs.Option.{option_map_or};
+ghost use Rattle.fm_grammar.specs.Numbers.{fixed_text};
+ghost use Rattle.fm_encoder.specs.Labels.{NamePiece, ValuePiece};
+ghost use Rattle.fm_encoder.specs.Gathered.{answer};
+ghost use Rattle.fm_encoder.specs.Hands.{HandsPieces};
+
+use crate::label::{EncodeLabel, EncodeLabelName, EncodeLabelValue, LabelEncoder};
+use fm_raw::fixed::{Fixed, FixedBuffer, FixedSum};
+use fm_text::EncodeError;
+
+/// Lends a text as a name or a value of a label.
+#[derive(Clone, Copy, Debug)]
+pub struct LabelStr<'a>(pub &'a str);
+
+impl EncodeLabelName for LabelStr<'_> {
+    ghost pieces = { λ s. NamePiece s.0.now ∷ [] };
+
+    fn encode(&self, encoder: &mut LabelEncoder) -> Result<(), EncodeError> {
+        encoder.encode_label_name(self.0)
+    }
+}
+
+impl EncodeLabelValue for LabelStr<'_> {
+    ghost pieces = { λ s. ValuePiece s.0.now ∷ [] };
+
+    ghost is_skipped = { λ _. false };
+
+    fn encode(&self, encoder: &mut LabelEncoder) -> Result<(), EncodeError> {
+        encoder.encode_str_value(self.0)
+    }
+
+    fn skip_encoding(&self) -> bool {
+        false
+    }
+}
+
+impl EncodeLabelName for String {
+    ghost pieces = { λ s. NamePiece (string_bytes s) ∷ [] };
+
+    fn encode(&self, encoder: &mut LabelEncoder) -> Result<(), EncodeError> {
+        encoder.encode_label_name(self.as_str())
+    }
+}
+
+impl EncodeLabelValue for String {
+    ghost pieces = { λ s. ValuePiece (string_bytes s) ∷ [] };
+
+    ghost is_skipped = { λ _. false };
+
+    fn encode(&self, encoder: &mut LabelEncoder) -> Result<(), EncodeError> {
+        encoder.encode_str_value(self.as_str())
+    }
+
+    fn skip_encoding(&self) -> bool {
+        false
+    }
+}
+
+impl EncodeLabelValue for bool {
+    ghost pieces = { λ b. ValuePiece (if b then codes "true" else codes "false") ∷ [] };
+
+    ghost is_skipped = { λ _. false };
+
+    fn encode(&self, encoder: &mut LabelEncoder) -> Result<(), EncodeError> {
+        encoder.encode_bool_value(*self)
+    }
+
+    fn skip_encoding(&self) -> bool {
+        false
+    }
+}
+
+impl EncodeLabelValue for Fixed {
+    ghost pieces = { λ n. ValuePiece (fixed_text n) ∷ [] };
+
+    ghost is_skipped = { λ _. false };
+
+    fn encode(&self, encoder: &mut LabelEncoder) -> Result<(), EncodeError> {
+        encoder.encode_fixed_value(*self)
+    }
+
+    fn skip_encoding(&self) -> bool {
+        false
+    }
+}
+
+/// An option is left out where it is `None`, or where its value is left out.
+impl<T: EncodeLabelValue> EncodeLabelValue for Option<T> {
+    ghost pieces = { λ o. option_map_or T.pieces o [] };
+
+    ghost may_fault = { λ o. MatchOption o ⊥ T.may_fault };
+
+    ghost is_skipped = { λ o. option_map_or T.is_skipped o true };
+
+    fn encode(&self, encoder: &mut LabelEncoder) -> Result<(), EncodeError> {
+        match self {
+            Some(value) => value.encode(encoder),
+            None => Ok(()),
+        }
+    }
+
+    fn skip_encoding(&self) -> bool {
+        match self {
+            Some(value) => value.skip_encoding(),
+            None => true,
+        }
+    }
+}
+
+/// A label of a name and a value. It hands over nothing where the value is left out.
+impl<N: EncodeLabelName, V: EncodeLabelValue> EncodeLabel for (N, V) {
+    ghost pieces = { λ p. if V.is_skipped p.1 then [] else N.pieces p.0 ++ V.pieces p.1 };
+
+    ghost may_fault = { λ p. N.may_fault p.0 ⊎ V.may_fault p.1 };
+
+    fn encode(&self, encoder: &mut LabelEncoder) -> Result<(), EncodeError> {
+        if self.1.skip_encoding() {
+            return Ok(());
+        }
+        self.0.encode(encoder)?;
+        self.1.encode(encoder)
+    }
+}
+
+impl LabelEncoder {
+    /// Takes `true` or `false` as the label's value, as `encode_str_value` takes a text.
+    pub fn encode_bool_value(&mut self, value: bool) -> Result<(), EncodeError>
+        ensures handed { HandsPieces (ValuePiece (if value then codes "true" else codes "false") ∷ []) ⊥ self.old self.new result }
+        ensures answered { result ≡ answer self.new.refused }
+    {
+        self.encode_str_value(if value { "true" } else { "false" })
+    }
+
+    /// Takes the number with its decimal places as the label's value, as `encode_str_value` takes a text.
+    pub fn encode_fixed_value(&mut self, value: Fixed) -> Result<(), EncodeError>
+        ensures handed { HandsPieces (ValuePiece (fixed_text value) ∷ []) ⊥ self.old self.new result }
+        ensures answered { result ≡ answer self.new.refused }
+    {
+        let mut buffer = FixedBuffer::new();
+        self.encode_str_value(buffer.format(FixedSum::from(value)))
+    }
+}

@@ -1,0 +1,139 @@
+//! Names and values of labels, lent or behind a pointer.
+ghost use Rattle.std.specs.Prelude.{◌≡◌, [], ◌∷◌, false};
+ghost use Rattle.std.specs.Arc.{arc_value};
+ghost use Rattle.std.specs.Rc.{rc_value};
+
+use crate::label::{EncodeLabelName, EncodeLabelValue, LabelEncoder};
+use fm_text::EncodeError;
+use std::rc::Rc;
+use std::sync::Arc;
+
+impl<T: EncodeLabelName> EncodeLabelName for &T {
+    ghost pieces = { λ r. T.pieces r.now };
+
+    ghost may_fault = { λ r. T.may_fault r.now };
+
+    fn encode(&self, encoder: &mut LabelEncoder) -> Result<(), EncodeError> {
+        (**self).encode(encoder)
+    }
+}
+
+impl<T: EncodeLabelName> EncodeLabelName for &mut T {
+    ghost pieces = { λ r. T.pieces r.now };
+
+    ghost may_fault = { λ r. T.may_fault r.now };
+
+    fn encode(&self, encoder: &mut LabelEncoder) -> Result<(), EncodeError> {
+        (**self).encode(encoder)
+    }
+}
+
+impl<T: EncodeLabelName> EncodeLabelName for Box<T> {
+    ghost pieces = { λ b. T.pieces b.value };
+
+    ghost may_fault = { λ b. T.may_fault b.value };
+
+    fn encode(&self, encoder: &mut LabelEncoder) -> Result<(), EncodeError> {
+        (**self).encode(encoder)
+    }
+}
+
+impl<T: EncodeLabelName> EncodeLabelName for Rc<T> {
+    ghost pieces = { λ p. T.pieces (rc_value p) };
+
+    ghost may_fault = { λ p. T.may_fault (rc_value p) };
+
+    fn encode(&self, encoder: &mut LabelEncoder) -> Result<(), EncodeError> {
+        (**self).encode(encoder)
+    }
+}
+
+impl<T: EncodeLabelName> EncodeLabelName for Arc<T> {
+    ghost pieces = { λ p. T.pieces (arc_value p) };
+
+    ghost may_fault = { λ p. T.may_fault (arc_value p) };
+
+    fn encode(&self, encoder: &mut LabelEncoder) -> Result<(), EncodeError> {
+        (**self).encode(encoder)
+    }
+}
+
+impl<T: EncodeLabelValue> EncodeLabelValue for &T {
+    ghost pieces = { λ r. T.pieces r.now };
+
+    ghost may_fault = { λ r. T.may_fault r.now };
+
+    ghost is_skipped = { λ r. T.is_skipped r.now };
+
+    fn encode(&self, encoder: &mut LabelEncoder) -> Result<(), EncodeError> {
+        (**self).encode(encoder)
+    }
+
+    fn skip_encoding(&self) -> bool {
+        (**self).skip_encoding()
+    }
+}
+
+impl<T: EncodeLabelValue> EncodeLabelValue for &mut T {
+    ghost pieces = { λ r. T.pieces r.now };
+
+    ghost may_fault = { λ r. T.may_fault r.now };
+
+    ghost is_skipped = { λ r. T.is_skipped r.now };
+
+    fn encode(&self, encoder: &mut LabelEncoder) -> Result<(), EncodeError> {
+        (**self).encode(encoder)
+    }
+
+    fn skip_encoding(&self) -> bool {
+        (**self).skip_encoding()
+    }
+}
+
+impl<T: EncodeLabelValue> EncodeLabelValue for Box<T> {
+    ghost pieces = { λ b. T.pieces b.value };
+
+    ghost may_fault = { λ b. T.may_fault b.value };
+
+    ghost is_skipped = { λ b. T.is_skipped b.value };
+
+    fn encode(&self, encoder: &mut LabelEncoder) -> Result<(), EncodeError> {
+        (**self).encode(encoder)
+    }
+
+    fn skip_encoding(&self) -> bool {
+        (**self).skip_encoding()
+    }
+}
+
+impl<T: EncodeLabelValue> EncodeLabelValue for Rc<T> {
+    ghost pieces = { λ p. T.pieces (rc_value p) };
+
+    ghost may_fault = { λ p. T.may_fault (rc_value p) };
+
+    ghost is_skipped = { λ p. T.is_skipped (rc_value p) };
+
+    fn encode(&self, encoder: &mut LabelEncoder) -> Result<(), EncodeError> {
+        (**self).encode(encoder)
+    }
+
+    fn skip_encoding(&self) -> bool {
+        (**self).skip_encoding()
+    }
+}
+
+impl<T: EncodeLabelValue> EncodeLabelValue for Arc<T> {
+    ghost pieces = { λ p. T.pieces (arc_value p) };
+
+    ghost may_fault = { λ p. T.may_fault (arc_value p) };
+
+    ghost is_skipped = { λ p. T.is_skipped (arc_value p) };
+
+    fn encode(&self, encoder: &mut LabelEncoder) -> Result<(), EncodeError> {
+        (**self).encode(encoder)
+    }
+
+    fn skip_encoding(&self) -> bool {
+        (**self).skip_encoding()
+    }
+}

@@ -1,0 +1,29 @@
+//! How metrics hand labels, values and points to the encoders that gather samples.
+//!
+//! A user's metric implements [`EncodeMetric`]; what it may hand over it declares in the trait's ghost members, and
+//! `collect` relies on nothing else. An encoder keeps its first refusal, whatever a metric makes of it.
+#![tactic(auto)]
+
+pub mod exemplar;
+pub mod label;
+pub mod label_set;
+pub mod label_value;
+pub mod metric;
+mod label_number;
+mod label_set_wrapper;
+mod label_wrapper;
+mod names;
+mod own;
+pub mod point;
+pub mod value;
+
+pub use exemplar::{EncodeExemplar, ExemplarEncoder};
+pub use label::{EncodeLabel, EncodeLabelName, EncodeLabelValue, LabelEncoder, LabelSetEncoder};
+pub use label_set::{EncodeLabelSet, LabelSlice};
+pub use label_value::LabelStr;
+pub use metric::{EncodeMetric, MetricEncoder};
+pub use point::{EncodePoint, PointEncoder};
+pub use value::{
+    CounterValueEncoder, EncodeCounterValue, EncodeGaugeValue, EncodeUnknownValue,
+    GaugeValueEncoder, UnknownValueEncoder,
+};

@@ -1,0 +1,280 @@
+//! Metrics: what offers members, and the encoder that gathers a family's samples.
+ghost use Rattle.std.specs.Prelude.{◌≡◌, ◌++◌, ℕ, List, [], ◌∷◌, ◌⊎◌, MatchResult, MatchOption, Option, None, Some, IsTrue, IfSome, Ok, Err, string_bytes};
+ghost use Rattle.std.specs.Option.{option_map, option_map_or};
+ghost use Rattle.std.specs.List.{AllByRecursion};
+ghost use Rattle.fm_grammar.specs.declared.MetricType.{MetricType};
+ghost use Rattle.fm_grammar.specs.WellFormed.{AreMillis, IsSample};
+ghost use Rattle.fm_text.specs.declared.error.EncodeError.{EncodeError};
+ghost use Rattle.fm_text.specs.Samples.{labels_of, samples_of};
+ghost use Rattle.fm_encoder.specs.Labels.{LabelsClean, LabelsFault, all_written, handed_again};
+ghost use Rattle.fm_encoder.specs.Points.{Member, UnknownPoint, GaugePoint, CounterPoint, millis};
+ghost use Rattle.fm_encoder.specs.Gathered.{OwnRefusal, answer, own_refusal};
+ghost use Rattle.fm_encoder.specs.Hands.{HandsLabels, HandsMembers, MembersOf};
+
+use crate::exemplar::EncodeExemplar;
+use crate::label::LabelSetEncoder;
+use crate::label_set::{EncodeLabelSet, encode_written};
+use crate::own::own_refusal;
+use crate::point::{EncodePoint, PointEncoder};
+use crate::value::{EncodeCounterValue, EncodeGaugeValue, EncodeUnknownValue};
+use fm_grammar::MetricType;
+use fm_text::{EncodeError, Sample};
+use std::alloc::Global;
+use std::marker::Model;
+use std::time::Duration;
+
+/// A metric, which a registry holds in a box.
+///
+/// What it declares is all that a collector relies on: the lists of members that `encode` may offer, the timestamps
+/// that `timestamp` may answer, whether it may be empty, and whether it may answer an error of its own.
+pub trait EncodeMetric: Send + Sync + Drop {
+    /// `metric_type` may answer this type. Where nothing is declared it may answer any.
+    ghost types: { Self → MetricType → Type 0 } = { λ _ _. Unit {0} };
+
+    /// `is_empty` may answer true.
+    ghost may_be_empty: { Self → Type 0 } = { λ _. ⊥ };
+
+    /// `timestamp` may answer so many milliseconds, or none.
+    ghost stamps: { Self → Option ℕ → Type 0 } = { λ _ stamp. stamp ≡ None };
+
+    /// The lists of members that `encode` may offer.
+    ghost offers: { Self → List Member → Type 0 };
+
+    /// `encode` may answer an error of its own other than `Memory`.
+    ghost may_fault: { Self → Type 0 } = { λ _. ⊥ };
+
+    /// Offers the metric's members to the encoder. It may wait where they stand under a lock.
+    fn encode(&self, encoder: &mut MetricEncoder) -> Result<(), EncodeError>
+        ensures { HandsMembers (offers self.now) (may_fault self.now) encoder.old encoder.new result };
+
+    /// The metric's type. A registry asks it once, when the metric is registered.
+    fn metric_type(&self) -> MetricType
+        ensures { types self.now result };
+
+    /// When the samples were taken, of which whole milliseconds are written; mostly `None`.
+    fn timestamp(&self) -> Option<Duration>
+        ensures { stamps self.now (option_map millis result) };
+
+    /// Whether the metric has no members; then nothing is written of it. It may wait for a lock.
+    fn is_empty(&self) -> bool
+        ensures { IsTrue result → may_be_empty self.now }
+    {
+        false
+    }
+}
+
+// Hands over the constant labels and then these.
+fn hand_labels<LS: EncodeLabelSet>(
+    constants: &[(String, String)],
+    labels: &LS,
+    encoder: &mut LabelSetEncoder,
+) -> Result<(), EncodeError>
+    ensures { HandsLabels (handed_again (labels_of constants.now) ++ LS.labels labels.now) (LS.may_fault labels.now) encoder.old encoder.new result }
+{
+    encode_written(constants, encoder)?;
+    if labels.is_empty() {
+        return Ok(());
+    }
+    labels.encode(encoder)
+}
+
+// The constant labels and then these, each of them clean.
+fn read_labels<LS: EncodeLabelSet>(
+    alloc: Global,
+    metric_type: MetricType,
+    constants: &[(String, String)],
+    labels: &LS,
+) -> Result<Vec<(String, String)>, EncodeError>
+    ensures { let all = handed_again (labels_of constants.now) ++ LS.labels labels.now in
+        MatchResult result
+        (λ ls. LabelsClean metric_type [] all × (labels_of ls.items ≡ all_written all))
+        (λ k. OwnRefusal (LS.may_fault labels.now) k ⊎ LabelsFault k metric_type [] all) }
+{
+    let mut encoder = LabelSetEncoder::new(alloc, metric_type);
+    let visited = hand_labels(constants, labels, &mut encoder);
+    encoder.end(visited)
+}
+
+// The point of an unknown metric's value.
+#[derive(Drop)]
+struct UnknownNumber<'a, V>(&'a V);
+
+impl<V: EncodeUnknownValue> EncodePoint for UnknownNumber<'_, V> {
+    ghost points = { λ p ps. ps ≡ UnknownPoint (V.numbers p.0.now) ∷ [] };
+
+    ghost may_fault = { λ p. V.may_fault p.0.now };
+
+    fn encode(&self, encoder: &mut PointEncoder) -> Result<(), EncodeError> {
+        encoder.encode_unknown(self.0)
+    }
+}
+
+// The point of a gauge's value.
+#[derive(Drop)]
+struct GaugeNumber<'a, V>(&'a V);
+
+impl<V: EncodeGaugeValue> EncodePoint for GaugeNumber<'_, V> {
+    ghost points = { λ p ps. ps ≡ GaugePoint (V.numbers p.0.now) ∷ [] };
+
+    ghost may_fault = { λ p. V.may_fault p.0.now };
+
+    fn encode(&self, encoder: &mut PointEncoder) -> Result<(), EncodeError> {
+        encoder.encode_gauge(self.0)
+    }
+}
+
+// The point of a counter's parts.
+#[derive(Drop)]
+struct CounterTotal<'a, V, E> {
+    total: &'a V,
+    exemplar: Option<&'a E>,
+    created: Option<Duration>,
+}
+
+impl<V: EncodeCounterValue, E: EncodeExemplar> EncodePoint for CounterTotal<'_, V, E> {
+    ghost points = { λ p ps. ps ≡ CounterPoint (V.numbers p.total.now) (option_map_or (λ e. E.exemplars e.now) p.exemplar []) (option_map millis p.created) ∷ [] };
+
+    ghost may_fault = { λ p. V.may_fault p.total.now ⊎ MatchOption p.exemplar ⊥ (λ e. E.may_fault e.now) };
+
+    fn encode(&self, encoder: &mut PointEncoder) -> Result<(), EncodeError> {
+        encoder.encode_counter(self.total, self.exemplar, self.created)
+    }
+}
+
+/// Gathers the samples of a metric's family.
+#[derive(Drop)]
+pub struct MetricEncoder {
+    constants: Vec<(String, String)>,
+    points: PointEncoder,
+}
+
+impl Model for MetricEncoder {
+    ghost use Rattle.fm_text.specs.Samples.{labels_of};
+    ghost use Rattle.fm_encoder.specs.Gathered.{GatheredMembers};
+
+    ghost Value = { GatheredMembers };
+
+    ghost view = { λ e. record {
+      context = record { setting = e.points.setting; constants = labels_of e.constants.items };
+      samples = e.points.samples;
+      refused = e.points.refused;
+    } };
+}
+
+impl MetricEncoder {
+    /// An encoder for the family of this printed name and type, under these constant labels and this timestamp in
+    /// milliseconds. It is for the collector, which alone makes encoders.
+    pub fn new(
+        alloc: Global,
+        name: String,
+        metric_type: MetricType,
+        constants: Vec<(String, String)>,
+        time: Option<u128>,
+    ) -> MetricEncoder
+        requires { IfSome time AreMillis }
+        ensures { result ≡ record {
+          context = record {
+            setting = record { name = string_bytes name; metric_type = metric_type; time = time };
+            constants = labels_of constants.items;
+          };
+          samples = [];
+          refused = None;
+        } }
+    {
+        MetricEncoder {
+            constants,
+            points: PointEncoder::new(alloc, name, metric_type, time),
+        }
+    }
+
+    /// Takes a member: its labels, which are read once, and its point. It is refused first as the point's type, then as
+    /// its labels, then as its values are; an own error of either becomes `Memory` or `MetricFault`.
+    pub fn encode<LS: EncodeLabelSet, P: EncodePoint>(
+        &mut self,
+        labels: &LS,
+        point: &P,
+    ) -> Result<(), EncodeError>
+        ensures handed { HandsMembers (MembersOf (LS.labels labels.now) (P.points point.now)) (LS.may_fault labels.now ⊎ P.may_fault point.now) self.old self.new result }
+        ensures answered { result ≡ answer self.new.refused }
+    {
+        if let Some(error) = self.points.refused() {
+            return Err(error);
+        }
+        let read = read_labels(
+            self.points.alloc(),
+            self.points.metric_type(),
+            self.constants.as_slice(),
+            labels,
+        );
+        self.points.begin_member(read);
+        let visited = point.encode(&mut self.points);
+        self.points.end_points(visited)
+    }
+
+    /// Takes the point of an unknown metric without member labels, as `PointEncoder::encode_unknown` does.
+    pub fn encode_unknown<V: EncodeUnknownValue>(&mut self, value: &V) -> Result<(), EncodeError>
+        ensures handed { HandsMembers (λ ms. ms ≡ record {
+          labels = [];
+          point = UnknownPoint (V.numbers value.now);
+        } ∷ []) (V.may_fault value.now) self.old self.new result }
+        ensures answered { result ≡ answer self.new.refused }
+    {
+        self.encode(&(), &UnknownNumber(value))
+    }
+
+    /// Takes the point of a gauge without member labels, as `PointEncoder::encode_gauge` does.
+    pub fn encode_gauge<V: EncodeGaugeValue>(&mut self, value: &V) -> Result<(), EncodeError>
+        ensures handed { HandsMembers (λ ms. ms ≡ record {
+          labels = [];
+          point = GaugePoint (V.numbers value.now);
+        } ∷ []) (V.may_fault value.now) self.old self.new result }
+        ensures answered { result ≡ answer self.new.refused }
+    {
+        self.encode(&(), &GaugeNumber(value))
+    }
+
+    /// Takes the point of a counter without member labels, as `PointEncoder::encode_counter` does.
+    pub fn encode_counter<V: EncodeCounterValue, E: EncodeExemplar>(
+        &mut self,
+        total: &V,
+        exemplar: Option<&E>,
+        created: Option<Duration>,
+    ) -> Result<(), EncodeError>
+        ensures handed { HandsMembers (λ ms. ms ≡ record {
+          labels = [];
+          point = CounterPoint (V.numbers total.now) (option_map_or (λ e. E.exemplars e.now) exemplar.entry []) (option_map millis created);
+        } ∷ []) (V.may_fault total.now ⊎ MatchOption exemplar.entry ⊥ (λ e. E.may_fault e.now)) self.old self.new result }
+        ensures answered { result ≡ answer self.new.refused }
+    {
+        let point = CounterTotal {
+            total,
+            exemplar,
+            created,
+        };
+        self.encode(&(), &point)
+    }
+
+    /// The family's name and its samples, where nothing was refused and the metric answered `visited`; else the first
+    /// refusal. It is for the collector.
+    pub fn end(
+        self,
+        visited: Result<(), EncodeError>,
+    ) -> Result<(String, Vec<Sample>), EncodeError>
+        ensures { MatchResult result
+            (λ made. (self.refused ≡ None) × (visited ≡ Ok tt) × (string_bytes made.0 ≡ self.context.setting.name)
+            × (samples_of made.1.items ≡ self.samples) × AllByRecursion (IsSample self.context.setting.metric_type) self.samples)
+            (λ k. (self.refused ≡ Some k) ⊎ ((e : EncodeError) × (self.refused ≡ None) × (visited ≡ Err e) × (k ≡ own_refusal e))) }
+    {
+        let MetricEncoder {
+            constants: _,
+            points,
+        } = self;
+        if let Some(error) = points.refused() {
+            return Err(error);
+        }
+        match visited {
+            Ok(()) => Ok(points.into_parts()),
+            Err(error) => Err(own_refusal(error)),
+        }
+    }
+}

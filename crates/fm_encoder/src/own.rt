@@ -1,0 +1,14 @@
+// What an encoder makes of an error that what it visited answered of itself.
+ghost use Rattle.std.specs.Prelude.{◌≡◌};
+ghost use Rattle.fm_encoder.specs.Gathered.{own_refusal};
+
+use fm_text::EncodeError;
+
+pub(crate) fn own_refusal(error: EncodeError) -> EncodeError
+    ensures { result ≡ own_refusal error }
+{
+    match error {
+        EncodeError::Memory => EncodeError::Memory,
+        _ => EncodeError::MetricFault,
+    }
+}

@@ -1,0 +1,307 @@
+//! Points: what hands them over, and the encoder that gathers their samples.
+ghost use Rattle.std.specs.Prelude.{◌≡◌, ◌⊎◌, List, [], ◌∷◌, ◌++◌, MatchResult, MatchOption, None, Some, IfOk, IfErr, IfSome, string_bytes};
+ghost use Rattle.std.specs.Option.{option_map, option_map_or};
+ghost use Rattle.std.specs.List.{AllByRecursion};
+ghost use Rattle.fm_grammar.specs.WellFormed.{AreLabels, AreMillis, IsSample};
+ghost use Rattle.fm_text.specs.declared.error.EncodeError.{EncodeError};
+ghost use Rattle.fm_text.specs.Samples.{labels_of, samples_of, value_of, exemplar_of};
+ghost use Rattle.fm_encoder.specs.Points.{Point, UnknownPoint, GaugePoint, CounterPoint, millis};
+ghost use Rattle.fm_encoder.specs.Gathered.{answer};
+ghost use Rattle.fm_encoder.specs.Hands.{HandsPoints};
+ghost use Rattle.fm_encoder.specs.Steps.{FitsType, BeginsPoint, PushesSample, EndsPoints, IsNumber};
+
+use crate::exemplar::{EncodeExemplar, exemplar_if_any};
+use crate::own::own_refusal;
+use crate::value::{
+    EncodeCounterValue, EncodeGaugeValue, EncodeUnknownValue, counter_number, gauge_number,
+    unknown_number,
+};
+use fm_grammar::{MetricType, SampleKind};
+use fm_text::{EncodeError, Exemplar, Sample, Value, make};
+use std::alloc::Global;
+use std::marker::Model;
+use std::time::Duration;
+
+/// Something that hands over points, mostly one.
+pub trait EncodePoint {
+    /// The lists of points that `encode` may hand over.
+    ghost points: { Self → List Point → Type 0 };
+
+    /// `encode` may answer an error of its own other than `Memory`.
+    ghost may_fault: { Self → Type 0 } = { λ _. ⊥ };
+
+    /// Hands the point to the encoder. It may wait where its value stands under a lock.
+    fn encode(&self, encoder: &mut PointEncoder) -> Result<(), EncodeError>
+        ensures { HandsPoints (points self.now) (may_fault self.now) encoder.old encoder.new result };
+}
+
+/// Gathers the samples of points under one member's labels.
+#[derive(Drop)]
+pub struct PointEncoder {
+    alloc: Global,
+    name: String,
+    metric_type: MetricType,
+    time: Option<u128>,
+    common: Vec<(String, String)>,
+    deferred: Option<EncodeError>,
+    samples: Vec<Sample>,
+    refused: Option<EncodeError>,
+}
+
+impl Model for PointEncoder {
+    ghost use Rattle.std.specs.Prelude.{string_bytes};
+    ghost use Rattle.fm_text.specs.Samples.{labels_of, samples_of};
+    ghost use Rattle.fm_encoder.specs.Gathered.{GatheredPoints};
+
+    ghost Value = { GatheredPoints };
+
+    ghost view = { λ e. record {
+      setting = record { name = string_bytes e.name; metric_type = e.metric_type; time = e.time };
+      common = labels_of e.common.items;
+      deferred = e.deferred;
+      samples = samples_of e.samples.items;
+      refused = e.refused;
+    } };
+
+    ghost use Rattle.fm_encoder.specs.Gathering.{IsGathering};
+
+    ghost invariant = { IsGathering };
+}
+
+// A label of its own memory, equal to the given one.
+fn cloned_label(
+    alloc: Global,
+    label: &(String, String),
+) -> Result<(String, String), EncodeError>
+    ensures ok { IfOk result (λ l. (string_bytes l.0 ≡ string_bytes label.now.0) × (string_bytes l.1 ≡ string_bytes label.now.1)) }
+    ensures err { IfErr result (λ e. e ≡ EncodeError.Memory) }
+{
+    let Ok(name) = String::from_str(alloc, label.0.as_str()) else {
+        return Err(EncodeError::Memory);
+    };
+    let Ok(value) = String::from_str(alloc, label.1.as_str()) else {
+        return Err(EncodeError::Memory);
+    };
+    Ok((name, value))
+}
+
+// Labels of their own memory, equal to the given ones.
+pub(crate) fn cloned_labels(
+    alloc: Global,
+    labels: &[(String, String)],
+) -> Result<Vec<(String, String)>, EncodeError>
+    ensures ok { IfOk result (λ ls. labels_of ls.items ≡ labels_of labels.now) }
+    ensures err { IfErr result (λ e. e ≡ EncodeError.Memory) }
+{
+    let mut clones = Vec::new(alloc);
+    for label in labels {
+        let Ok(clone) = cloned_label(alloc, label) else {
+            return Err(EncodeError::Memory);
+        };
+        if let Err(_) = clones.push(clone) {
+            return Err(EncodeError::Memory);
+        }
+    }
+    Ok(clones)
+}
+
+impl PointEncoder {
+    pub(crate) fn new(
+        alloc: Global,
+        name: String,
+        metric_type: MetricType,
+        time: Option<u128>,
+    ) -> PointEncoder
+        requires { IfSome time AreMillis }
+        ensures { result ≡ record {
+          setting = record { name = string_bytes name; metric_type = metric_type; time = time };
+          common = [];
+          deferred = None;
+          samples = [];
+          refused = None;
+        } }
+    {
+        PointEncoder {
+            alloc,
+            name,
+            metric_type,
+            time,
+            common: Vec::new(alloc),
+            deferred: None,
+            samples: Vec::new(alloc),
+            refused: None,
+        }
+    }
+
+    fn refuse(&mut self, error: EncodeError) -> Result<(), EncodeError>
+        ensures refused { self.new ≡ record self.old { refused = Some error } }
+        ensures answered { result ≡ Err error }
+    {
+        self.refused = Some(error);
+        Err(error)
+    }
+
+    // Tests a point's type, and then whether the common labels were refused.
+    fn begin_point(&mut self, metric_type: MetricType) -> Result<(), EncodeError>
+        ensures begun { BeginsPoint metric_type self.old self.new }
+        ensures answered { result ≡ answer self.new.refused }
+    {
+        if let Some(error) = self.refused {
+            return Err(error);
+        }
+        if metric_type != self.metric_type {
+            return self.refuse(EncodeError::KindMismatch);
+        }
+        if let Some(error) = self.deferred {
+            return self.refuse(error);
+        }
+        Ok(())
+    }
+
+    // Adds a sample under the common labels.
+    fn push_sample(
+        &mut self,
+        kind: SampleKind,
+        value: Value,
+        exemplar: Option<Exemplar>,
+    ) -> Result<(), EncodeError>
+        requires accepting { self.old.refused ≡ None }
+        requires fits { FitsType self.old.setting.metric_type kind (value_of value) (option_map exemplar_of exemplar) }
+        ensures pushed { PushesSample (record {
+          kind = kind;
+          labels = self.old.common;
+          value = value_of value;
+          time = self.old.setting.time;
+          exemplar = option_map exemplar_of exemplar;
+        }) self.old self.new }
+        ensures answered { result ≡ answer self.new.refused }
+    {
+        let Ok(labels) = cloned_labels(self.alloc, self.common.as_slice()) else {
+            return self.refuse(EncodeError::Memory);
+        };
+        let sample = make::sample(kind, labels, value, self.time, exemplar);
+        if let Err(_) = self.samples.push(sample) {
+            return self.refuse(EncodeError::Memory);
+        }
+        Ok(())
+    }
+
+    /// Takes an unknown metric's point. It is refused as `KindMismatch` in a family of another type, then for its
+    /// labels, then as `MissingValue` or `ValueTwice` where the value wrote not just one number. It may find no memory.
+    pub fn encode_unknown<V: EncodeUnknownValue>(&mut self, value: &V) -> Result<(), EncodeError>
+        ensures handed { HandsPoints (λ ps. ps ≡ UnknownPoint (V.numbers value.now) ∷ []) (V.may_fault value.now) self.old self.new result }
+        ensures answered { result ≡ answer self.new.refused }
+    {
+        self.begin_point(MetricType::Unknown)?;
+        match unknown_number(value) {
+            Ok(number) => self.push_sample(SampleKind::Plain, number, None),
+            Err(error) => self.refuse(error),
+        }
+    }
+
+    /// Takes a gauge's point, with the refusals of `encode_unknown`.
+    pub fn encode_gauge<V: EncodeGaugeValue>(&mut self, value: &V) -> Result<(), EncodeError>
+        ensures handed { HandsPoints (λ ps. ps ≡ GaugePoint (V.numbers value.now) ∷ []) (V.may_fault value.now) self.old self.new result }
+        ensures answered { result ≡ answer self.new.refused }
+    {
+        self.begin_point(MetricType::Gauge)?;
+        match gauge_number(value) {
+            Ok(number) => self.push_sample(SampleKind::Plain, number, None),
+            Err(error) => self.refuse(error),
+        }
+    }
+
+    /// Takes a counter's point: its total, an exemplar of it, and when it was created, of which whole milliseconds are
+    /// written. Beside the refusals of `encode_unknown` it has those of the exemplar.
+    pub fn encode_counter<V: EncodeCounterValue, E: EncodeExemplar>(
+        &mut self,
+        total: &V,
+        exemplar: Option<&E>,
+        created: Option<Duration>,
+    ) -> Result<(), EncodeError>
+        ensures handed { HandsPoints
+            (λ ps. ps ≡ CounterPoint (V.numbers total.now) (option_map_or (λ e. E.exemplars e.now) exemplar.entry []) (option_map millis created) ∷ [])
+            (V.may_fault total.now ⊎ MatchOption exemplar.entry ⊥ (λ e. E.may_fault e.now)) self.old self.new result }
+        ensures answered { result ≡ answer self.new.refused }
+    {
+        self.begin_point(MetricType::Counter)?;
+        let number = match counter_number(total) {
+            Ok(number) => number,
+            Err(error) => return self.refuse(error),
+        };
+        let exemplar = match exemplar_if_any(exemplar) {
+            Ok(exemplar) => exemplar,
+            Err(error) => return self.refuse(error),
+        };
+        self.push_sample(SampleKind::Total, number, exemplar)?;
+        match created {
+            Some(time) => self.push_sample(
+                SampleKind::Created,
+                Value::Millis(time.as_millis()),
+                None,
+            ),
+            None => Ok(()),
+        }
+    }
+
+    pub(crate) fn alloc(&self) -> Global {
+        self.alloc
+    }
+
+    pub(crate) fn metric_type(&self) -> MetricType
+        ensures { result ≡ self.now.setting.metric_type }
+    {
+        self.metric_type
+    }
+
+    pub(crate) fn refused(&self) -> Option<EncodeError>
+        ensures { result ≡ self.now.refused }
+    {
+        self.refused
+    }
+
+    // Takes the common labels of the next points, or keeps their refusal for the first of them.
+    pub(crate) fn begin_member(&mut self, read: Result<Vec<(String, String)>, EncodeError>)
+        requires { IfOk read (λ ls. AreLabels (labels_of ls.items)) }
+        ensures setting { self.new.setting ≡ self.old.setting }
+        ensures samples { self.new.samples ≡ self.old.samples }
+        ensures refused { self.new.refused ≡ self.old.refused }
+        ensures read { MatchResult read
+            (λ ls. (self.new.deferred ≡ None) × (self.new.common ≡ labels_of ls.items))
+            (λ k. self.new.deferred ≡ Some k) }
+    {
+        match read {
+            Ok(common) => {
+                self.common = common;
+                self.deferred = None;
+            }
+            Err(error) => {
+                self.deferred = Some(error);
+            }
+        }
+    }
+
+    // Ends a member, where the point answered `visited`.
+    pub(crate) fn end_points(&mut self, visited: Result<(), EncodeError>) -> Result<(), EncodeError>
+        ensures ended { EndsPoints visited self.old self.new }
+        ensures answered { result ≡ answer self.new.refused }
+    {
+        if let Some(error) = self.refused {
+            return Err(error);
+        }
+        match visited {
+            Ok(()) => Ok(()),
+            Err(error) => self.refuse(own_refusal(error)),
+        }
+    }
+
+    // The family's name, and its samples, which are well formed.
+    pub(crate) fn into_parts(self) -> (String, Vec<Sample>)
+        ensures name { string_bytes result.0 ≡ self.setting.name }
+        ensures samples { samples_of result.1.items ≡ self.samples }
+        ensures well_formed { AllByRecursion (IsSample self.setting.metric_type) self.samples }
+    {
+        let PointEncoder { name, samples, .. } = self;
+        (name, samples)
+    }
+}

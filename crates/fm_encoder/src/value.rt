@@ -1,0 +1,13 @@
+//! Values of metrics: what hands them over, and the encoders that take one number each.
+
+mod counter;
+mod gauge;
+mod slot;
+mod unknown;
+
+pub use counter::{CounterValueEncoder, EncodeCounterValue};
+pub(crate) use counter::counter_number;
+pub use gauge::{EncodeGaugeValue, GaugeValueEncoder};
+pub(crate) use gauge::gauge_number;
+pub use unknown::{EncodeUnknownValue, UnknownValueEncoder};
+pub(crate) use unknown::unknown_number;

@@ -1,0 +1,14 @@
+-- What constant metrics were made with.
+use Rattle.std.specs.Prelude.{Option}
+use Rattle.std.specs.declared.time.Duration.{Duration}
+use Rattle.fm_metrics.specs.declared.counter.ConstCounter.{ConstCounter}
+use Rattle.fm_metrics.specs.declared.gauge.ConstGauge.{ConstGauge}
+
+abbrev pub total_of : {N : Type 0} → ConstCounter N → N
+total_of counter = counter.total
+
+abbrev pub created_of : {N : Type 0} → ConstCounter N → Option Duration
+created_of counter = counter.created
+
+abbrev pub value_of : {N : Type 0} → ConstGauge N → N
+value_of gauge = gauge.value

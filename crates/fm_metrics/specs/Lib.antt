@@ -1,0 +1,5 @@
+pub use Rattle.fm_encoder.specs.Points
+pub use Rattle.fm_encoder.specs.Hands
+pub mod Constants
+pub mod TallyErrors
+pub mod Events

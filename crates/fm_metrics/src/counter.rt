@@ -1,0 +1,108 @@
+//! Counters: numbers that only grow.
+ghost use Rattle.std.specs.Prelude.{◌≡◌, [], ◌∷◌, None, Some, Option};
+ghost use Rattle.std.specs.Option.{option_map};
+ghost use Rattle.fm_grammar.specs.declared.MetricType.TheVariants.{Counter};
+ghost use Rattle.fm_encoder.specs.Points.{CounterPoint, millis};
+ghost use Rattle.fm_metrics.specs.Constants.{total_of, created_of};
+
+use fm_encoder::{
+    EncodeCounterValue, EncodeMetric, EncodePoint, MetricEncoder, PointEncoder,
+};
+use fm_raw::{MetricType, Number, TypedMetric};
+use fm_text::EncodeError;
+use std::time::Duration;
+
+/// A counter that keeps the total it was made with, for a total that is counted elsewhere.
+///
+/// `N` is `u32`, `u64`, `usize` or `Fixed`.
+#[derive(Clone, Debug, Drop)]
+pub struct ConstCounter<N = u64> {
+    total: N,
+    created: Option<Duration>,
+}
+
+impl<N> ConstCounter<N> {
+    /// The counter of this total, without a time of creation.
+    pub fn new(total: N) -> ConstCounter<N>
+        ensures total { total_of result ≡ total }
+        ensures created { created_of result ≡ None }
+    {
+        ConstCounter {
+            total,
+            created: None,
+        }
+    }
+
+    /// The counter of this total, created at this time since the Unix epoch. Its whole milliseconds are written.
+    pub fn with_created(total: N, created: Duration) -> ConstCounter<N>
+        ensures total { total_of result ≡ total }
+        ensures created { created_of result ≡ Some created }
+    {
+        ConstCounter {
+            total,
+            created: Some(created),
+        }
+    }
+
+    /// When the counter was created, if that is known.
+    pub fn created(&self) -> Option<Duration>
+        ensures { result ≡ created_of self.now }
+    {
+        self.created
+    }
+}
+
+impl<N: Copy> ConstCounter<N> {
+    /// The counter's total.
+    pub fn total(&self) -> N
+        ensures { result ≡ total_of self.now }
+    {
+        self.total
+    }
+}
+
+/// The counter of zero, without a time of creation.
+impl<N: Number> Default for ConstCounter<N> {
+    ghost is_default = { λ c. (total_of c ≡ N.ZERO) × (created_of c ≡ None) };
+
+    fn default() -> ConstCounter<N> {
+        ConstCounter::new(N::ZERO)
+    }
+}
+
+impl<N> TypedMetric for ConstCounter<N> {
+    const TYPE: MetricType = MetricType::Counter;
+}
+
+impl<N: EncodeCounterValue> EncodePoint for ConstCounter<N> {
+    ghost points = { λ c ps. ps ≡ CounterPoint (N.numbers c.total) [] (option_map millis c.created) ∷ [] };
+
+    ghost may_fault = { λ c. N.may_fault c.total };
+
+    fn encode(&self, encoder: &mut PointEncoder) -> Result<(), EncodeError> {
+        encoder.encode_counter(&self.total, None::<&()>, self.created)
+    }
+}
+
+impl<N: EncodeCounterValue + Send + Sync + Drop> EncodeMetric for ConstCounter<N> {
+    ghost types = { λ _ t. t ≡ Counter };
+
+    ghost offers = { λ c ms. ms ≡ record {
+      labels = [];
+      point = CounterPoint (N.numbers c.total) [] (option_map millis c.created);
+    } ∷ [] };
+
+    ghost may_fault = { λ c. N.may_fault c.total };
+
+    fn encode(&self, encoder: &mut MetricEncoder) -> Result<(), EncodeError> {
+        encoder.encode_counter(&self.total, None::<&()>, self.created)
+    }
+
+    fn metric_type(&self) -> MetricType {
+        MetricType::Counter
+    }
+
+    fn timestamp(&self) -> Option<Duration> {
+        None
+    }
+}

@@ -1,0 +1,6 @@
+//! The metrics of the library.
+#![tactic(auto)]
+
+pub mod counter;
+pub mod gauge;
+pub mod tally;
