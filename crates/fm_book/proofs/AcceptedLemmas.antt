@@ -9,7 +9,7 @@ use Rattle.fm_book.specs.Book.{Call, Subsystem, Register, Book, root_book, child
 use Rattle.fm_book.specs.Answer.{NoSuchSubsystem, first_bad_label, name_or_depth_refusal, answer, gained, after, after_if}
 use Rattle.fm_book.specs.Accepted.{IsAccepted, AreAccepted, IsBook}
 use Rattle.fm_book.proofs.TextLemmas.{bytes_eq-refl, same_text, same_path, is_once-push}
-use Rattle.fm_book.proofs.NameLemmas.{snake_case_is, snake_case_joined}
+use Rattle.fm_raw.proofs.NameLemmas.{snake_case_is, snake_case_joined}
 use Rattle.fm_book.proofs.LabelLemmas.{AreLabels-merge_labels, first_bad_label-++}
 use Rattle.fm_book.proofs.BookLemmas.{children_at-++, calls_below-++}
 use Rattle.fm_book.proofs.AnswerLemmas.{or_then-none, subsystem_passed, answer-in_front, gained-in_front, missing-answer, gained_cases}

@@ -1,5 +1,4 @@
 pub mod TextLemmas
-pub mod NameLemmas
 pub mod LabelLemmas
 pub mod BookLemmas
 pub mod AnswerLemmas

@@ -16,7 +16,7 @@ use Rattle.fm_book.specs.Answer.{is_bad_unit, name_refusal}
 use Rattle.fm_book.specs.Accepted.{AreAccepted, IsBook}
 use Rattle.fm_book.specs.Listing.{Listed, IsListable, listed_with, order_to, order}
 use Rattle.fm_book.proofs.TextLemmas.{bytes_eq-refl}
-use Rattle.fm_book.proofs.NameLemmas.{snake_case_is, word_is, snake_case_joined, snake_case_word}
+use Rattle.fm_raw.proofs.NameLemmas.{snake_case_is, word_decides, snake_case_joined, snake_case_word}
 use Rattle.fm_book.proofs.AnswerLemmas.{or_then-none, not_false, name_passed, name_refusal-none}
 use Rattle.fm_book.proofs.AcceptedLemmas.{IsBook-below}
 
@@ -40,7 +40,7 @@ front_valid (Some namespace) name h k = snake_case_joined namespace name h k
 
 unit_valid : (u : Option SeenUnit) → is_bad_unit u ≡ false → IfSome (printed_unit u) IsUnitText
 unit_valid None h = tt
-unit_valid (Some u) h = word_is u.text (not_false (is_word u.text) h)
+unit_valid (Some u) h = (word_decides u.text).0 (not_false (is_word u.text) h)
 
 name_valid : (namespace : Option Text) (name : Text) (unit : Option Text) → IsSnakeCase (prefixed_name namespace name) → IfSome unit IsUnitText → IsSnakeCase (printed_name namespace name unit)
 name_valid namespace name None front valid = front

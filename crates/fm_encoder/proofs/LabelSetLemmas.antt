@@ -1,10 +1,10 @@
 -- One label more in a label set encoder.
-use Rattle.std.proofs.Common.{◌≡◌, ℕ, List, [], ◌∷◌, ◌++◌, Option, Some, None, Result, Ok, Err, ◌⊎◌, inl, inr, refl, sym, ◌∙◌, ap, subst, append-nil}
+use Rattle.std.proofs.Common.{◌≡◌, ℕ, List, [], ◌∷◌, ◌++◌, Some, None, Result, Ok, Err, ◌⊎◌, inl, inr, refl, sym, ◌∙◌, ap, subst, append-nil}
 use Rattle.fm_grammar.specs.declared.MetricType.{MetricType}
 use Rattle.fm_text.specs.declared.error.EncodeError.{EncodeError}
-use Rattle.fm_text.specs.declared.error.EncodeError.TheVariants.{Memory, MetricFault, MalformedLabel}
+use Rattle.fm_text.specs.declared.error.EncodeError.TheVariants.{Memory}
 use Rattle.fm_grammar.specs.Exposition.{Label}
-use Rattle.fm_encoder.specs.Labels.{HandedLabel, NamePiece, ValuePiece, NameFits, PieceFault, LabelsFault, LabelsClean, LabelFault, LabelClean, written, CannotBegin}
+use Rattle.fm_encoder.specs.Labels.{HandedLabel, NamePiece, ValuePiece, NameFits, PieceFault, LabelFault}
 use Rattle.fm_encoder.specs.Gathered.{GatheredPieces, GatheredLabels, OwnRefusal, own_refusal, answer}
 use Rattle.fm_encoder.specs.Hands.{HandsPieces, HandsLabels}
 use Rattle.fm_encoder.specs.Steps.{EndsLabel}

@@ -4,3 +4,4 @@ pub mod PiecesLemmas
 pub mod LabelsLemmas
 pub mod LabelSetLemmas
 pub mod MemberLemmas
+pub mod FaultLemmas

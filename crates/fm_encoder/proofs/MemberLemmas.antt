@@ -1,9 +1,8 @@
 -- Members of a metric, one after the other.
-use Rattle.std.proofs.Common.{◌≡◌, ℕ, List, [], ◌∷◌, ◌++◌, Option, Some, None, Result, Ok, Err, ◌⊎◌, inl, inr, refl, sym, ◌∙◌, ap, subst, append_assoc, append-nil, map, MatchResult, ◌<◌, ◌+◌, length, get_or, take}
+use Rattle.std.proofs.Common.{◌≡◌, ℕ, List, [], ◌∷◌, ◌++◌, Some, None, Result, Ok, Err, ◌⊎◌, inl, inr, refl, sym, ◌∙◌, ap, subst, append_assoc, append-nil, MatchResult, ◌<◌, ◌+◌, length, get_or, take}
 use Rattle.std.proofs.lemmas.List.{take_more}
-use Rattle.std.specs.List.{flat_map}
 use Rattle.std.proofs.lemmas.Grind.{flat_map-append}
-use Rattle.fm_grammar.specs.Exposition.{Label, Sample}
+use Rattle.fm_grammar.specs.Exposition.{Label}
 use Rattle.fm_grammar.specs.declared.MetricType.{MetricType}
 use Rattle.fm_text.specs.declared.error.EncodeError.{EncodeError}
 use Rattle.fm_encoder.specs.Labels.{HandedLabel, LabelsClean, LabelsFault, all_written, handed_again}

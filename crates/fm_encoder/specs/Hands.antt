@@ -2,7 +2,7 @@
 -- nothing is refused, `Ok` means that the parts were handed over whole and are clean, and an error is want of memory or
 -- one that was declared. What is refused is want of memory, a declared error, or a fault that stands in the parts.
 -- Of the answer nothing is said once something is refused: a metric may lie, and breaks no document.
-use Rattle.std.specs.Prelude.{◌≡◌, ◌≤◌, List, [], ◌∷◌, ◌++◌, map, length, Option, Some, None, Result, Ok, Err, ◌⊎◌}
+use Rattle.std.specs.Prelude.{◌≡◌, ◌≤◌, List, [], ◌∷◌, ◌++◌, map, length, Some, None, Result, Ok, Err, ◌⊎◌}
 use Rattle.std.specs.List.{flat_map}
 use Rattle.fm_grammar.specs.Exposition.{Value, Sample}
 use Rattle.fm_text.specs.declared.error.EncodeError.{EncodeError}

@@ -1,5 +1,5 @@
 -- Labels as they are handed over, when a list of them is clean, and which fault stands in one.
-use Rattle.std.specs.Prelude.{◌≡◌, ℕ, List, [], ◌∷◌, ◌++◌, map, Contains, ◌⊎◌, Option, Some, None, codes}
+use Rattle.std.specs.Prelude.{◌≡◌, List, [], ◌∷◌, ◌++◌, map, Contains, ◌⊎◌, Option, codes}
 use Rattle.std.specs.Option.{option_to_list, option_map}
 use Rattle.std.specs.List.{flat_map}
 use Rattle.fm_grammar.specs.declared.MetricType.{MetricType}

@@ -6,12 +6,12 @@
 
 pub mod exemplar;
 pub mod label;
-pub mod label_set;
-pub mod label_value;
-pub mod metric;
 mod label_number;
+pub mod label_set;
 mod label_set_wrapper;
+pub mod label_value;
 mod label_wrapper;
+pub mod metric;
 mod names;
 mod own;
 pub mod point;

@@ -1,5 +1,5 @@
 //! Metrics: what offers members, and the encoder that gathers a family's samples.
-ghost use Rattle.std.specs.Prelude.{◌≡◌, ◌++◌, ℕ, List, [], ◌∷◌, ◌⊎◌, MatchResult, MatchOption, Option, None, Some, IsTrue, IfSome, Ok, Err, string_bytes};
+ghost use Rattle.std.specs.Prelude.{◌≡◌, ◌++◌, ℕ, List, [], ◌∷◌, ◌⊎◌, MatchResult, MatchOption, Option, None, Some, IsTrue, IfSome, IfOk, IfErr, Ok, Err, string_bytes};
 ghost use Rattle.std.specs.Option.{option_map, option_map_or};
 ghost use Rattle.std.specs.List.{AllByRecursion};
 ghost use Rattle.fm_grammar.specs.declared.MetricType.{MetricType};
@@ -15,7 +15,7 @@ use crate::exemplar::EncodeExemplar;
 use crate::label::LabelSetEncoder;
 use crate::label_set::{EncodeLabelSet, encode_written};
 use crate::own::own_refusal;
-use crate::point::{EncodePoint, PointEncoder};
+use crate::point::{EncodePoint, PointEncoder, cloned_labels};
 use crate::value::{EncodeCounterValue, EncodeGaugeValue, EncodeUnknownValue};
 use fm_grammar::MetricType;
 use fm_text::{EncodeError, Sample};
@@ -162,29 +162,30 @@ impl Model for MetricEncoder {
 }
 
 impl MetricEncoder {
-    /// An encoder for the family of this printed name and type, under these constant labels and this timestamp in
-    /// milliseconds. It is for the collector, which alone makes encoders.
+    /// An encoder for the family of this printed name and type, under these constant labels, of which it keeps a copy, and
+    /// this timestamp in milliseconds. It may find no memory. It is for the collector, which alone makes encoders.
     pub fn new(
         alloc: Global,
         name: String,
         metric_type: MetricType,
-        constants: Vec<(String, String)>,
+        constants: &[(String, String)],
         time: Option<u128>,
-    ) -> MetricEncoder
+    ) -> Result<MetricEncoder, EncodeError>
         requires { IfSome time AreMillis }
-        ensures { result ≡ record {
+        ensures made { IfOk result (λ encoder. encoder ≡ record {
           context = record {
             setting = record { name = string_bytes name; metric_type = metric_type; time = time };
-            constants = labels_of constants.items;
+            constants = labels_of constants.now;
           };
           samples = [];
           refused = None;
-        } }
+        }) }
+        ensures memory { IfErr result (λ e. e ≡ EncodeError.Memory) }
     {
-        MetricEncoder {
-            constants,
+        Ok(MetricEncoder {
+            constants: cloned_labels(alloc, constants)?,
             points: PointEncoder::new(alloc, name, metric_type, time),
-        }
+        })
     }
 
     /// Takes a member: its labels, which are read once, and its point. It is refused first as the point's type, then as
@@ -256,10 +257,7 @@ impl MetricEncoder {
 
     /// The family's name and its samples, where nothing was refused and the metric answered `visited`; else the first
     /// refusal. It is for the collector.
-    pub fn end(
-        self,
-        visited: Result<(), EncodeError>,
-    ) -> Result<(String, Vec<Sample>), EncodeError>
+    pub fn end(self, visited: Result<(), EncodeError>) -> Result<(String, Vec<Sample>), EncodeError>
         ensures { MatchResult result
             (λ made. (self.refused ≡ None) × (visited ≡ Ok tt) × (string_bytes made.0 ≡ self.context.setting.name)
             × (samples_of made.1.items ≡ self.samples) × AllByRecursion (IsSample self.context.setting.metric_type) self.samples)

@@ -69,10 +69,7 @@ impl Model for PointEncoder {
 }
 
 // A label of its own memory, equal to the given one.
-fn cloned_label(
-    alloc: Global,
-    label: &(String, String),
-) -> Result<(String, String), EncodeError>
+fn cloned_label(alloc: Global, label: &(String, String)) -> Result<(String, String), EncodeError>
     ensures ok { IfOk result (λ l. (string_bytes l.0 ≡ string_bytes label.now.0) × (string_bytes l.1 ≡ string_bytes label.now.1)) }
     ensures err { IfErr result (λ e. e ≡ EncodeError.Memory) }
 {

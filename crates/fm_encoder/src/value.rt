@@ -5,9 +5,9 @@ mod gauge;
 mod slot;
 mod unknown;
 
-pub use counter::{CounterValueEncoder, EncodeCounterValue};
 pub(crate) use counter::counter_number;
-pub use gauge::{EncodeGaugeValue, GaugeValueEncoder};
+pub use counter::{CounterValueEncoder, EncodeCounterValue};
 pub(crate) use gauge::gauge_number;
-pub use unknown::{EncodeUnknownValue, UnknownValueEncoder};
+pub use gauge::{EncodeGaugeValue, GaugeValueEncoder};
 pub(crate) use unknown::unknown_number;
+pub use unknown::{EncodeUnknownValue, UnknownValueEncoder};

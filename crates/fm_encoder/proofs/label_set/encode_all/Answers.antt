@@ -1,4 +1,4 @@
-use Rattle.std.proofs.Common.{◌≡◌, ◌<◌, sym, length, Any, arith}
+use Rattle.std.proofs.Common.{◌<◌, sym, length, Any, arith}
 use Rattle.std.proofs.lemmas.Result.{err_from_is_err_and}
 use Rattle.fm_encoder.proofs.LabelsLemmas.{HandsLabels-more, HandsLabels-ended, HandsLabels-weaker}
 use Rattle.fm_encoder.proofs.label_set.encode_all.Goals as goal

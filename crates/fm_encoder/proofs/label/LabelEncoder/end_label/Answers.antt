@@ -1,4 +1,4 @@
-use Rattle.std.proofs.Common.{rules, ◌≡◌, ◌∙◌, sym, ap, refl, List, [], ◌∷◌, ◌++◌, Option, Some, None, Ok, Err, inl, inr}
+use Rattle.std.proofs.Common.{◌≡◌, ◌∙◌, sym, ap, refl, [], ◌∷◌, Option, Some}
 use Rattle.std.proofs.Common.{string_bytes, String, Global}
 use Rattle.std.specs.Option.{option_map}
 use Rattle.fm_encoder.specs.Labels.{pieces_of, NamePiece, ValuePiece}

@@ -1,4 +1,3 @@
-use Rattle.std.proofs.Common.{rules, ◌≡◌, List, [], ◌∷◌, ◌++◌, refl, sym, ◌∙◌}
 use Rattle.fm_encoder.proofs.LabelSetLemmas.{HandsLabels-one}
 use Rattle.fm_encoder.proofs.label.LabelSetEncoder.encode.Goals as goal
 

@@ -1,4 +1,4 @@
-use Rattle.std.proofs.Common.{rules, ◌≡◌, ◌⊎◌, ◌∷◌, [], ◌++◌, ◌<◌, sym, ap, ◌∙◌, refl, length, Any, map, Some, Ok, if◌then◌else◌, append_assoc}
+use Rattle.std.proofs.Common.{◌≡◌, ◌⊎◌, ◌∷◌, [], ◌++◌, ◌<◌, sym, ap, ◌∙◌, refl, length, Any, map, Some, if◌then◌else◌, append_assoc}
 use Rattle.std.specs.List.{slice_get}
 use Rattle.std.specs.Map.Iter.{deref_pair}
 use Rattle.std.proofs.lemmas.List.{map-append}

@@ -1,4 +1,4 @@
-use Rattle.std.proofs.Common.{◌≡◌, ◌∷◌, [], ◌++◌, ◌<◌, sym, ap, ◌∙◌, refl, length, Any, map, Some, Ok, append_assoc}
+use Rattle.std.proofs.Common.{◌≡◌, ◌∷◌, ◌++◌, ◌<◌, sym, ap, ◌∙◌, refl, length, Any, map, Some, append_assoc}
 use Rattle.std.specs.List.{slice_get}
 use Rattle.std.specs.Map.Iter.{deref}
 use Rattle.std.proofs.lemmas.List.{map-append}
@@ -32,7 +32,7 @@ returns-in_err-encode g c =
     let exit = err_from_is_err_and c.from_residual.result c.from_residual.ensures.1 in
     let left = rest_more deref c.loop-label.label-iterator c.next.new.self c.next.result c.in-Some.label c.in-Some.is c.next.ensures.steps in
     let all : xs ≡ map deref c.loop-label.yielded ++ (x ∷ c.next.new.self) =
-        sym c.into_iter-label-iterator.ensures.into_iter_gives.0 ∙ rest_so_far deref c.loop-label.yielded c.into_iter-label-iterator.result c.loop-label.label-iterator c.loop-label.yielded_by ∙ ap (λ (t : _). map deref c.loop-label.yielded ++ t) left in
+    sym c.into_iter-label-iterator.ensures.into_iter_gives.0 ∙ rest_so_far deref c.loop-label.yielded c.into_iter-label-iterator.result c.loop-label.label-iterator c.loop-label.yielded_by ∙ ap (λ (t : _). map deref c.loop-label.yielded ++ t) left in
     let whole : map T.pieces xs ≡ map T.pieces (map deref c.loop-label.yielded) ++ (T.pieces x ∷ map T.pieces c.next.new.self) = ap (map T.pieces) all ∙ map-append T.pieces _ _ in
     let done = HandsLabels-then _ _ _ _ _ c.loop-label.invariant refl (rw c.in_err-encode.was at one) in
     rw (whole, exit.1, exit.2) (rw append_assoc at (HandsLabels-stopped (map T.pieces c.next.new.self) _ _ _ done))

@@ -1,4 +1,4 @@
-use Rattle.std.proofs.Common.{◌≡◌, ◌++◌, sym, ap, refl, ◌∙◌, Option, None, Some}
+use Rattle.std.proofs.Common.{◌++◌, sym, ◌∙◌}
 use Rattle.fm_text.specs.Samples.{labels_of}
 use Rattle.fm_encoder.specs.Labels.{handed_again}
 use Rattle.fm_encoder.proofs.NameLemmas.{AreLabels-read}

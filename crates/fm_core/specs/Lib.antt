@@ -1,0 +1,11 @@
+pub use Rattle.fm_grammar.specs.Exposition
+pub use Rattle.fm_grammar.specs.Document
+pub use Rattle.fm_grammar.specs.WellFormed
+pub use Rattle.fm_grammar.specs.Law
+pub use Rattle.fm_text.specs.Written
+pub use Rattle.fm_book.specs.Listing
+pub use Rattle.fm_book.specs.Tree
+pub use Rattle.fm_encoder.specs.Points
+pub use Rattle.fm_encoder.specs.Offers
+pub mod Admits
+pub mod Encoded

@@ -1,0 +1,13 @@
+pub use Rattle.fm_grammar.specs.Exposition
+pub use Rattle.fm_grammar.specs.WellFormed
+pub use Rattle.fm_grammar.specs.Document
+pub use Rattle.fm_grammar.specs.Law
+pub mod Errors
+pub mod Samples
+pub mod Families
+pub mod Same
+pub mod SameLaws
+pub mod Buffered
+pub mod Rows
+pub mod Sizes
+pub mod Written

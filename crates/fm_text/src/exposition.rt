@@ -1,0 +1,205 @@
+//! What was collected: families, their samples and the samples' exemplars.
+ghost use Rattle.std.specs.Prelude.{◌≡◌, length, slice_get};
+ghost use Rattle.std.specs.Option.{option_copied, option_map};
+ghost use Rattle.fm_grammar.specs.WellFormed.{IsWellFormed};
+ghost use Rattle.fm_text.specs.Samples.{labels_of, value_of, exemplar_of, sample_of, samples_of, shown_label, exemplar_at};
+
+use fm_grammar::{MetricType, SampleKind};
+use fm_raw::fixed::{Fixed, FixedSum};
+use std::marker::Model;
+
+/// The value of a sample.
+#[derive(Clone, Copy, Debug)]
+pub enum Value {
+    /// A whole number.
+    Whole(i128),
+    /// A number of millionths.
+    Fixed(FixedSum),
+    /// A number of milliseconds.
+    Millis(u128),
+}
+
+/// One observation behind a sample: its labels, its value and when it was made.
+#[derive(Debug, Drop)]
+pub struct Exemplar {
+    pub(crate) labels: Vec<(String, String)>,
+    pub(crate) value: Fixed,
+    pub(crate) time: Option<u128>,
+}
+
+/// One line of a family.
+#[derive(Debug, Drop)]
+pub struct Sample {
+    pub(crate) kind: SampleKind,
+    pub(crate) labels: Vec<(String, String)>,
+    pub(crate) value: Value,
+    pub(crate) time: Option<u128>,
+    pub(crate) exemplar: Option<Exemplar>,
+}
+
+/// A family with its samples.
+#[derive(Debug, Drop)]
+pub struct FamilySamples {
+    pub(crate) name: String,
+    pub(crate) metric_type: MetricType,
+    pub(crate) help: String,
+    pub(crate) unit: Option<String>,
+    pub(crate) samples: Vec<Sample>,
+}
+
+impl Model for FamilySamples {
+    ghost use Rattle.fm_grammar.specs.Exposition.{Family};
+
+    ghost Value = { Family };
+
+    ghost use Rattle.fm_text.specs.Families.{family_of};
+
+    ghost view = { family_of };
+}
+
+/// Families of samples. Each exposition is well formed.
+#[derive(Debug, Drop)]
+pub struct Exposition {
+    pub(crate) families: Vec<FamilySamples>,
+}
+
+impl Model for Exposition {
+    ghost use Rattle.std.specs.Prelude.{List};
+    ghost use Rattle.fm_grammar.specs.Exposition.{Family};
+    ghost use Rattle.fm_grammar.specs.WellFormed.{IsWellFormed};
+
+    ghost Value = { List Family };
+
+    ghost view = { λ a. a.families.items };
+
+    ghost invariant = { λ a. IsWellFormed a.families.items };
+}
+
+impl Exposition {
+    /// The families in order. They are well formed.
+    pub fn families(&self) -> &[FamilySamples]
+        ensures same { result.now ≡ self.now }
+        ensures well_formed { IsWellFormed self.now }
+    {
+        self.families.as_slice()
+    }
+}
+
+impl FamilySamples {
+    /// The family's name.
+    pub fn name(&self) -> &str
+        ensures { result.now ≡ self.now.name }
+    {
+        self.name.as_str()
+    }
+
+    /// What the family is.
+    pub fn metric_type(&self) -> MetricType
+        ensures { result ≡ self.now.metric_type }
+    {
+        self.metric_type
+    }
+
+    /// The family's help.
+    pub fn help(&self) -> &str
+        ensures { result.now ≡ self.now.help }
+    {
+        self.help.as_str()
+    }
+
+    /// The family's unit, or None where it has none.
+    pub fn unit(&self) -> Option<&str>
+        ensures { option_copied result ≡ self.now.unit }
+    {
+        self.unit.as_deref()
+    }
+
+    /// The samples in order.
+    pub fn samples(&self) -> &[Sample]
+        ensures { samples_of result.now ≡ self.now.samples }
+    {
+        self.samples.as_slice()
+    }
+}
+
+impl Sample {
+    /// What the sample says of its family.
+    pub fn kind(&self) -> SampleKind
+        ensures { result ≡ (sample_of self.now).kind }
+    {
+        self.kind
+    }
+
+    /// How many labels the sample has.
+    pub fn label_count(&self) -> usize
+        ensures { result ≡ length (sample_of self.now).labels }
+    {
+        self.labels.len()
+    }
+
+    /// The name and the value of the label at a place, or None where there is none.
+    pub fn label(&self, place: usize) -> Option<(&str, &str)>
+        ensures { option_map shown_label result ≡ slice_get (sample_of self.now).labels place }
+    {
+        label_at(&self.labels, place)
+    }
+
+    /// The sample's value.
+    pub fn value(&self) -> Value
+        ensures { value_of result ≡ (sample_of self.now).value }
+    {
+        self.value
+    }
+
+    /// The sample's timestamp in milliseconds, or None where it has none.
+    pub fn timestamp_millis(&self) -> Option<u128>
+        ensures { result ≡ (sample_of self.now).time }
+    {
+        self.time
+    }
+
+    /// The sample's exemplar, or None where it has none.
+    pub fn exemplar(&self) -> Option<&Exemplar>
+        ensures { option_map exemplar_at result ≡ (sample_of self.now).exemplar }
+    {
+        self.exemplar.as_ref()
+    }
+}
+
+impl Exemplar {
+    /// How many labels the exemplar has.
+    pub fn label_count(&self) -> usize
+        ensures { result ≡ length (exemplar_of self.now).labels }
+    {
+        self.labels.len()
+    }
+
+    /// The name and the value of the label at a place, or None where there is none.
+    pub fn label(&self, place: usize) -> Option<(&str, &str)>
+        ensures { option_map shown_label result ≡ slice_get (exemplar_of self.now).labels place }
+    {
+        label_at(&self.labels, place)
+    }
+
+    /// The exemplar's value.
+    pub fn value(&self) -> Fixed
+        ensures { result ≡ (exemplar_of self.now).value }
+    {
+        self.value
+    }
+
+    /// The exemplar's timestamp in milliseconds, or None where it has none.
+    pub fn timestamp_millis(&self) -> Option<u128>
+        ensures { result ≡ (exemplar_of self.now).time }
+    {
+        self.time
+    }
+}
+
+// The name and the value of the label at a place of a list.
+fn label_at(labels: &[(String, String)], place: usize) -> Option<(&str, &str)>
+    ensures { option_map shown_label result ≡ slice_get (labels_of labels.now) place }
+{
+    let label = labels.get(place)?;
+    Some((label.0.as_str(), label.1.as_str()))
+}
