@@ -18,6 +18,7 @@ pub mod point;
 pub mod value;
 
 pub use exemplar::{EncodeExemplar, ExemplarEncoder};
+pub use fm_text::EncodeError;
 pub use label::{EncodeLabel, EncodeLabelName, EncodeLabelValue, LabelEncoder, LabelSetEncoder};
 pub use label_set::{EncodeLabelSet, LabelSlice};
 pub use label_value::LabelStr;

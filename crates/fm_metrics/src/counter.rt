@@ -79,8 +79,8 @@ impl<N: EncodeCounterValue> EncodePoint for ConstCounter<N> {
 
     ghost may_fault = { λ c. N.may_fault c.total };
 
-    fn encode(&self, encoder: &mut PointEncoder) -> Result<(), EncodeError> {
-        encoder.encode_counter(&self.total, None::<&()>, self.created)
+    fn encode(&self, points: &mut PointEncoder) -> Result<(), EncodeError> {
+        points.encode_counter(&self.total, None::<&()>, self.created)
     }
 }
 

@@ -53,8 +53,8 @@ impl<N: EncodeGaugeValue> EncodePoint for ConstGauge<N> {
 
     ghost may_fault = { λ g. N.may_fault g.value };
 
-    fn encode(&self, encoder: &mut PointEncoder) -> Result<(), EncodeError> {
-        encoder.encode_gauge(&self.value)
+    fn encode(&self, points: &mut PointEncoder) -> Result<(), EncodeError> {
+        points.encode_gauge(&self.value)
     }
 }
 

@@ -1,0 +1,25 @@
+-- What a run of the program leaves on its first writer, and its status.
+use Rattle.std.specs.Prelude.{◌≡◌, ℕ, List, Option, Result, Ok, Err, ◌⊎◌}
+use Rattle.std.specs.Io.KnownBytes.{Keeps}
+use Rattle.fastmetrics.specs.Exposition.{Exposition}
+use Rattle.fastmetrics.specs.Encoded.{WritesAdmitted, BeginsAdmitted}
+use Rattle.expose.specs.declared.output.Fault.{Fault}
+use Rattle.expose.specs.declared.output.Fault.TheVariants.{UnknownScene}
+
+-- the status for a fault
+abbrev pub status_of : Fault → ℕ
+status_of UnknownScene = 2
+status_of _ = 1
+
+-- At `Ok` the document of an exposition that is admitted was written, else nothing or a beginning of such a document.
+abbrev pub PrintsDocument : (Exposition → Type 0) → Option (List ℕ) → Option (List ℕ) → Result (Unit {0}) Fault → Type 0
+PrintsDocument IsAdmitted old new (Ok _) = WritesAdmitted IsAdmitted old new
+PrintsDocument IsAdmitted old new (Err _) = Keeps old new ⊎ BeginsAdmitted IsAdmitted old new
+
+-- For a registry, the document of an exposition that it admits and 0, or nothing or a beginning of such a document and 1.
+-- Nothing and the fault's status where there is no registry.
+abbrev pub Finishes : {R : Type 0} → (R → Exposition → Type 0) → Option (List ℕ) → Option (List ℕ) → Result R Fault → ℕ → Type 0
+Finishes IsAdmitted old new (Ok registry) status =
+    ((status ≡ 0) × WritesAdmitted (IsAdmitted registry) old new)
+    ⊎ ((status ≡ 1) × (Keeps old new ⊎ BeginsAdmitted (IsAdmitted registry) old new))
+Finishes IsAdmitted old new (Err fault) status = (status ≡ status_of fault) × Keeps old new
