@@ -1,11 +1,11 @@
 -- The names of labels, and that clean labels have valid and different names.
-use Rattle.std.proofs.Common.{◌≡◌, ◌≢◌, ℕ, ◌<◌, ◌+◌, zero, suc, List, [], ◌∷◌, ◌++◌, length, get_or, take, map, inl, inr, refl, sym, ap, subst, ◌∙◌, arith, append-nil, append_assoc, String, Global, string_bytes, Contains, Result, Ok, Err, MatchResult, IfOk}
+use Rattle.std.proofs.Common.{◌≡◌, ◌≢◌, ℕ, ◌<◌, ◌+◌, zero, suc, List, [], ◌∷◌, ◌++◌, length, get_or, take, map, ◌⊎◌, inl, inr, refl, sym, ap, subst, ◌∙◌, arith, append-nil, append_assoc, String, Global, string_bytes, Contains, Result, Ok, Err, MatchResult, IfOk, codes}
 use Rattle.std.specs.List.{AllByRecursion}
 use Rattle.std.proofs.lemmas.List.{take_more}
 use Rattle.std.proofs.lemmas.List.Elements.{Contains-append_right, Contains-append_cases}
 use Rattle.fm_grammar.specs.declared.MetricType.{MetricType}
 use Rattle.fm_grammar.specs.Exposition.{Text, Label}
-use Rattle.fm_grammar.specs.Names.{IsLabelName, AllDifferent}
+use Rattle.fm_grammar.specs.Names.{IsLowerLetter, IsDigit, IsWord, BeginsWithLetter, further_words, IsSnakeCase, IsLabelByte, IsLabelName, AllDifferent}
 use Rattle.fm_grammar.specs.WellFormed.{AreLabels}
 use Rattle.fm_text.specs.Samples.{labels_of}
 use Rattle.fm_encoder.specs.Labels.{HandedLabel, NamePiece, ValuePiece, label_names, NameFits, LabelClean, LabelsClean, written, all_written, handed_again}
@@ -85,3 +85,41 @@ handed_again-pairs (l ∷ ls) = ap (λ (hs : List HandedLabel). (NamePiece (stri
 pub AreLabels-read : {L E : Type 0} (items : L → List Label) (type : MetricType) (all : List HandedLabel) (Refused : E → Type 0) (read : Result L E) → MatchResult read (λ ls. LabelsClean type [] all × (items ls ≡ all_written all)) Refused → IfOk read (λ ls. AreLabels (items ls))
 AreLabels-read items type all Refused (Ok ls) h = subst AreLabels (sym h.1) (AreLabels-written type all h.0)
 AreLabels-read items type all Refused (Err e) h = tt
+
+-- labels that are clean behind well-formed ones
+pub AreLabels-behind : (type : MetricType) (before ls : List Label) (labels : List HandedLabel) → AreLabels before → LabelsClean type before labels → ls ≡ before ++ all_written labels → AreLabels ls
+AreLabels-behind type before ls labels h clean is = subst AreLabels (sym is) (AreLabels-after type before labels h clean)
+
+all_bytes-append : (xs ys : Text) → AllByRecursion IsLabelByte xs → AllByRecursion IsLabelByte ys → AllByRecursion IsLabelByte (xs ++ ys)
+all_bytes-append [] ys h more = more
+all_bytes-append (x ∷ xs) ys h more = (h.0, all_bytes-append xs ys h.1 more)
+
+word_bytes : (word : Text) → AllByRecursion (λ b. IsLowerLetter b ⊎ IsDigit b) word → AllByRecursion IsLabelByte word
+word_bytes [] h = tt
+word_bytes (b ∷ word) h = (elim h.0 as (λ _. IsLabelByte b) [ inl letter ↦ inl (inl letter) | inr digit ↦ inr digit ], word_bytes word h.1)
+
+whole_word_bytes : (word : Text) → IsWord word → AllByRecursion IsLabelByte word
+whole_word_bytes [] h = absurd h
+whole_word_bytes (b ∷ word) h = word_bytes (b ∷ word) h
+
+further_bytes : (words : List Text) → AllByRecursion IsWord words → AllByRecursion IsLabelByte (further_words words)
+further_bytes [] h = tt
+further_bytes (word ∷ words) h =
+    all_bytes-append (codes "_" ++ word) (further_words words) (inl (inr (inr refl)), whole_word_bytes word h.0) (further_bytes words h.1)
+
+label_name_of_words : (first : Text) (further : List Text) → IsWord first → BeginsWithLetter first → AllByRecursion IsWord further → IsLabelName (first ++ further_words further)
+label_name_of_words [] further word letter words = absurd word
+label_name_of_words (b ∷ rest) further word letter words =
+    (inl letter, all_bytes-append rest (further_words further) (word_bytes rest word.1) (further_bytes further words))
+
+-- a name in snake case is a label name
+pub label_name_of_snake_case : (name : Text) → IsSnakeCase name → IsLabelName name
+label_name_of_snake_case name h = subst IsLabelName (sym h.is) (label_name_of_words h.first h.further h.word h.letter h.words)
+
+-- a label of a family's name, behind labels that have another
+pub AreLabels-named : (before ls : List Label) (l : Label) → AreLabels before → IsSnakeCase l.name → ¬ (Contains (label_names before) l.name) → ls ≡ before ++ l ∷ [] → AreLabels ls
+AreLabels-named before ls l h snake fresh is =
+    subst AreLabels (sym is) (record {
+      names = valid-push before l h.names (label_name_of_snake_case l.name snake);
+      different = subst AllDifferent (sym (names_of-append before (l ∷ []))) (different-push (label_names before) l.name h.different fresh);
+    })

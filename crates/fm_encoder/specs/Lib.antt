@@ -2,6 +2,7 @@ pub use Rattle.fm_grammar.specs.Exposition
 pub use Rattle.fm_grammar.specs.WellFormed
 pub mod Labels
 pub mod Points
+pub mod States
 pub mod Gathered
 pub mod Hands
 pub mod Steps

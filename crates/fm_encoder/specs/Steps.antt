@@ -1,12 +1,12 @@
 -- What the encoders' own steps do.
-use Rattle.std.specs.Prelude.{◌≡◌, ◌≤◌, List, [], ◌∷◌, ◌++◌, length, Option, Some, None, Result, Ok, Err, ◌⊎◌, Contains, IfSome}
+use Rattle.std.specs.Prelude.{◌≡◌, ◌≤◌, List, [], ◌∷◌, ◌++◌, length, Option, Some, None, Result, Ok, Err, ◌⊎◌, Contains, IfSome, Bool, true, false}
 use Rattle.fm_grammar.specs.declared.MetricType.{MetricType}
 use Rattle.fm_grammar.specs.declared.SampleKind.{SampleKind}
 use Rattle.fm_grammar.specs.Exposition.{Value, Whole, Fixed, Millis, Exemplar, Sample}
 use Rattle.fm_grammar.specs.WellFormed.{ValueFits, ValueSuits, kinds_of, ExemplarAllowed, IsExemplar}
 use Rattle.fm_text.specs.declared.error.EncodeError.{EncodeError}
-use Rattle.fm_text.specs.declared.error.EncodeError.TheVariants.{Memory, MalformedLabel, ValueTwice, MissingValue, KindMismatch}
-use Rattle.fm_encoder.specs.Labels.{HandedLabel, LabelsFault, LabelsClean, LabelClean, IsMalformed, written, all_written}
+use Rattle.fm_text.specs.declared.error.EncodeError.TheVariants.{Memory, DuplicateLabel, MalformedLabel, ValueTwice, MissingValue, KindMismatch}
+use Rattle.fm_encoder.specs.Labels.{HandedLabel, label_names, LabelsFault, LabelsClean, LabelClean, IsMalformed, written, all_written}
 use Rattle.fm_encoder.specs.Gathered.{GatheredPieces, GatheredPoints, own_refusal, OwnRefusal}
 use Rattle.fm_encoder.specs.Hands.{SamePlace}
 
@@ -55,6 +55,19 @@ pub record PushesSample (sample : Sample) (old new : GatheredPoints) : Type 0 wh
   pub place : SamePlace old new
   pub samples : new.refused ≡ None → new.samples ≡ old.samples ++ sample ∷ []
   pub refused : (k : EncodeError) → new.refused ≡ Some k → k ≡ Memory
+
+-- several samples more, or want of memory
+pub record PushesSamples (pushed : List Sample) (old new : GatheredPoints) : Type 0 where
+  pub place : SamePlace old new
+  pub samples : new.refused ≡ None → new.samples ≡ old.samples ++ pushed
+  pub refused : (k : EncodeError) → new.refused ≡ Some k → k ≡ Memory
+
+-- The test of a state set's labels: they may be written where there are no states, or no common label has the family's name.
+pub record TestsStates (is_empty : Bool) (old new : GatheredPoints) : Type 0 where
+  pub place : SamePlace old new
+  pub samples : new.samples ≡ old.samples
+  pub passed : new.refused ≡ None → (is_empty ≡ true) ⊎ (¬ (Contains (label_names old.common) old.setting.name))
+  pub refused : (k : EncodeError) → new.refused ≡ Some k → (k ≡ DuplicateLabel) × (is_empty ≡ false) × Contains (label_names old.common) old.setting.name
 
 -- The labels of the next points are read: they are clean and written out, or their refusal waits.
 pub record BeginsMember (labels : List HandedLabel) (MayFault : Type 0) (old new : GatheredPoints) : Type 0 where

@@ -93,13 +93,22 @@ impl Model for LabelEncoder {
 }
 
 impl LabelEncoder {
-    pub(crate) fn new(alloc: Global, metric_type: MetricType) -> LabelEncoder
-        ensures { result ≡ record { metric_type = metric_type; labels = []; pieces = []; refused = None } }
+    pub(crate) fn behind(
+        alloc: Global,
+        metric_type: MetricType,
+        labels: Vec<(String, String)>,
+    ) -> LabelEncoder
+        ensures { result ≡ record {
+          metric_type = metric_type;
+          labels = labels_of labels.items;
+          pieces = [];
+          refused = None;
+        } }
     {
         LabelEncoder {
             alloc,
             metric_type,
-            labels: Vec::new(alloc),
+            labels,
             name: None,
             value: None,
             refused: None,
@@ -233,8 +242,23 @@ impl LabelSetEncoder {
     pub(crate) fn new(alloc: Global, metric_type: MetricType) -> LabelSetEncoder
         ensures { result ≡ record { metric_type = metric_type; labels = []; refused = None } }
     {
+        LabelSetEncoder::behind(alloc, metric_type, Vec::new(alloc))
+    }
+
+    // An encoder that has these labels already.
+    pub(crate) fn behind(
+        alloc: Global,
+        metric_type: MetricType,
+        labels: Vec<(String, String)>,
+    ) -> LabelSetEncoder
+        ensures { result ≡ record {
+          metric_type = metric_type;
+          labels = labels_of labels.items;
+          refused = None;
+        } }
+    {
         LabelSetEncoder {
-            label: LabelEncoder::new(alloc, metric_type),
+            label: LabelEncoder::behind(alloc, metric_type, labels),
         }
     }
 

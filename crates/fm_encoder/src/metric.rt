@@ -1,13 +1,15 @@
 //! Metrics: what offers members, and the encoder that gathers a family's samples.
-ghost use Rattle.std.specs.Prelude.{◌≡◌, ◌++◌, ℕ, List, [], ◌∷◌, ◌⊎◌, MatchResult, MatchOption, Option, None, Some, IsTrue, IfSome, IfOk, IfErr, Ok, Err, string_bytes};
+ghost use Rattle.std.specs.Prelude.{◌≡◌, ◌++◌, ℕ, List, [], ◌∷◌, ◌⊎◌, MatchResult, MatchOption, Option, None, Some, IsTrue, IfSome, IfOk, IfErr, Ok, Err, map, string_bytes};
 ghost use Rattle.std.specs.Option.{option_map, option_map_or};
 ghost use Rattle.std.specs.List.{AllByRecursion};
 ghost use Rattle.fm_grammar.specs.declared.MetricType.{MetricType};
+ghost use Rattle.fm_grammar.specs.Names.{IsSnakeCase};
 ghost use Rattle.fm_grammar.specs.WellFormed.{AreMillis, IsSample};
 ghost use Rattle.fm_text.specs.declared.error.EncodeError.{EncodeError};
 ghost use Rattle.fm_text.specs.Samples.{labels_of, samples_of};
 ghost use Rattle.fm_encoder.specs.Labels.{LabelsClean, LabelsFault, all_written, handed_again};
-ghost use Rattle.fm_encoder.specs.Points.{Member, UnknownPoint, GaugePoint, CounterPoint, millis};
+ghost use Rattle.fm_encoder.specs.Points.{Member, UnknownPoint, GaugePoint, CounterPoint, StateSetPoint, InfoPoint, millis};
+ghost use Rattle.fm_encoder.specs.States.{state_of};
 ghost use Rattle.fm_encoder.specs.Gathered.{OwnRefusal, answer, own_refusal};
 ghost use Rattle.fm_encoder.specs.Hands.{HandsLabels, HandsMembers, MembersOf};
 
@@ -141,6 +143,32 @@ impl<V: EncodeCounterValue, E: EncodeExemplar> EncodePoint for CounterTotal<'_, 
     }
 }
 
+// The point of states.
+#[derive(Drop)]
+struct States<'a>(&'a [(&'a str, bool)]);
+
+impl EncodePoint for States<'_> {
+    ghost points = { λ p ps. ps ≡ StateSetPoint (map state_of p.0.now) ∷ [] };
+
+    fn encode(&self, encoder: &mut PointEncoder) -> Result<(), EncodeError> {
+        encoder.encode_states(self.0)
+    }
+}
+
+// The point of an info's labels.
+#[derive(Drop)]
+struct InfoLabels<'a, LS>(&'a LS);
+
+impl<LS: EncodeLabelSet> EncodePoint for InfoLabels<'_, LS> {
+    ghost points = { λ p ps. ps ≡ InfoPoint (LS.labels p.0.now) ∷ [] };
+
+    ghost may_fault = { λ p. LS.may_fault p.0.now };
+
+    fn encode(&self, encoder: &mut PointEncoder) -> Result<(), EncodeError> {
+        encoder.encode_info(self.0)
+    }
+}
+
 /// Gathers the samples of a metric's family.
 #[derive(Drop)]
 pub struct MetricEncoder {
@@ -171,7 +199,8 @@ impl MetricEncoder {
         constants: &[(String, String)],
         time: Option<u128>,
     ) -> Result<MetricEncoder, EncodeError>
-        requires { IfSome time AreMillis }
+        requires name { IsSnakeCase (string_bytes name) }
+        requires time { IfSome time AreMillis }
         ensures made { IfOk result (λ encoder. encoder ≡ record {
           context = record {
             setting = record { name = string_bytes name; metric_type = metric_type; time = time };
@@ -253,6 +282,28 @@ impl MetricEncoder {
             created,
         };
         self.encode(&(), &point)
+    }
+
+    /// Takes the point of a state set without member labels, as `PointEncoder::encode_stateset` does.
+    pub fn encode_stateset(&mut self, states: Vec<(&str, bool)>) -> Result<(), EncodeError>
+        ensures handed { HandsMembers (λ ms. ms ≡ record {
+          labels = [];
+          point = StateSetPoint (map state_of states.entry.items);
+        } ∷ []) ⊥ self.old self.new result }
+        ensures answered { result ≡ answer self.new.refused }
+    {
+        self.encode(&(), &States(states.as_slice()))
+    }
+
+    /// Takes the point of an info without member labels, as `PointEncoder::encode_info` does.
+    pub fn encode_info<LS: EncodeLabelSet>(&mut self, labels: &LS) -> Result<(), EncodeError>
+        ensures handed { HandsMembers (λ ms. ms ≡ record {
+          labels = [];
+          point = InfoPoint (LS.labels labels.now);
+        } ∷ []) (LS.may_fault labels.now) self.old self.new result }
+        ensures answered { result ≡ answer self.new.refused }
+    {
+        self.encode(&(), &InfoLabels(labels))
     }
 
     /// The family's name and its samples, where nothing was refused and the metric answered `visited`; else the first

@@ -1,16 +1,23 @@
 //! Points: what hands them over, and the encoder that gathers their samples.
-ghost use Rattle.std.specs.Prelude.{◌≡◌, ◌⊎◌, List, [], ◌∷◌, ◌++◌, MatchResult, MatchOption, None, Some, IfOk, IfErr, IfSome, string_bytes};
+ghost use Rattle.std.specs.Prelude.{◌≡◌, ◌⊎◌, List, [], ◌∷◌, ◌++◌, MatchResult, MatchOption, None, Some, IfOk, IfErr, IfSome, Contains, map, string_bytes};
 ghost use Rattle.std.specs.Option.{option_map, option_map_or};
 ghost use Rattle.std.specs.List.{AllByRecursion};
+ghost use Rattle.fm_grammar.specs.Names.{IsSnakeCase};
+ghost use Rattle.fm_grammar.specs.declared.MetricType.{MetricType};
 ghost use Rattle.fm_grammar.specs.WellFormed.{AreLabels, AreMillis, IsSample};
 ghost use Rattle.fm_text.specs.declared.error.EncodeError.{EncodeError};
 ghost use Rattle.fm_text.specs.Samples.{labels_of, samples_of, value_of, exemplar_of};
-ghost use Rattle.fm_encoder.specs.Points.{Point, UnknownPoint, GaugePoint, CounterPoint, millis};
-ghost use Rattle.fm_encoder.specs.Gathered.{answer};
+ghost use Rattle.fm_encoder.specs.Points.{Point, UnknownPoint, GaugePoint, CounterPoint, StateSetPoint, InfoPoint, state_sample, millis};
+ghost use Rattle.fm_encoder.specs.Labels.{LabelsClean, LabelsFault, all_written, label_names};
+ghost use Rattle.fm_encoder.specs.States.{state_of};
+ghost use Rattle.fm_encoder.specs.Gathered.{OwnRefusal, answer};
 ghost use Rattle.fm_encoder.specs.Hands.{HandsPoints};
-ghost use Rattle.fm_encoder.specs.Steps.{FitsType, BeginsPoint, PushesSample, EndsPoints, IsNumber};
+ghost use Rattle.fm_encoder.specs.Steps.{FitsType, BeginsPoint, PushesSample, PushesSamples, TestsStates, EndsPoints, IsNumber};
 
 use crate::exemplar::{EncodeExemplar, exemplar_if_any};
+use crate::label::LabelSetEncoder;
+use crate::label_set::EncodeLabelSet;
+use crate::names::has_name;
 use crate::own::own_refusal;
 use crate::value::{
     EncodeCounterValue, EncodeGaugeValue, EncodeUnknownValue, counter_number, gauge_number,
@@ -102,6 +109,45 @@ pub(crate) fn cloned_labels(
     Ok(clones)
 }
 
+// The labels, and one more of this name and value.
+fn labels_with(
+    alloc: Global,
+    labels: &[(String, String)],
+    name: &str,
+    value: &str,
+) -> Result<Vec<(String, String)>, EncodeError>
+    ensures ok { IfOk result (λ ls. labels_of ls.items ≡ labels_of labels.now ++ record { name = name.now; value = value.now } ∷ []) }
+    ensures err { IfErr result (λ e. e ≡ EncodeError.Memory) }
+{
+    let mut all = cloned_labels(alloc, labels)?;
+    let (Ok(name), Ok(value)) = (String::from_str(alloc, name), String::from_str(alloc, value)) else {
+        return Err(EncodeError::Memory);
+    };
+    if let Err(_) = all.push((name, value)) {
+        return Err(EncodeError::Memory);
+    }
+    Ok(all)
+}
+
+// The labels, and those that a label set hands over behind them.
+fn labels_behind<LS: EncodeLabelSet>(
+    alloc: Global,
+    metric_type: MetricType,
+    common: Vec<(String, String)>,
+    labels: &LS,
+) -> Result<Vec<(String, String)>, EncodeError>
+    ensures { MatchResult result
+        (λ ls. LabelsClean metric_type (labels_of common.items) (LS.labels labels.now) × (labels_of ls.items ≡ labels_of common.items ++ all_written (LS.labels labels.now)))
+        (λ k. OwnRefusal (LS.may_fault labels.now) k ⊎ LabelsFault k metric_type (labels_of common.items) (LS.labels labels.now)) }
+{
+    if labels.is_empty() {
+        return Ok(common);
+    }
+    let mut encoder = LabelSetEncoder::behind(alloc, metric_type, common);
+    let visited = labels.encode(&mut encoder);
+    encoder.end(visited)
+}
+
 impl PointEncoder {
     pub(crate) fn new(
         alloc: Global,
@@ -109,7 +155,8 @@ impl PointEncoder {
         metric_type: MetricType,
         time: Option<u128>,
     ) -> PointEncoder
-        requires { IfSome time AreMillis }
+        requires name { IsSnakeCase (string_bytes name) }
+        requires time { IfSome time AreMillis }
         ensures { result ≡ record {
           setting = record { name = string_bytes name; metric_type = metric_type; time = time };
           common = [];
@@ -155,6 +202,33 @@ impl PointEncoder {
         Ok(())
     }
 
+    // Adds a sample under these labels.
+    fn push_labeled(
+        &mut self,
+        kind: SampleKind,
+        labels: Vec<(String, String)>,
+        value: Value,
+        exemplar: Option<Exemplar>,
+    ) -> Result<(), EncodeError>
+        requires accepting { self.old.refused ≡ None }
+        requires labels { AreLabels (labels_of labels.items) }
+        requires fits { FitsType self.old.setting.metric_type kind (value_of value) (option_map exemplar_of exemplar) }
+        ensures pushed { PushesSample (record {
+          kind = kind;
+          labels = labels_of labels.items;
+          value = value_of value;
+          time = self.old.setting.time;
+          exemplar = option_map exemplar_of exemplar;
+        }) self.old self.new }
+        ensures answered { result ≡ answer self.new.refused }
+    {
+        let sample = make::sample(kind, labels, value, self.time, exemplar);
+        if let Err(_) = self.samples.push(sample) {
+            return self.refuse(EncodeError::Memory);
+        }
+        Ok(())
+    }
+
     // Adds a sample under the common labels.
     fn push_sample(
         &mut self,
@@ -176,11 +250,7 @@ impl PointEncoder {
         let Ok(labels) = cloned_labels(self.alloc, self.common.as_slice()) else {
             return self.refuse(EncodeError::Memory);
         };
-        let sample = make::sample(kind, labels, value, self.time, exemplar);
-        if let Err(_) = self.samples.push(sample) {
-            return self.refuse(EncodeError::Memory);
-        }
-        Ok(())
+        self.push_labeled(kind, labels, value, exemplar)
     }
 
     /// Takes an unknown metric's point. It is refused as `KindMismatch` in a family of another type, then for its
@@ -238,6 +308,82 @@ impl PointEncoder {
                 None,
             ),
             None => Ok(()),
+        }
+    }
+
+    /// Takes a state set's point: each state's text, and whether it is on. A state's label has the family's name; where a
+    /// common label has it too, the point is refused as `DuplicateLabel`. It is refused as `KindMismatch` in a family of
+    /// another type, then for its labels, and may find no memory.
+    pub fn encode_stateset(&mut self, states: Vec<(&str, bool)>) -> Result<(), EncodeError>
+        ensures handed { HandsPoints (λ ps. ps ≡ StateSetPoint (map state_of states.entry.items) ∷ []) ⊥ self.old self.new result }
+        ensures answered { result ≡ answer self.new.refused }
+    {
+        self.encode_states(states.as_slice())
+    }
+
+    pub(crate) fn encode_states(&mut self, states: &[(&str, bool)]) -> Result<(), EncodeError>
+        ensures handed { HandsPoints (λ ps. ps ≡ StateSetPoint (map state_of states.now) ∷ []) ⊥ self.old self.new result }
+        ensures answered { result ≡ answer self.new.refused }
+    {
+        self.begin_point(MetricType::StateSet)?;
+        self.test_states(states.is_empty())?;
+        self.push_states(states)
+    }
+
+    // Refuses the states, unless there are none, where a common label has the family's name.
+    fn test_states(&mut self, is_empty: bool) -> Result<(), EncodeError>
+        requires accepting { self.old.refused ≡ None }
+        ensures tested { TestsStates is_empty self.old self.new }
+        ensures answered { result ≡ answer self.new.refused }
+    {
+        if !is_empty && has_name(self.common.as_slice(), self.name.as_str()) {
+            return self.refuse(EncodeError::DuplicateLabel);
+        }
+        Ok(())
+    }
+
+    // Adds a sample for each state, in order.
+    fn push_states(&mut self, states: &[(&str, bool)]) -> Result<(), EncodeError>
+        requires accepting { self.old.refused ≡ None }
+        requires state_set { self.old.setting.metric_type ≡ MetricType.StateSet }
+        requires fresh { (states.now ≡ []) ⊎ (¬ (Contains (label_names self.old.common) self.old.setting.name)) }
+        ensures pushed { PushesSamples (map (state_sample self.old.setting self.old.common) (map state_of states.now)) self.old self.new }
+        ensures answered { result ≡ answer self.new.refused }
+    {
+        for state in states {
+            self.push_state(state.0, state.1)?;
+        }
+        Ok(())
+    }
+
+    // Adds the sample of one state, under a label of the family's name.
+    fn push_state(&mut self, text: &str, is_on: bool) -> Result<(), EncodeError>
+        requires accepting { self.old.refused ≡ None }
+        requires state_set { self.old.setting.metric_type ≡ MetricType.StateSet }
+        requires fresh { ¬ (Contains (label_names self.old.common) self.old.setting.name) }
+        ensures pushed { PushesSample (state_sample self.old.setting self.old.common (text.now, is_on)) self.old self.new }
+        ensures answered { result ≡ answer self.new.refused }
+    {
+        let Ok(labels) = labels_with(self.alloc, self.common.as_slice(), self.name.as_str(), text) else {
+            return self.refuse(EncodeError::Memory);
+        };
+        let value = Value::Whole(if is_on { 1 } else { 0 });
+        self.push_labeled(SampleKind::Plain, labels, value, None)
+    }
+
+    /// Takes an info's point: its labels, which stand behind the common ones. It is refused as `KindMismatch` in a family of
+    /// another type, then for the common labels, then for its own. It may find no memory.
+    pub fn encode_info<LS: EncodeLabelSet>(&mut self, labels: &LS) -> Result<(), EncodeError>
+        ensures handed { HandsPoints (λ ps. ps ≡ InfoPoint (LS.labels labels.now) ∷ []) (LS.may_fault labels.now) self.old self.new result }
+        ensures answered { result ≡ answer self.new.refused }
+    {
+        self.begin_point(MetricType::Info)?;
+        let Ok(common) = cloned_labels(self.alloc, self.common.as_slice()) else {
+            return self.refuse(EncodeError::Memory);
+        };
+        match labels_behind(self.alloc, self.metric_type, common, labels) {
+            Ok(labels) => self.push_labeled(SampleKind::Info, labels, Value::Whole(1), None),
+            Err(error) => self.refuse(error),
         }
     }
 

@@ -4,6 +4,7 @@ ghost use Rattle.std.specs.Option.{option_map, option_copied};
 ghost use Rattle.std.specs.Io.KnownBytes.{Keeps};
 ghost use Rattle.fm_grammar.specs.Exposition.{Exposition as Families};
 ghost use Rattle.std.specs.List.{AllByRecursion};
+ghost use Rattle.fm_grammar.specs.Names.{IsSnakeCase};
 ghost use Rattle.fm_grammar.specs.WellFormed.{AreMillis, IsSample, IsFamily, IsWellFormed};
 ghost use Rattle.fm_text.specs.declared.error.EncodeError.{EncodeError};
 ghost use Rattle.fm_text.specs.Samples.{labels_of, samples_of};
@@ -106,6 +107,7 @@ fn samples_of_metric(
     constants: &[(String, String)],
     metric: &Box<dyn EncodeMetric>,
 ) -> Result<(String, Vec<Sample>), EncodeError>
+    requires { IsSnakeCase (string_bytes name) }
     ensures { MatchResult result
         (λ made. (string_bytes made.0 ≡ string_bytes name)
         × AdmitsSamples (offers metric.now) (stamps metric.now) (string_bytes name) metric_type (labels_of constants.now) (samples_of made.1.items)

@@ -1,0 +1,14 @@
+use Rattle.std.proofs.Common.{◌≡◌, List, ◌++◌, ◌∷◌, [], subst, sym, ap, ◌∙◌, string_bytes, Contains}
+use Rattle.fm_grammar.specs.Exposition.{Label}
+use Rattle.fm_text.specs.Samples.{labels_of}
+use Rattle.fm_encoder.specs.Labels.{label_names}
+use Rattle.fm_encoder.specs.Gathered.{GatheredPoints}
+use Rattle.fm_encoder.proofs.NameLemmas.{AreLabels-named}
+use Rattle.fm_encoder.proofs.point.PointEncoder.push_state.Goals as goal
+
+pub push_labeled-requires-clause-labels : goal.push_labeled-requires-clause-labels
+push_labeled-requires-clause-labels c =
+    let inside = c.self.inside in
+    let fresh = subst (λ (g : GatheredPoints). ¬ (Contains (label_names g.common) g.setting.name)) (sym c.self.view_is) c.requires.fresh in
+    let is = rw (c.as_slice.ensures.value, c.as_str.ensures.value) at c.in-Ok.ensures.ok in
+    AreLabels-named (labels_of inside.common.items) _ (record { name = string_bytes inside.name; value = c.args.text.now }) c.self.invariant.labels c.self.invariant.name fresh is

@@ -1,0 +1,66 @@
+-- The metrics of a registry, as a map by their metadata.
+use Rattle.std.proofs.Common.{◌≡◌, Bool, true, false, ◌&&◌, List, [], ◌∷◌, ◌++◌, Option, None, Some, is_some, refl, ap}
+use Rattle.std.specs.Bool.{Decides}
+use Rattle.std.specs.Option.{option_map}
+use Rattle.std.specs.String.{string_bytes}
+use Rattle.std.specs.Str.{bytes_eq}
+use Rattle.std.specs.Map.{lookup}
+use Rattle.std.proofs.lemmas.Bool.Decides.{Decides-and, Decides-like, Decides-at, same_from_decides}
+use Rattle.std.proofs.lemmas.Slice.Eq.{bytes_eq-Decides}
+use Rattle.std.proofs.lemmas.List.{map-append}
+use Rattle.fm_grammar.specs.contracts.MetricTypePartialEq.TheImpl as types
+use Rattle.fm_raw.specs.Units.{SeenUnit, seen_unit}
+use Rattle.fm_raw.specs.Metadata.{IsSameMetric}
+use Rattle.fm_raw.specs.declared.metadata.Metadata.{Metadata}
+use Rattle.fm_raw.specs.contracts.metadata.MetadataPartialEq.TheImpl as key
+use Rattle.fm_raw.proofs.MetadataLemmas.{metadata_decide, types_decide}
+use Rattle.fm_book.specs.Registration.{Registration, is_same_metric, same_type, same_bool, same_unit}
+use Rattle.fm_book.specs.Answer.{has_metric}
+use Rattle.fm_book.proofs.MetricLemmas as book
+use Rattle.fm_registry.specs.View.{seen_metric, seen_metrics}
+
+-- units
+
+same_bool-Decides : (a b : Bool) → Decides (same_bool a b) (a ≡ b)
+same_bool-Decides true true = (λ e. refl, λ e. refl)
+same_bool-Decides true false = (λ e. absurd (cc), λ e. absurd (cc))
+same_bool-Decides false true = (λ e. absurd (cc), λ e. absurd (cc))
+same_bool-Decides false false = (λ e. refl, λ e. refl)
+
+one_unit : (u v : SeenUnit) → (u.own ≡ v.own) × (u.text ≡ v.text) → u ≡ v
+one_unit u v h = λ i. record { own = h.0 i; text = h.1 i }
+
+unit-Decides : (u v : SeenUnit) → Decides (same_bool u.own v.own && bytes_eq u.text v.text) (u ≡ v)
+unit-Decides u v =
+    Decides-like (same_bool u.own v.own && bytes_eq u.text v.text) (one_unit u v) (λ e. (ap (λ s. s.own) e, ap (λ s. s.text) e))
+    (Decides-and (same_bool u.own v.own) (bytes_eq u.text v.text) (same_bool-Decides u.own v.own) (bytes_eq-Decides u.text v.text))
+
+same_unit-Decides : (u v : Option SeenUnit) → Decides (same_unit u v) (u ≡ v)
+same_unit-Decides None None = (λ e. refl, λ e. refl)
+same_unit-Decides None (Some v) = (λ e. absurd (cc), λ e. absurd (cc))
+same_unit-Decides (Some u) None = (λ e. absurd (cc), λ e. absurd (cc))
+same_unit-Decides (Some u) (Some v) = Decides-like (same_bool u.own v.own && bytes_eq u.text v.text) (λ e. ap Some e) (λ e. cc) (unit-Decides u v)
+
+-- metrics
+
+module _ {M : Type 0} where
+  same_metric-Decides : (a b : Metadata) (x y : M) → Decides (is_same_metric (seen_metric a x) (seen_metric b y)) (IsSameMetric a b)
+  same_metric-Decides a b x y =
+      let types : Decides (same_type a.metric_type b.metric_type) (a.metric_type ≡ b.metric_type) =
+      Decides-at (same_type a.metric_type b.metric_type) (types.ghosts.eq a.metric_type b.metric_type) (book.same_type-eq a.metric_type b.metric_type) (types_decide a.metric_type b.metric_type) in
+      let parts = Decides-and (bytes_eq (string_bytes a.name) (string_bytes b.name)) (same_type a.metric_type b.metric_type && same_unit (option_map seen_unit a.unit) (option_map seen_unit b.unit))
+      (bytes_eq-Decides (string_bytes a.name) (string_bytes b.name))
+      (Decides-and (same_type a.metric_type b.metric_type) (same_unit (option_map seen_unit a.unit) (option_map seen_unit b.unit)) types (same_unit-Decides (option_map seen_unit a.unit) (option_map seen_unit b.unit))) in
+      Decides-like (is_same_metric (seen_metric a x) (seen_metric b y)) (λ h. (h.0, h.1.0, h.1.1)) (λ h. (h.0, (h.1, h.2))) parts
+
+  -- metrics are the same where their metadata are equal
+  is_same_metric-eq : (a b : Metadata) (x y : M) → is_same_metric (seen_metric a x) (seen_metric b y) ≡ key.ghosts.eq a b
+  is_same_metric-eq a b x y = same_from_decides {P = IsSameMetric a b} (is_same_metric (seen_metric a x) (seen_metric b y)) (key.ghosts.eq a b) (same_metric-Decides a b x y) (metadata_decide a b)
+
+  -- a metric is there where its metadata are a key of the map
+  pub has_metric-lookup : (es : List (Metadata × M)) (k : Metadata) (x : M) → has_metric (seen_metrics es) (seen_metric k x) ≡ is_some (lookup (key.ghosts.eq k) es)
+  has_metric-lookup es k x = book.has_metric-lookup seen_metric key.ghosts.eq is_same_metric-eq es k x
+
+  -- one metric more
+  pub seen_metrics-push : (es : List (Metadata × M)) (k : Metadata) (x : M) → seen_metrics (es ++ (k, x) ∷ []) ≡ seen_metrics es ++ seen_metric k x ∷ []
+  seen_metrics-push es k x = map-append (λ (e : Metadata × M). seen_metric e.0 e.1) es ((k, x) ∷ [])

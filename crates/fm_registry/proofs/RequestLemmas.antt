@@ -1,0 +1,91 @@
+-- Requests that go down a path, and calls in turn.
+use Rattle.std.proofs.Common.{◌≡◌, List, [], ◌∷◌, ◌++◌, map, Option, None, Some, Result, Ok, Err, OnOk, OnErr, refl, sym, ap, subst, ◌∙◌, String, Global}
+use Rattle.std.specs.Prelude.{reverse}
+use Rattle.std.specs.String.{string_bytes}
+use Rattle.std.proofs.lemmas.List.{map-append}
+use Rattle.fm_grammar.specs.declared.MetricType.{MetricType}
+use Rattle.fm_book.specs.Texts.{Text, Path}
+use Rattle.fm_book.specs.Book.{Call, Book, in_front}
+use Rattle.fm_book.specs.Tree.{Tree, Reads}
+use Rattle.fm_book.specs.Steps.{place_in}
+use Rattle.fm_book.specs.Answer.{Refusal, NoSuchSubsystem, IsAnswered, refusal_of, answer, after}
+use Rattle.fm_book.specs.Running.{Runs, after_reply, path_of}
+use Rattle.fm_book.specs.declared.RegistryError.{RegistryError}
+use Rattle.fm_book.proofs.ApplyLemmas.{apply-missing}
+use Rattle.fm_book.proofs.RunLemmas.{Runs-more, path_of-++, path_of-reversed}
+use Rattle.fm_registry.specs.HasBook.{HasBook, Grows}
+use Rattle.fm_registry.specs.Request.{call_at}
+use Rattle.fm_registry.specs.Calls.{IsCall, AreCalls, RunsCall, RunsCalls, seen_path}
+use Rattle.fm_registry.proofs.GrowthLemmas.{Grows-run}
+use Rattle.fm_registry.specs.declared.registry.run.Request.{Request}
+use Rattle.fm_registry.specs.declared.registry.run.Request.TheVariants as request
+use Rattle.fm_registry.specs.declared.registry.run.RegistryCall.{RegistryCall}
+
+module _ {M : Type 0} where
+  call_at-in_front : (name : Text) (path : Path) (r : Request M) → call_at (name ∷ path) r ≡ in_front name (call_at path r)
+  call_at-in_front name path (request.Register n help metric_type unit metric) = refl
+  call_at-in_front name path (request.Subsystem n labels) = refl
+
+  -- the call, where the last name of the path is taken off
+  pub call_at-pop : (all names : List (String Global)) (name : String Global) (r : Request M) → all ≡ names ++ name ∷ [] → call_at (path_of all) r ≡ in_front (string_bytes name) (call_at (path_of names) r)
+  call_at-pop all names name r e = ap (λ xs. call_at (path_of xs) r) e ∙ ap (λ p. call_at p r) (path_of-++ names name) ∙ call_at-in_front (string_bytes name) (path_of names) r
+
+  -- a name that is not there
+  pub request-missing : (t : Tree M) (all names : List (String Global)) (name : String Global) (r : Request M) → all ≡ names ++ name ∷ [] → place_in t.children (string_bytes name) ≡ None
+      → (b : Book M) → Reads t b → IsAnswered (Some (NoSuchSubsystem (string_bytes name))) (answer b (call_at (path_of all) r))
+  request-missing t all names name r e none b reads =
+      subst (λ call. IsAnswered (Some (NoSuchSubsystem (string_bytes name))) (answer b call)) (sym (call_at-pop all names name r e))
+      (apply-missing t (string_bytes name) (call_at (path_of names) r) none b reads)
+
+  -- the path is reversed for the way down
+  pub call_at-reversed : (path names : List (String Global)) (r : Request M) → names ≡ reverse path → call_at (path_of names) r ≡ call_at (seen_path path) r
+  call_at-reversed path names r same = ap (λ p. call_at p r) (ap path_of same ∙ path_of-reversed path)
+
+  -- at the end of a run there is a book
+  Runs-sound : (b : Book M) (calls : List (Call M)) (replies : List (Option Refusal)) (t : Tree M) → Runs b calls replies t → HasBook t
+  Runs-sound b [] [] t h = record { book = b; reads = h }
+  Runs-sound b [] (q ∷ replies) t h = absurd h
+  Runs-sound b (call ∷ calls) [] t h = absurd h
+  Runs-sound b (call ∷ calls) (q ∷ replies) t h = Runs-sound (after_reply q b call) calls replies t h.1
+
+  module _ (Types : M → MetricType → Type 0) where
+    -- what a call does, by what its request did
+    pub called : (g : RegistryCall M) (call made : Call M) (old new : Tree M) (r : Result (Unit {0}) RegistryError) → IsCall Types g call → made ≡ call
+        → ((b : Book M) → Reads old b → IsAnswered (refusal_of r) (answer b made)) → OnOk r ((b : Book M) → Reads old b → Reads new (after b made)) → OnErr r (new ≡ old)
+        → RunsCall Types g old new r
+    called g call made old new r is same said reads kept = record {
+      call = call;
+      is = is;
+      answer = subst (λ k. (b : Book M) → Reads old b → IsAnswered (refusal_of r) (answer b k)) same said;
+      ok = subst (λ k. OnOk r ((b : Book M) → Reads old b → Reads new (after b k))) same reads;
+      err = kept;
+    }
+
+    AreCalls-more : (gs : List (RegistryCall M)) (calls : List (Call M)) (g : RegistryCall M) (call : Call M) → AreCalls Types gs calls → IsCall Types g call → AreCalls Types (gs ++ g ∷ []) (calls ++ call ∷ [])
+    AreCalls-more [] [] g call h is = (is, tt)
+    AreCalls-more [] (k ∷ calls) g call h is = absurd h
+    AreCalls-more (x ∷ gs) [] g call h is = absurd h
+    AreCalls-more (x ∷ gs) (k ∷ calls) g call h is = (h.0, AreCalls-more gs calls g call h.1 is)
+
+    -- no call
+    pub RunsCalls-none : (t : Tree M) → RunsCalls Types [] t t []
+    RunsCalls-none t = record { calls = []; are = tt; runs = λ b reads. reads }
+
+    -- one call more
+    pub RunsCalls-more : (gs : List (RegistryCall M)) (g : RegistryCall M) (s t u : Tree M) (olds news : List (Result (Unit {0}) RegistryError)) (r : Result (Unit {0}) RegistryError)
+        → news ≡ olds ++ r ∷ [] → RunsCalls Types gs s t (map refusal_of olds) → RunsCall Types g t u r → RunsCalls Types (gs ++ g ∷ []) s u (map refusal_of news)
+    RunsCalls-more gs g s t u olds news r new h one = record {
+      calls = h.calls ++ one.call ∷ [];
+      are = AreCalls-more gs h.calls g one.call h.are one.is;
+      runs = λ b reads.
+          subst (λ replies. Runs b (h.calls ++ one.call ∷ []) replies u) (sym (ap (map refusal_of) new ∙ map-append refusal_of olds (r ∷ [])))
+          (Runs-more b h.calls (map refusal_of olds) one.call r t u one.answer one.ok one.err (h.runs b reads));
+    }
+
+    -- a registry that read a book reads one at the end
+    pub RunsCalls-sound : (gs : List (RegistryCall M)) (s t : Tree M) (replies : List (Option Refusal)) → RunsCalls Types gs s t replies → HasBook s → HasBook t
+    RunsCalls-sound gs s t replies h sound = Runs-sound sound.book h.calls replies t (h.runs sound.book sound.reads)
+
+    -- and a longer one
+    pub RunsCalls-grows : (gs : List (RegistryCall M)) (s t : Tree M) (replies : List (Option Refusal)) → RunsCalls Types gs s t replies → Grows s t
+    RunsCalls-grows gs s t replies h = Grows-run s t h.calls replies h.runs

@@ -1,0 +1,42 @@
+-- Registries that read a book.
+use Rattle.std.proofs.Common.{◌≡◌, [], Option, None, Some, IfSome, Result, Ok, Err, refl, sym, subst}
+use Rattle.std.specs.List.{AllByRecursion}
+use Rattle.fm_grammar.specs.Names.{IsSnakeCase}
+use Rattle.fm_grammar.specs.WellFormed.{AreLabels}
+use Rattle.fm_grammar.specs.declared.MetricType.{MetricType}
+use Rattle.fm_book.specs.Texts.{Text, Labels}
+use Rattle.fm_book.specs.Registration.{Registration}
+use Rattle.fm_book.specs.Book.{Book, root_book, book_below, Register}
+use Rattle.fm_book.specs.Answer.{after}
+use Rattle.fm_book.specs.Tree.{Tree}
+use Rattle.fm_book.specs.Loan.{LoanReads}
+use Rattle.fm_book.specs.Listing.{IsListable, listed_tree}
+use Rattle.fm_book.specs.declared.RegistryError.{RegistryError}
+use Rattle.fm_book.proofs.RootLemmas.{reads-root_book}
+use Rattle.fm_book.proofs.OrderLemmas.{listed_tree-fits}
+use Rattle.fm_registry.specs.HasBook.{HasBook, IsNewRoot, root_tree}
+use Rattle.fm_registry.specs.Registers.{Registers}
+
+module _ {M : Type 0} where
+  -- a root with a valid namespace and valid labels
+  pub new_root : (namespace : Option Text) (labels : Labels) → IfSome namespace IsSnakeCase → AreLabels labels → IsNewRoot {M = M} namespace labels (root_tree namespace labels)
+  new_root namespace labels valid are =
+      let reads = reads-root_book {M = M} namespace labels valid are in
+      record { tree = refl; reads = reads; sound = record { book = root_book namespace labels; reads = reads } }
+
+  -- a root with neither
+  pub new_empty_root : IsNewRoot {M = M} None [] (root_tree None [])
+  new_empty_root = new_root None [] tt (record { names = tt; different = tt })
+
+  -- after a registration
+  pub Registers-sound : (Types : MetricType → Type 0) (asked : MetricType → Registration M) (old new : Tree M) (r : Result (Unit {0}) RegistryError) → Registers Types asked old new r → HasBook old → HasBook new
+  Registers-sound Types asked old new (Ok x) registers sound = record { book = after sound.book (Register [] (asked registers.metric_type)); reads = registers.ok sound.book sound.reads }
+  Registers-sound Types asked old new (Err e) registers sound = subst HasBook (sym registers.err) sound
+
+  -- a subsystem that is lent
+  pub LoanReads-sound : (t c : Tree M) (name : Text) (b : Book M) → LoanReads t name c b → HasBook c
+  LoanReads-sound t c name b loan = record { book = book_below b name; reads = loan.lent }
+
+  -- each listed metric makes a well-formed family, but for its samples
+  pub listed_tree-listable : (t : Tree M) → HasBook t → AllByRecursion IsListable (listed_tree t)
+  listed_tree-listable t sound = listed_tree-fits t sound.book sound.reads

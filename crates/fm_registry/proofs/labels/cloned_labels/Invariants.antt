@@ -1,0 +1,6 @@
+use Rattle.std.proofs.Common.{◌≡◌, map, take}
+use Rattle.fm_text.specs.Samples.{label_of, labels_of}
+use Rattle.fm_registry.proofs.labels.cloned_labels.Given as goal
+
+abbrev pub invariant-loop-label : goal.invariant-loop-label
+invariant-loop-label l = labels_of l.copies.items ≡ labels_of (take l.label-index l.label-items)

@@ -1,0 +1,11 @@
+use Rattle.std.proofs.Common.{◌≡◌, map}
+use Rattle.fm_book.specs.Texts.{merge_labels}
+use Rattle.fm_text.specs.Samples.{label_of, labels_of}
+use Rattle.fm_registry.specs.View.{seen_labels}
+use Rattle.fm_registry.proofs.labels.merged_labels.Given as goal
+
+abbrev pub invariant-loop-label : goal.invariant-loop-label
+invariant-loop-label l =
+    (goal.iterator-loop-label).can_next l.label-iterator ×
+    (goal.iterator-loop-label).is_finite l.label-iterator ×
+    (labels_of l.merged.items ≡ merge_labels (seen_labels l.fn.parent) (labels_of l.yielded))

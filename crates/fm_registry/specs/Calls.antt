@@ -1,0 +1,49 @@
+-- Calls that are made in turn, each with the type that its metric answered.
+use Rattle.std.specs.Prelude.{◌≡◌, ⊤, List, [], ◌∷◌, map, Option, Result, OnOk, OnErr, String}
+use Rattle.std.specs.declared.alloc.Global.{Global}
+use Rattle.std.specs.String.{string_bytes}
+use Rattle.fm_grammar.specs.declared.MetricType.{MetricType}
+use Rattle.fm_text.specs.Samples.{labels_of}
+use Rattle.fm_book.specs.Texts.{Path}
+use Rattle.fm_book.specs.Book as book
+use Rattle.fm_book.specs.Book.{Book, Call}
+use Rattle.fm_book.specs.Answer.{Refusal, IsAnswered, refusal_of, answer, after}
+use Rattle.fm_book.specs.Tree.{Tree, Reads}
+use Rattle.fm_book.specs.Running.{Runs}
+use Rattle.fm_book.specs.declared.RegistryError.{RegistryError}
+use Rattle.fm_registry.specs.View.{asked_metric}
+use Rattle.fm_registry.specs.declared.registry.run.RegistryCall as given
+
+-- the names of a path
+abbrev pub seen_path : List (String Global) → Path
+seen_path names = map string_bytes names
+
+module _ {M : Type 0} (Types : M → MetricType → Type 0) where
+  -- the call of the book that was made: a metric is registered with a type that it may answer
+  abbrev pub IsCall : given.RegistryCall M → Call M → Type 0
+  IsCall (given.TheVariants.Register path name help unit metric) call =
+      (t : MetricType) × Types metric t × (call ≡ book.Register (seen_path path.items) (asked_metric name help unit metric t))
+  IsCall (given.TheVariants.Subsystem path name labels) call = call ≡ book.Subsystem (seen_path path.items) (string_bytes name) (labels_of labels.items)
+
+  -- each of them, in order
+  abbrev pub AreCalls : List (given.RegistryCall M) → List (Call M) → Type 0
+  AreCalls [] [] = ⊤
+  AreCalls (g ∷ gs) (call ∷ calls) = IsCall g call × AreCalls gs calls
+  AreCalls [] (call ∷ calls) = ⊥
+  AreCalls (g ∷ gs) [] = ⊥
+
+  -- what one call does: for every book that the registry read, the answer is the book's, or there was no memory; at `Ok` the
+  -- registry reads the book after the call, and at `Err` it is as it was
+  pub record RunsCall (g : given.RegistryCall M) (old new : Tree M) (result : Result (Unit {0}) RegistryError) : Type 0 where
+    pub call : Call M
+    pub is : IsCall g call
+    pub answer : (b : Book M) → Reads old b → IsAnswered (refusal_of result) (answer b call)
+    pub ok : OnOk result ((b : Book M) → Reads old b → Reads new (after b call))
+    pub err : OnErr result (new ≡ old)
+
+  -- what calls in turn do: for every book that the registry read, each reply is the answer of the book of that moment, or there
+  -- was no memory, and the registry reads the book at the end
+  pub record RunsCalls (gs : List (given.RegistryCall M)) (old new : Tree M) (replies : List (Option Refusal)) : Type 0 where
+    pub calls : List (Call M)
+    pub are : AreCalls gs calls
+    pub runs : (b : Book M) → Reads old b → Runs b calls replies new

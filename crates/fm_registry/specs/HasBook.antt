@@ -1,0 +1,25 @@
+-- What holds of every registry that comes about by its calls: it reads a book.
+use Rattle.std.specs.Prelude.{◌≡◌, List, [], Option}
+use Rattle.fm_book.specs.Texts.{Text, Labels}
+use Rattle.fm_book.specs.Book.{Call, Book, root_book, with_more}
+use Rattle.fm_book.specs.Tree.{Tree, Leaf, Reads}
+
+-- the tree reads some book
+pub record HasBook {M : Type 0} (t : Tree M) : Type 0 where
+  pub book : Book M
+  pub reads : Reads t book
+
+-- whatever book the old tree reads, the new one reads with calls behind: nothing that was accepted is lost
+pub record Grows {M : Type 0} (old new : Tree M) : Type 0 where
+  pub calls : (b : Book M) → Reads old b → List (Call M)
+  pub reads : (b : Book M) (h : Reads old b) → Reads new (with_more b (calls b h))
+
+-- a root with nothing in it
+abbrev pub root_tree : {M : Type 0} → Option Text → Labels → Tree M
+root_tree namespace labels = record { facts = record { namespace = namespace; labels = labels; depth = 0; metrics = [] }; children = Leaf }
+
+-- a new root with this namespace and these labels
+pub record IsNewRoot {M : Type 0} (namespace : Option Text) (labels : Labels) (t : Tree M) : Type 0 where
+  pub tree : t ≡ root_tree namespace labels
+  pub reads : Reads t (root_book namespace labels)
+  pub sound : HasBook t

@@ -1,0 +1,17 @@
+-- What the registration of a metric does, with the type that the metric answered.
+use Rattle.std.specs.Prelude.{◌≡◌, [], Result, OnOk, OnErr}
+use Rattle.fm_grammar.specs.declared.MetricType.{MetricType}
+use Rattle.fm_book.specs.Registration.{Registration}
+use Rattle.fm_book.specs.Book.{Book, Register}
+use Rattle.fm_book.specs.Answer.{IsAnswered, refusal_of, answer, after}
+use Rattle.fm_book.specs.Tree.{Tree, Reads}
+use Rattle.fm_book.specs.declared.RegistryError.{RegistryError}
+
+-- The metric answered a type that it may answer. For every book that the registry read, the answer is the book's, or there was
+-- no memory; at `Ok` the registry reads the book after the call, and at `Err` it is as it was.
+pub record Registers {M : Type 0} (Types : MetricType → Type 0) (asked : MetricType → Registration M) (old new : Tree M) (result : Result (Unit {0}) RegistryError) : Type 0 where
+  pub metric_type : MetricType
+  pub declared : Types metric_type
+  pub answer : (b : Book M) → Reads old b → IsAnswered (refusal_of result) (answer b (Register [] (asked metric_type)))
+  pub ok : OnOk result ((b : Book M) → Reads old b → Reads new (after b (Register [] (asked metric_type))))
+  pub err : OnErr result (new ≡ old)

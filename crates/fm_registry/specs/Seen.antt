@@ -1,0 +1,16 @@
+-- What the list of a tree's metrics is seen as.
+use Rattle.std.specs.Prelude.{List, map}
+use Rattle.std.specs.Option.{option_map}
+use Rattle.std.specs.String.{string_bytes}
+use Rattle.fm_book.specs.Listing.{Listed}
+use Rattle.fm_registry.specs.View.{seen_labels, seen_metric}
+use Rattle.fm_registry.specs.declared.listing.ListedMetric.{ListedMetric}
+
+module _ {M : Type 0} where
+  -- a metric with what its registry gives it
+  abbrev pub seen_listed : ListedMetric M → Listed M
+  seen_listed m = record { namespace = option_map string_bytes m.namespace.now; labels = seen_labels m.const_labels.now; registration = seen_metric m.metadata.now m.metric.now }
+
+  -- the list of them
+  abbrev pub seen_list : List (ListedMetric M) → List (Listed M)
+  seen_list list = map seen_listed list

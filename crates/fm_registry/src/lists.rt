@@ -1,0 +1,35 @@
+//! Lists that may not be there yet, since they are made with an allocator.
+ghost use Rattle.std.specs.Prelude.{◌≡◌, ◌<◌, ◌++◌, ◌∷◌, [], length, Some, None, IfOk, OnOk, OnErr, slice_get};
+ghost use Rattle.std.specs.Borrow.{sem};
+ghost use Rattle.fm_book.specs.Answer.{refusal_of, IsAnswered};
+ghost use Rattle.fm_registry.specs.Lists.{items_of};
+ghost use Rattle.fm_registry.specs.Lends.{lends_element};
+
+use fm_book::RegistryError;
+use std::alloc::Allocator;
+
+// The element at a place, to write.
+pub(crate) fn element_mut<T, A: Allocator>(list: &mut Option<Vec<T, A>>, index: usize) -> &mut T
+    requires { index < length (items_of list.old) }
+    ensures* writes_back { sem 𝓛 (lends_element T.row A.row A.Allocator list.entry index result) }
+    ensures value { slice_get (items_of list.old) index ≡ Some result.now }
+{
+    match list {
+        Some(items) => &mut items[index],
+        None => unreachable!(),
+    }
+}
+
+// Adds an item at the end, and answers its place.
+pub(crate) fn push_to<T: Drop>(list: &mut Vec<T>, item: T) -> Result<usize, RegistryError>
+    ensures answer { IsAnswered (refusal_of result) None }
+    ensures place { IfOk result (λ place. place ≡ length list.old.items) }
+    ensures ok { OnOk result (list.new.items ≡ list.old.items ++ item ∷ []) }
+    ensures err { OnErr result (list.new.items ≡ list.old.items) }
+{
+    let place = list.len();
+    match list.push(item) {
+        Ok(()) => Ok(place),
+        Err(_) => Err(RegistryError::Memory),
+    }
+}

@@ -1,0 +1,142 @@
+//! Registries: what they hold, and what contracts see of it.
+
+mod builder;
+mod metrics;
+mod run;
+mod subsystem_builder;
+mod subsystems;
+
+use crate::listing::{ListedMetric, list_metrics};
+pub use builder::RegistryBuilder;
+use fm_encoder::EncodeMetric;
+use fm_raw::Metadata;
+use indexmap::IndexMap;
+pub use run::RegistryCall;
+use std::alloc::{AllocError, Global};
+use std::marker::Model;
+pub use subsystem_builder::RegistrySubsystemBuilder;
+
+/// A registry of metrics, with its subsystems. Contracts see it as a `Tree`.
+///
+/// An empty registry holds no memory.
+#[derive(Drop)]
+#[cycle(tree)]
+pub struct Registry<M = Box<dyn EncodeMetric>> {
+    namespace: Option<String>,
+    const_labels: Option<Vec<(String, String)>>,
+    depth: usize,
+    metrics: Option<IndexMap<Metadata, M>>,
+    subsystems: Option<Vec<Subsystem<M>>>,
+}
+
+/// A registry under its name, which its parent holds.
+#[derive(Drop)]
+#[cycle(tree)]
+pub struct Subsystem<M = Box<dyn EncodeMetric>> {
+    name: String,
+    registry: Registry<M>,
+}
+
+impl<M> Model for Registry<M> {
+    ghost use Rattle.fm_book.specs.Tree.{Tree};
+    ghost use Rattle.fm_book.specs.TreeCode.{tree_code};
+
+    ghost Value = { Tree M };
+
+    ghost coded = { tree_code M.code };
+
+    ghost use Rattle.fm_registry.specs.View.{tree_of};
+    ghost use Rattle.fm_book.specs.Tree.{tree_size};
+
+    ghost view = { tree_of };
+
+    ghost size = { tree_size };
+
+    ghost use Rattle.fm_registry.specs.Falls.{deep_le-tree_size};
+
+    ghost size_decreases = { deep_le-tree_size };
+}
+
+/// A root with no namespace, no labels and no metrics. It takes no memory.
+impl<M> Default for Registry<M> {
+    ghost use Rattle.std.specs.Prelude.{None, []};
+    ghost use Rattle.fm_registry.specs.HasBook.{IsNewRoot};
+
+    ghost is_default = { λ t. IsNewRoot None [] t };
+
+    fn default() -> Registry<M> {
+        Registry {
+            namespace: None,
+            const_labels: None,
+            depth: 0,
+            metrics: None,
+            subsystems: None,
+        }
+    }
+}
+
+impl<M> Registry<M> {
+    ghost use Rattle.std.specs.Prelude.{◌≡◌, ◌++◌, [], OnOk, IfOk};
+    ghost use Rattle.std.specs.Option.{option_map};
+    ghost use Rattle.fm_text.specs.Samples.{labels_of};
+    ghost use Rattle.fm_book.specs.Book.{namespace_at, labels_at};
+    ghost use Rattle.fm_book.specs.Tree.{Reads};
+    ghost use Rattle.fm_book.specs.Listing.{own_metrics, listed_tree, order};
+    ghost use Rattle.fm_registry.specs.Seen.{seen_list};
+
+    /// The namespace that stands before the names of the metrics here, with those of the registries above.
+    pub fn namespace(&self) -> Option<&str>
+        ensures tree { option_map (λ namespace. namespace.now) result ≡ self.now.facts.namespace }
+        ensures book { (b : _) → Reads self.now b → option_map (λ namespace. namespace.now) result ≡ namespace_at b [] }
+    {
+        match &self.namespace {
+            Some(namespace) => Some(namespace.as_str()),
+            None => None,
+        }
+    }
+
+    /// The labels that every sample of the metrics here carries, with those of the registries above.
+    pub fn constant_labels(&self) -> &[(String, String)]
+        ensures tree { labels_of result.now ≡ self.now.facts.labels }
+        ensures book { (b : _) → Reads self.now b → labels_of result.now ≡ labels_at b [] }
+    {
+        match &self.const_labels {
+            Some(labels) => labels.as_slice(),
+            None => &[],
+        }
+    }
+
+    // Adds the metrics that are registered here.
+    fn list_here<'a>(&'a self, list: &mut Vec<ListedMetric<'a, M>>) -> Result<(), AllocError>
+        ensures { OnOk result (seen_list list.new.items ≡ seen_list list.old.items ++ own_metrics self.now.facts) }
+    {
+        match &self.metrics {
+            Some(metrics) => list_metrics(&self.namespace, &self.const_labels, metrics, list),
+            None => Ok(()),
+        }
+    }
+
+    // Adds the metrics here, and then those of each subsystem, depth first.
+    fn list_into<'a>(&'a self, list: &mut Vec<ListedMetric<'a, M>>) -> Result<(), AllocError>
+        ensures { OnOk result (seen_list list.new.items ≡ seen_list list.old.items ++ listed_tree self.now) }
+    {
+        self.list_here(list)?;
+        if let Some(subsystems) = &self.subsystems {
+            for subsystem in subsystems {
+                subsystem.registry.list_into(list)?;
+            }
+        }
+        Ok(())
+    }
+
+    /// The metrics in the order of a document, each with what its registry gives it: those here by registration, then those
+    /// of each subsystem by creation. It is the collector's. It takes memory for the list alone.
+    pub fn listing(&self, alloc: Global) -> Result<Vec<ListedMetric<'_, M>>, AllocError>
+        ensures tree { IfOk result (λ list. seen_list list.items ≡ listed_tree self.now) }
+        ensures book { IfOk result (λ list. (b : _) → Reads self.now b → seen_list list.items ≡ order b) }
+    {
+        let mut list = Vec::new(alloc);
+        self.list_into(&mut list)?;
+        Ok(list)
+    }
+}

@@ -1,0 +1,94 @@
+//! The builder of a root.
+ghost use Rattle.std.specs.Prelude.{◌≡◌, Some, None, IfOk, IsTrue, []};
+ghost use Rattle.std.specs.Option.{option_map};
+ghost use Rattle.std.specs.String.{string_bytes};
+ghost use Rattle.fm_text.specs.Samples.{labels_of};
+ghost use Rattle.fm_book.specs.Answer.{refusal_of, namespace_refusal, root_labels_refusal};
+ghost use Rattle.fm_registry.specs.View.{seen_labels};
+ghost use Rattle.fm_registry.specs.RootLabels.{takes_namespace, takes_labels};
+ghost use Rattle.fm_registry.specs.HasBook.{IsNewRoot};
+
+use super::Registry;
+use crate::labels::tested_root_labels;
+use fm_book::RegistryError;
+use fm_raw::is_snake_case;
+
+/// Sets up a root: its namespace and its labels, both of which may be left out.
+#[derive(Drop)]
+pub struct RegistryBuilder {
+    namespace: Option<String>,
+    const_labels: Option<Vec<(String, String)>>,
+    pub ghost namespace_taken: { IsTrue (takes_namespace (option_map string_bytes namespace)) },
+    pub ghost labels_taken: { IsTrue (takes_labels (seen_labels const_labels)) },
+}
+
+/// No namespace and no labels.
+impl Default for RegistryBuilder {
+    ghost is_default = { λ b. (option_map string_bytes b.namespace ≡ None) × (seen_labels b.const_labels ≡ []) };
+
+    fn default() -> RegistryBuilder {
+        RegistryBuilder {
+            namespace: None,
+            const_labels: None,
+        }
+    }
+}
+
+impl Registry {
+    /// Begins a root with no namespace and no labels. It takes no memory.
+    pub fn builder() -> RegistryBuilder
+        ensures namespace { option_map string_bytes result.namespace ≡ None }
+        ensures labels { seen_labels result.const_labels ≡ [] }
+    {
+        RegistryBuilder::default()
+    }
+}
+
+impl RegistryBuilder {
+    /// Sets the namespace, in place of that of an earlier call. Refused where it is not in snake case (`InvalidNamespace`).
+    pub fn with_namespace(self, namespace: String) -> Result<RegistryBuilder, RegistryError>
+        ensures namespace { IfOk result (λ b. option_map string_bytes b.namespace ≡ Some (string_bytes namespace)) }
+        ensures labels { IfOk result (λ b. seen_labels b.const_labels ≡ seen_labels self.const_labels) }
+        ensures answer { refusal_of result ≡ namespace_refusal (string_bytes namespace) }
+    {
+        if !is_snake_case(namespace.as_str()) {
+            return Err(RegistryError::InvalidNamespace { namespace });
+        }
+        Ok(RegistryBuilder {
+            namespace: Some(namespace),
+            const_labels: self.const_labels,
+        })
+    }
+
+    /// Sets the labels, in place of those of an earlier call.
+    ///
+    /// Refused at the first label whose name is no label name (`InvalidLabelName`), or stands before (`DuplicateLabel`).
+    pub fn with_const_labels(
+        self,
+        labels: Vec<(String, String)>,
+    ) -> Result<RegistryBuilder, RegistryError>
+        ensures namespace { IfOk result (λ b. option_map string_bytes b.namespace ≡ option_map string_bytes self.namespace) }
+        ensures labels { IfOk result (λ b. seen_labels b.const_labels ≡ labels_of labels.items) }
+        ensures answer { refusal_of result ≡ root_labels_refusal (labels_of labels.items) }
+    {
+        let labels = tested_root_labels(labels)?;
+        Ok(RegistryBuilder {
+            namespace: self.namespace,
+            const_labels: Some(labels),
+        })
+    }
+
+    /// The root, with nothing in it. It takes no memory, and `Memory` never comes.
+    pub fn build(self) -> Result<Registry, RegistryError>
+        ensures root { IfOk result (λ t. IsNewRoot (option_map string_bytes self.namespace) (seen_labels self.const_labels) t) }
+        ensures answer { refusal_of result ≡ None }
+    {
+        Ok(Registry {
+            namespace: self.namespace,
+            const_labels: self.const_labels,
+            depth: 0,
+            metrics: None,
+            subsystems: None,
+        })
+    }
+}

@@ -1,0 +1,195 @@
+//! Calls at any registry of a tree, one after the other.
+ghost use Rattle.std.specs.Prelude.{◌≡◌, OnOk, OnErr, IfOk, None, [], map};
+ghost use Rattle.std.specs.String.{string_bytes};
+ghost use Rattle.fm_text.specs.Samples.{labels_of};
+ghost use Rattle.fm_book.specs.Answer.{refusal_of, subsystem_refusal, answer, after, IsAnswered};
+ghost use Rattle.fm_book.specs.Book.{Subsystem as AskSubsystem};
+ghost use Rattle.fm_book.specs.Tree.{Reads};
+ghost use Rattle.fm_book.specs.Steps.{with_subsystem};
+ghost use Rattle.fm_book.specs.Running.{path_of};
+ghost use Rattle.fm_registry.specs.Request.{call_at};
+ghost use Rattle.fm_registry.specs.Calls.{RunsCall, RunsCalls};
+ghost use Rattle.fm_registry.specs.HasBook.{HasBook, Grows};
+
+use super::Registry;
+use fm_book::RegistryError;
+use fm_encoder::EncodeMetric;
+use fm_raw::{MetricType, Unit};
+use std::alloc::Global;
+
+/// A call at the registry at the end of a path of names, which goes on from the registry that runs it.
+#[derive(Drop)]
+pub enum RegistryCall<M = Box<dyn EncodeMetric>> {
+    /// Registers a metric there.
+    Register {
+        path: Vec<String>,
+        name: String,
+        help: String,
+        unit: Option<Unit>,
+        metric: M,
+    },
+    /// Sees that there is a subsystem with this name, and makes it with these labels where there is none.
+    Subsystem {
+        path: Vec<String>,
+        name: String,
+        labels: Vec<(String, String)>,
+    },
+}
+
+// What is asked of one registry.
+#[derive(Drop)]
+enum Request<M> {
+    Register {
+        name: String,
+        help: String,
+        metric_type: MetricType,
+        unit: Option<Unit>,
+        metric: M,
+    },
+    Subsystem {
+        name: String,
+        labels: Vec<(String, String)>,
+    },
+}
+
+impl<M: Drop> Registry<M> {
+    // Sees that a subsystem is there, in terms of the tree alone.
+    fn ask_here(
+        &mut self,
+        alloc: Global,
+        name: String,
+        labels: Vec<(String, String)>,
+    ) -> Result<(), RegistryError>
+        ensures answer { IsAnswered (refusal_of result) (subsystem_refusal self.old.facts.depth (string_bytes name) (labels_of labels.items)) }
+        ensures ok { OnOk result (self.new ≡ with_subsystem self.old (string_bytes name) (labels_of labels.items)) }
+        ensures err { OnErr result (self.new ≡ self.old) }
+    {
+        match self.add_subsystem(alloc, name, labels) {
+            Ok(_) => Ok(()),
+            Err(e) => Err(e),
+        }
+    }
+
+    // The same in terms of every book that the tree reads.
+    fn ask_subsystem(
+        &mut self,
+        alloc: Global,
+        name: String,
+        labels: Vec<(String, String)>,
+    ) -> Result<(), RegistryError>
+        ensures answer { (b : _) → Reads self.old b → IsAnswered (refusal_of result) (answer b (AskSubsystem [] (string_bytes name) (labels_of labels.items))) }
+        ensures ok { OnOk result ((b : _) → Reads self.old b → Reads self.new (after b (AskSubsystem [] (string_bytes name) (labels_of labels.items)))) }
+        ensures err { OnErr result (self.new ≡ self.old) }
+    {
+        self.ask_here(alloc, name, labels)
+    }
+
+    // A request here.
+    fn apply_here(&mut self, alloc: Global, request: Request<M>) -> Result<(), RegistryError>
+        ensures answer { (b : _) → Reads self.old b → IsAnswered (refusal_of result) (answer b (call_at [] request)) }
+        ensures ok { OnOk result ((b : _) → Reads self.old b → Reads self.new (after b (call_at [] request))) }
+        ensures err { OnErr result (self.new ≡ self.old) }
+    {
+        match request {
+            Request::Register {
+                name,
+                help,
+                metric_type,
+                unit,
+                metric,
+            } => self.add_metric(alloc, name, help, metric_type, unit, metric),
+            Request::Subsystem { name, labels } => self.ask_subsystem(alloc, name, labels),
+        }
+    }
+
+    // A request at the end of a path, whose names stand in reverse.
+    fn apply(
+        &mut self,
+        alloc: Global,
+        mut path: Vec<String>,
+        request: Request<M>,
+    ) -> Result<(), RegistryError>
+        ensures answer { (b : _) → Reads self.old b → IsAnswered (refusal_of result) (answer b (call_at (path_of path.items) request)) }
+        ensures ok { OnOk result ((b : _) → Reads self.old b → Reads self.new (after b (call_at (path_of path.items) request))) }
+        ensures err { OnErr result (self.new ≡ self.old) }
+    {
+        match path.pop() {
+            None => self.apply_here(alloc, request),
+            Some(name) => match self.place_of(name.as_str()) {
+                None => Err(RegistryError::NoSuchSubsystem { name }),
+                Some(place) => self.subsystem_at(place).apply(alloc, path, request),
+            },
+        }
+    }
+}
+
+// The type that a metric answers.
+fn type_of(metric: &Box<dyn EncodeMetric>) -> MetricType
+    ensures { types metric.now result }
+{
+    metric.metric_type()
+}
+
+impl Registry {
+    // One call.
+    fn run_call(&mut self, alloc: Global, call: RegistryCall) -> Result<(), RegistryError>
+        ensures { RunsCall (λ m t. types m t) call self.old self.new result }
+    {
+        match call {
+            RegistryCall::Register {
+                mut path,
+                name,
+                help,
+                unit,
+                metric,
+            } => {
+                let metric_type = type_of(&metric);
+                path.reverse();
+                let request = Request::Register {
+                    name,
+                    help,
+                    metric_type,
+                    unit,
+                    metric,
+                };
+                self.apply(alloc, path, request)
+            }
+            RegistryCall::Subsystem {
+                mut path,
+                name,
+                labels,
+            } => {
+                path.reverse();
+                self.apply(alloc, path, Request::Subsystem { name, labels })
+            }
+        }
+    }
+
+    /// Makes the calls in turn, whatever each is answered, and gives the answer to each.
+    ///
+    /// A call at a path is answered as `register_metric` or a builder of a subsystem answers there, or with
+    /// `NoSuchSubsystem` and the first name on the path that is not there. A refused call changes nothing. Room for all
+    /// answers is made first: where that finds no memory (`Memory`, the one error here), no call is made.
+    pub fn run(
+        &mut self,
+        alloc: Global,
+        calls: Vec<RegistryCall>,
+    ) -> Result<Vec<Result<(), RegistryError>>, RegistryError>
+        ensures replies { IfOk result (λ replies. RunsCalls (λ m t. types m t) calls.items self.old self.new (map refusal_of replies.items)) }
+        ensures answer { IsAnswered (refusal_of result) None }
+        ensures err { OnErr result (self.new ≡ self.old) }
+        ensures grows { Grows self.old self.new }
+        ensures sound { HasBook self.old → HasBook self.new }
+    {
+        let Ok(mut replies) = Vec::with_capacity(alloc, calls.len()) else {
+            return Err(RegistryError::Memory);
+        };
+        for call in calls {
+            let reply = self.run_call(alloc, call);
+            if let Err(_) = replies.push(reply) {
+                return Ok(replies);
+            }
+        }
+        Ok(replies)
+    }
+}

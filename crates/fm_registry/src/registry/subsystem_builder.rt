@@ -1,0 +1,130 @@
+//! The builder of a subsystem.
+ghost use Rattle.std.specs.Prelude.{◌≡◌, IfOk, []};
+ghost use Rattle.std.specs.Borrow.{sem};
+ghost use Rattle.std.specs.String.{string_bytes};
+ghost use Rattle.fm_text.specs.Samples.{labels_of};
+ghost use Rattle.fm_book.specs.Answer.{refusal_of, name_or_depth_refusal, subsystem_refusal, first_bad_label, after, IsAnswered};
+ghost use Rattle.fm_book.specs.Book.{Subsystem as AskSubsystem};
+ghost use Rattle.fm_book.specs.Tree.{Reads};
+ghost use Rattle.fm_book.specs.Steps.{with_subsystem};
+ghost use Rattle.fm_book.specs.Loan.{LoanReads};
+ghost use Rattle.fm_registry.specs.Building.{rests_if_refused, builder_rests, lends_built};
+ghost use Rattle.fm_registry.specs.HasBook.{HasBook};
+
+use super::subsystems::DEPTH_LIMIT;
+use super::{Registry, Subsystem};
+use crate::labels::tested_labels;
+use fm_book::RegistryError;
+use fm_encoder::EncodeMetric;
+use fm_raw::is_snake_case;
+use std::alloc::Global;
+
+/// Sets up a subsystem of a registry, which it holds until the subsystem is built.
+#[derive(Drop)]
+pub struct RegistrySubsystemBuilder<'a, M = Box<dyn EncodeMetric>> {
+    registry: &'a mut Registry<M>,
+    alloc: Global,
+    name: String,
+    labels: Vec<(String, String)>,
+}
+
+// A builder with tested labels.
+fn begin<'a, M: Drop>(
+    registry: &'a mut Registry<M>,
+    alloc: Global,
+    name: String,
+    labels: Vec<(String, String)>,
+) -> Result<RegistrySubsystemBuilder<'a, M>, RegistryError>
+    ensures* unchanged_at_err { sem 𝓛 (rests_if_refused M.row registry.entry result) }
+    ensures same_registry { IfOk result (λ b. b.registry.ghost_name ≡ registry.entry.ghost_name) }
+    ensures registry { IfOk result (λ b. b.registry.now ≡ registry.old) }
+    ensures name { IfOk result (λ b. b.name ≡ name) }
+    ensures labels { IfOk result (λ b. b.labels ≡ labels) }
+    ensures answer { refusal_of result ≡ first_bad_label (labels_of labels.items) }
+{
+    let labels = tested_labels(labels)?;
+    Ok(RegistrySubsystemBuilder {
+        registry,
+        alloc,
+        name,
+        labels,
+    })
+}
+
+impl<M: Drop> Registry<M> {
+    /// Begins a subsystem with this name and no labels of its own.
+    ///
+    /// Refused, in this order: a name that is not in snake case (`InvalidSubsystemName`), and a subsystem 65 registries
+    /// below a root (`TooDeep`). The registry stays as it was. It takes no memory.
+    pub fn subsystem_builder(
+        &mut self,
+        alloc: Global,
+        name: String,
+    ) -> Result<RegistrySubsystemBuilder<'_, M>, RegistryError>
+        ensures* unchanged_at_err { sem 𝓛 (rests_if_refused M.row self.entry result) }
+        ensures same_registry { IfOk result (λ b. b.registry.ghost_name ≡ self.entry.ghost_name) }
+        ensures registry { IfOk result (λ b. b.registry.now ≡ self.old) }
+        ensures name { IfOk result (λ b. b.name ≡ name) }
+        ensures labels { IfOk result (λ b. b.labels.items ≡ []) }
+        ensures answer { refusal_of result ≡ name_or_depth_refusal self.old.facts.depth (string_bytes name) }
+    {
+        if !is_snake_case(name.as_str()) {
+            return Err(RegistryError::InvalidSubsystemName { name });
+        }
+        if self.depth >= DEPTH_LIMIT {
+            return Err(RegistryError::TooDeep { name });
+        }
+        Ok(RegistrySubsystemBuilder {
+            registry: self,
+            alloc,
+            name,
+            labels: Vec::new(alloc),
+        })
+    }
+}
+
+impl<'a, M: Drop> RegistrySubsystemBuilder<'a, M> {
+    /// Sets the subsystem's own labels, in place of those of an earlier call.
+    ///
+    /// Refused where a name is no label name (`InvalidLabelName` with the first such); then the registry stays as it was.
+    pub fn with_const_labels(
+        self,
+        labels: Vec<(String, String)>,
+    ) -> Result<RegistrySubsystemBuilder<'a, M>, RegistryError>
+        ensures* unchanged_at_err { sem 𝓛 (builder_rests M.row self.entry result) }
+        ensures same_registry { IfOk result (λ b. b.registry.ghost_name ≡ self.entry.registry.ghost_name) }
+        ensures registry { IfOk result (λ b. b.registry.now ≡ self.entry.registry.now) }
+        ensures name { IfOk result (λ b. b.name ≡ self.entry.name) }
+        ensures labels { IfOk result (λ b. b.labels ≡ labels) }
+        ensures answer { refusal_of result ≡ first_bad_label (labels_of labels.items) }
+    {
+        let RegistrySubsystemBuilder {
+            registry,
+            alloc,
+            name,
+            ..
+        } = self;
+        begin(registry, alloc, name, labels)
+    }
+
+    /// The subsystem with this name, which is made where it is not there: with the registry's labels, over which its own are
+    /// set, and with the registry's namespace and the name, joined by an underscore, as its namespace.
+    ///
+    /// A subsystem that is there keeps its labels. At `Memory`, the one error after a refusal that `subsystem_builder` or
+    /// `with_const_labels` gave, the registry stays as it was.
+    pub fn build(self) -> Result<&'a mut Subsystem<M>, RegistryError>
+        ensures* writes_back { sem 𝓛 (lends_built M.row self.entry result) }
+        ensures answer { IsAnswered (refusal_of result) (subsystem_refusal self.entry.registry.now.facts.depth (string_bytes self.entry.name) (labels_of self.entry.labels.items)) }
+        ensures name { IfOk result (λ s. string_bytes s.now.name ≡ string_bytes self.entry.name) }
+        ensures reads { IfOk result (λ s. (b : _) → Reads self.entry.registry.now b → LoanReads (with_subsystem self.entry.registry.now (string_bytes self.entry.name) (labels_of self.entry.labels.items)) (string_bytes self.entry.name) s.now.registry (after b (AskSubsystem [] (string_bytes self.entry.name) (labels_of self.entry.labels.items)))) }
+        ensures sound { IfOk result (λ s. HasBook self.entry.registry.now → HasBook s.now.registry) }
+    {
+        let RegistrySubsystemBuilder {
+            registry,
+            alloc,
+            name,
+            labels,
+        } = self;
+        registry.labelled_subsystem(alloc, name, labels)
+    }
+}

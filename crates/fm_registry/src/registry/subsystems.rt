@@ -1,0 +1,214 @@
+//! Subsystems: where they stand, and how they are made and lent.
+ghost use Rattle.std.specs.Prelude.{◌≡◌, ◌<◌, ◌+◌, ◌++◌, ◌∷◌, [], Some, None, IsSome, OnOk, OnErr, IfOk, length};
+ghost use Rattle.std.specs.Borrow.{sem};
+ghost use Rattle.std.specs.List.{position_from};
+ghost use Rattle.std.specs.Str.{bytes_eq};
+ghost use Rattle.std.specs.String.{string_bytes};
+ghost use Rattle.fm_text.specs.Samples.{labels_of};
+ghost use Rattle.fm_book.specs.Answer.{refusal_of, subsystem_refusal, after, IsAnswered};
+ghost use Rattle.fm_book.specs.Book.{Subsystem as AskSubsystem};
+ghost use Rattle.fm_book.specs.Tree.{Reads};
+ghost use Rattle.fm_book.specs.Steps.{nth_in, nth_name, place_in, with_subsystem, new_tree};
+ghost use Rattle.fm_book.specs.Loan.{LoanReads};
+ghost use Rattle.fm_registry.specs.View.{forest_of};
+ghost use Rattle.fm_registry.specs.Lists.{items_of};
+ghost use Rattle.fm_registry.specs.Lends.{lends_subsystems, lends_nth, lends_registry, lends_subsystem};
+ghost use Rattle.fm_registry.specs.HasBook.{HasBook};
+
+use super::{Registry, Subsystem};
+use crate::labels::{joined_name, merged_labels, tested_labels};
+use crate::lists::{element_mut, push_to};
+use fm_book::RegistryError;
+use fm_raw::is_snake_case;
+use std::alloc::{AllocError, Global};
+use std::ops::{Deref, DerefMut};
+
+// How far below the root a registry may lie.
+pub(super) const DEPTH_LIMIT: usize = 64;
+
+// The place of the first subsystem with this name.
+fn position_of<M>(subsystems: &[Subsystem<M>], name: &str) -> Option<usize>
+    ensures { result ≡ position_from (λ s. bytes_eq (string_bytes s.name) name.now) 0 subsystems.now }
+{
+    subsystems.iter().position(|s| s.name.as_str() == name)
+}
+
+// Adds a subsystem at the end, and answers its place.
+fn push_subsystem<M>(
+    subsystems: &mut Option<Vec<Subsystem<M>>>,
+    alloc: Global,
+    subsystem: Subsystem<M>,
+) -> Result<usize, RegistryError>
+where
+    M: Drop,
+    ensures answer { IsAnswered (refusal_of result) None }
+    ensures place { IfOk result (λ place. place ≡ length (items_of subsystems.old)) }
+    ensures ok { OnOk result (items_of subsystems.new ≡ items_of subsystems.old ++ subsystem ∷ []) }
+    ensures err { OnErr result (items_of subsystems.new ≡ items_of subsystems.old) }
+{
+    push_to(subsystems.get_or_insert_with(|| Vec::new(alloc)), subsystem)
+}
+
+impl<M: Drop> Registry<M> {
+    // The place of the subsystem with this name.
+    pub(super) fn place_of(&self, name: &str) -> Option<usize>
+        ensures { result ≡ place_in self.now.children name.now }
+    {
+        match &self.subsystems {
+            Some(subsystems) => position_of(subsystems, name),
+            None => None,
+        }
+    }
+
+    // The subsystems, to write.
+    fn subsystems_mut(&mut self) -> &mut Option<Vec<Subsystem<M>>>
+        ensures* writes_back { sem 𝓛 (lends_subsystems M.row self.entry result) }
+        ensures value { forest_of (items_of result.now) ≡ self.old.children }
+    {
+        &mut self.subsystems
+    }
+
+    // The subsystem at a place, to write.
+    pub(super) fn subsystem_at(&mut self, place: usize) -> &mut Subsystem<M>
+        requires { IsSome (nth_in self.old.children place) }
+        ensures* writes_back { sem 𝓛 (lends_nth M.row self.entry place result) }
+        ensures value { nth_in self.old.children place ≡ Some result.now.registry }
+        ensures name { nth_name self.old.children place ≡ Some (string_bytes result.now.name) }
+    {
+        element_mut(self.subsystems_mut(), place)
+    }
+
+    // A new subsystem of this registry.
+    fn new_child(
+        &self,
+        alloc: Global,
+        name: &str,
+        labels: Vec<(String, String)>,
+    ) -> Result<Registry<M>, AllocError>
+        requires { self.now.facts.depth < 64 }
+        ensures { IfOk result (λ t. t ≡ new_tree self.now.facts name.now (labels_of labels.items)) }
+    {
+        let namespace = joined_name(alloc, &self.namespace, name)?;
+        let const_labels = merged_labels(alloc, &self.const_labels, labels)?;
+        Ok(Registry {
+            namespace: Some(namespace),
+            const_labels,
+            depth: self.depth + 1,
+            metrics: None,
+            subsystems: None,
+        })
+    }
+
+    // The place of the subsystem with this name, which is made where it is not there.
+    fn place_or_new(
+        &mut self,
+        alloc: Global,
+        name: String,
+        labels: Vec<(String, String)>,
+    ) -> Result<usize, RegistryError>
+        requires { self.old.facts.depth < 64 }
+        ensures answer { IsAnswered (refusal_of result) None }
+        ensures place { IfOk result (λ place. place_in self.new.children (string_bytes name) ≡ Some place) }
+        ensures ok { OnOk result (self.new ≡ with_subsystem self.old (string_bytes name) (labels_of labels.items)) }
+        ensures err { OnErr result (self.new ≡ self.old) }
+    {
+        match self.place_of(name.as_str()) {
+            Some(place) => Ok(place),
+            None => match self.new_child(alloc, name.as_str(), labels) {
+                Ok(registry) => {
+                    push_subsystem(&mut self.subsystems, alloc, Subsystem { name, registry })
+                }
+                Err(_) => Err(RegistryError::Memory),
+            },
+        }
+    }
+
+    // Sees that the subsystem with this name is there, and answers its place.
+    pub(super) fn add_subsystem(
+        &mut self,
+        alloc: Global,
+        name: String,
+        labels: Vec<(String, String)>,
+    ) -> Result<usize, RegistryError>
+        ensures answer { IsAnswered (refusal_of result) (subsystem_refusal self.old.facts.depth (string_bytes name) (labels_of labels.items)) }
+        ensures place { IfOk result (λ place. place_in self.new.children (string_bytes name) ≡ Some place) }
+        ensures ok { OnOk result (self.new ≡ with_subsystem self.old (string_bytes name) (labels_of labels.items)) }
+        ensures err { OnErr result (self.new ≡ self.old) }
+    {
+        if !is_snake_case(name.as_str()) {
+            return Err(RegistryError::InvalidSubsystemName { name });
+        }
+        if self.depth >= DEPTH_LIMIT {
+            return Err(RegistryError::TooDeep { name });
+        }
+        let labels = tested_labels(labels)?;
+        self.place_or_new(alloc, name, labels)
+    }
+
+    // The subsystem with this name, which is made with these labels where it is not there.
+    pub(super) fn labelled_subsystem(
+        &mut self,
+        alloc: Global,
+        name: String,
+        labels: Vec<(String, String)>,
+    ) -> Result<&mut Subsystem<M>, RegistryError>
+        ensures* writes_back { sem 𝓛 (lends_subsystem M.row self.entry (string_bytes name) (labels_of labels.items) result) }
+        ensures answer { IsAnswered (refusal_of result) (subsystem_refusal self.old.facts.depth (string_bytes name) (labels_of labels.items)) }
+        ensures name { IfOk result (λ s. string_bytes s.now.name ≡ string_bytes name) }
+        ensures reads { IfOk result (λ s. (b : _) → Reads self.old b → LoanReads (with_subsystem self.old (string_bytes name) (labels_of labels.items)) (string_bytes name) s.now.registry (after b (AskSubsystem [] (string_bytes name) (labels_of labels.items)))) }
+        ensures sound { IfOk result (λ s. HasBook self.old → HasBook s.now.registry) }
+    {
+        let place = self.add_subsystem(alloc, name, labels)?;
+        Ok(self.subsystem_at(place))
+    }
+
+    /// The subsystem with this name, which is made where it is not there: with this registry's labels, and with its
+    /// namespace and the name, joined by an underscore, as its namespace.
+    ///
+    /// Refused, in this order: a name that is not in snake case (`InvalidSubsystemName`), and a subsystem 65 registries
+    /// below a root (`TooDeep`). At `Memory` no memory could be had. At an error the registry stays as it was. What is
+    /// done to the subsystem is done to the part of this registry that it is; a subsystem that is there takes no memory.
+    pub fn subsystem(
+        &mut self,
+        alloc: Global,
+        name: String,
+    ) -> Result<&mut Subsystem<M>, RegistryError>
+        ensures* writes_back { sem 𝓛 (lends_subsystem M.row self.entry (string_bytes name) [] result) }
+        ensures answer { IsAnswered (refusal_of result) (subsystem_refusal self.old.facts.depth (string_bytes name) []) }
+        ensures name { IfOk result (λ s. string_bytes s.now.name ≡ string_bytes name) }
+        ensures reads { IfOk result (λ s. (b : _) → Reads self.old b → LoanReads (with_subsystem self.old (string_bytes name) []) (string_bytes name) s.now.registry (after b (AskSubsystem [] (string_bytes name) []))) }
+        ensures sound { IfOk result (λ s. HasBook self.old → HasBook s.now.registry) }
+    {
+        self.labelled_subsystem(alloc, name, Vec::new(alloc))
+    }
+}
+
+impl<M> Deref for Subsystem<M> {
+    type Target = Registry<M>;
+
+    ghost deref_gives = { λ s t. t ≡ s.registry };
+
+    fn deref(&self) -> &Registry<M> {
+        &self.registry
+    }
+}
+
+impl<M> DerefMut for Subsystem<M> {
+    ghost deref_mut_gives = { λ s t. t ≡ s.registry };
+
+    fn deref_mut(&mut self) -> &mut Registry<M>
+        ensures* writes_back { sem 𝓛 (lends_registry M.row self.entry result) }
+        ensures shows { result.now ≡ self.old.registry }
+    {
+        &mut self.registry
+    }
+}
+
+impl<M> Subsystem<M> {
+    /// The subsystem's own name.
+    pub fn name(&self) -> &str
+        ensures { result.now ≡ string_bytes self.now.name }
+    {
+        self.name.as_str()
+    }
+}
