@@ -6,6 +6,7 @@
 
 pub mod exemplar;
 pub mod label;
+mod label_copies;
 mod label_number;
 pub mod label_set;
 mod label_set_wrapper;

@@ -15,9 +15,10 @@ ghost use Rattle.fm_encoder.specs.Hands.{HandsLabels, HandsMembers, MembersOf};
 
 use crate::exemplar::EncodeExemplar;
 use crate::label::LabelSetEncoder;
+use crate::label_copies::cloned_labels;
 use crate::label_set::{EncodeLabelSet, encode_written};
 use crate::own::own_refusal;
-use crate::point::{EncodePoint, PointEncoder, cloned_labels};
+use crate::point::{EncodePoint, PointEncoder};
 use crate::value::{EncodeCounterValue, EncodeGaugeValue, EncodeUnknownValue};
 use fm_grammar::MetricType;
 use fm_text::{EncodeError, Sample};

@@ -1,5 +1,5 @@
 //! Points: what hands them over, and the encoder that gathers their samples.
-ghost use Rattle.std.specs.Prelude.{◌≡◌, ◌⊎◌, List, [], ◌∷◌, ◌++◌, MatchResult, MatchOption, None, Some, IfOk, IfErr, IfSome, Contains, map, string_bytes};
+ghost use Rattle.std.specs.Prelude.{◌≡◌, ◌⊎◌, List, [], ◌∷◌, MatchResult, MatchOption, None, Some, IfOk, IfSome, Contains, map, string_bytes};
 ghost use Rattle.std.specs.Option.{option_map, option_map_or};
 ghost use Rattle.std.specs.List.{AllByRecursion};
 ghost use Rattle.fm_grammar.specs.Names.{IsSnakeCase};
@@ -8,14 +8,14 @@ ghost use Rattle.fm_grammar.specs.WellFormed.{AreLabels, AreMillis, IsSample};
 ghost use Rattle.fm_text.specs.declared.error.EncodeError.{EncodeError};
 ghost use Rattle.fm_text.specs.Samples.{labels_of, samples_of, value_of, exemplar_of};
 ghost use Rattle.fm_encoder.specs.Points.{Point, UnknownPoint, GaugePoint, CounterPoint, StateSetPoint, InfoPoint, state_sample, millis};
-ghost use Rattle.fm_encoder.specs.Labels.{LabelsClean, LabelsFault, all_written, label_names};
+ghost use Rattle.fm_encoder.specs.Labels.{label_names};
 ghost use Rattle.fm_encoder.specs.States.{state_of};
-ghost use Rattle.fm_encoder.specs.Gathered.{OwnRefusal, answer};
+ghost use Rattle.fm_encoder.specs.Gathered.{answer};
 ghost use Rattle.fm_encoder.specs.Hands.{HandsPoints};
 ghost use Rattle.fm_encoder.specs.Steps.{FitsType, BeginsPoint, PushesSample, PushesSamples, TestsStates, EndsPoints, IsNumber};
 
 use crate::exemplar::{EncodeExemplar, exemplar_if_any};
-use crate::label::LabelSetEncoder;
+use crate::label_copies::{cloned_labels, labels_behind, labels_with};
 use crate::label_set::EncodeLabelSet;
 use crate::names::has_name;
 use crate::own::own_refusal;
@@ -73,79 +73,6 @@ impl Model for PointEncoder {
     ghost use Rattle.fm_encoder.specs.Gathering.{IsGathering};
 
     ghost invariant = { IsGathering };
-}
-
-// A label of its own memory, equal to the given one.
-fn cloned_label(alloc: Global, label: &(String, String)) -> Result<(String, String), EncodeError>
-    ensures ok { IfOk result (λ l. (string_bytes l.0 ≡ string_bytes label.now.0) × (string_bytes l.1 ≡ string_bytes label.now.1)) }
-    ensures err { IfErr result (λ e. e ≡ EncodeError.Memory) }
-{
-    let Ok(name) = String::from_str(alloc, label.0.as_str()) else {
-        return Err(EncodeError::Memory);
-    };
-    let Ok(value) = String::from_str(alloc, label.1.as_str()) else {
-        return Err(EncodeError::Memory);
-    };
-    Ok((name, value))
-}
-
-// Labels of their own memory, equal to the given ones.
-pub(crate) fn cloned_labels(
-    alloc: Global,
-    labels: &[(String, String)],
-) -> Result<Vec<(String, String)>, EncodeError>
-    ensures ok { IfOk result (λ ls. labels_of ls.items ≡ labels_of labels.now) }
-    ensures err { IfErr result (λ e. e ≡ EncodeError.Memory) }
-{
-    let mut clones = Vec::new(alloc);
-    for label in labels {
-        let Ok(clone) = cloned_label(alloc, label) else {
-            return Err(EncodeError::Memory);
-        };
-        if let Err(_) = clones.push(clone) {
-            return Err(EncodeError::Memory);
-        }
-    }
-    Ok(clones)
-}
-
-// The labels, and one more of this name and value.
-fn labels_with(
-    alloc: Global,
-    labels: &[(String, String)],
-    name: &str,
-    value: &str,
-) -> Result<Vec<(String, String)>, EncodeError>
-    ensures ok { IfOk result (λ ls. labels_of ls.items ≡ labels_of labels.now ++ record { name = name.now; value = value.now } ∷ []) }
-    ensures err { IfErr result (λ e. e ≡ EncodeError.Memory) }
-{
-    let mut all = cloned_labels(alloc, labels)?;
-    let (Ok(name), Ok(value)) = (String::from_str(alloc, name), String::from_str(alloc, value)) else {
-        return Err(EncodeError::Memory);
-    };
-    if let Err(_) = all.push((name, value)) {
-        return Err(EncodeError::Memory);
-    }
-    Ok(all)
-}
-
-// The labels, and those that a label set hands over behind them.
-fn labels_behind<LS: EncodeLabelSet>(
-    alloc: Global,
-    metric_type: MetricType,
-    common: Vec<(String, String)>,
-    labels: &LS,
-) -> Result<Vec<(String, String)>, EncodeError>
-    ensures { MatchResult result
-        (λ ls. LabelsClean metric_type (labels_of common.items) (LS.labels labels.now) × (labels_of ls.items ≡ labels_of common.items ++ all_written (LS.labels labels.now)))
-        (λ k. OwnRefusal (LS.may_fault labels.now) k ⊎ LabelsFault k metric_type (labels_of common.items) (LS.labels labels.now)) }
-{
-    if labels.is_empty() {
-        return Ok(common);
-    }
-    let mut encoder = LabelSetEncoder::behind(alloc, metric_type, common);
-    let visited = labels.encode(&mut encoder);
-    encoder.end(visited)
 }
 
 impl PointEncoder {
@@ -364,7 +291,8 @@ impl PointEncoder {
         ensures pushed { PushesSample (state_sample self.old.setting self.old.common (text.now, is_on)) self.old self.new }
         ensures answered { result ≡ answer self.new.refused }
     {
-        let Ok(labels) = labels_with(self.alloc, self.common.as_slice(), self.name.as_str(), text) else {
+        let Ok(labels) = labels_with(self.alloc, self.common.as_slice(), self.name.as_str(), text)
+        else {
             return self.refuse(EncodeError::Memory);
         };
         let value = Value::Whole(if is_on { 1 } else { 0 });

@@ -1,5 +1,5 @@
 -- The subsystems that a registry holds, as a forest.
-use Rattle.std.proofs.Common.{◌≡◌, ℕ, suc, zero, ◌+◌, ◌<◌, true, false, List, [], ◌∷◌, Option, None, Some, IsSome, length, slice_get, slice_set, if◌then◌else◌, refl, sym, ap, true≢false, subst, ◌∙◌, arith}
+use Rattle.std.proofs.Common.{◌≡◌, ℕ, suc, zero, ◌+◌, ◌<◌, List, [], ◌∷◌, Option, None, Some, IsSome, length, slice_get, slice_set, if◌then◌else◌, refl, sym, ap, true≢false, arith}
 use Rattle.std.specs.Option.{option_map}
 use Rattle.std.specs.Vec.{with_item}
 use Rattle.std.proofs.Common.{Vec, Global}
@@ -8,7 +8,7 @@ use Rattle.std.specs.List.{position_from}
 use Rattle.std.specs.Str.{bytes_eq}
 use Rattle.std.specs.String.{string_bytes}
 use Rattle.fm_book.specs.Texts.{Text}
-use Rattle.fm_book.specs.Tree.{Forest, Leaf, Child, Tree}
+use Rattle.fm_book.specs.Tree.{Child}
 use Rattle.fm_book.specs.Steps.{nth_in, nth_name, with_nth, place_from}
 use Rattle.fm_registry.specs.View.{forest_of}
 use Rattle.fm_registry.specs.declared.registry.Subsystem.{Subsystem}

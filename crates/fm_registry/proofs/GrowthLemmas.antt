@@ -6,7 +6,7 @@ use Rattle.fm_book.specs.Answer.{Refusal, answer, gained, after, after_if}
 use Rattle.fm_book.specs.Tree.{Tree, Reads}
 use Rattle.fm_book.specs.Steps.{with_named, with_child, with_subsystem}
 use Rattle.fm_book.specs.Loan.{LoanReads}
-use Rattle.fm_book.specs.Running.{Runs, after_reply}
+use Rattle.fm_book.specs.Running.{Runs}
 use Rattle.fm_book.specs.declared.RegistryError.{RegistryError}
 use Rattle.fm_registry.specs.HasBook.{HasBook, Grows}
 
@@ -83,7 +83,7 @@ module _ {M : Type 0} where
       → kept ≡ name → t ≡ record (with_subsystem s name labels) { children = with_named (with_subsystem s name labels).children name kept w } → Grows child w → Grows s t
   Grows-lent s name labels child w t kept loan same ends g =
       let put : t ≡ with_child (with_subsystem s name labels) name w =
-          ends ∙ ap (λ k. record (with_subsystem s name labels) { children = with_named (with_subsystem s name labels).children name k w }) same in
+      ends ∙ ap (λ k. record (with_subsystem s name labels) { children = with_named (with_subsystem s name labels).children name k w }) same in
       let asked : Book M → List (Call M) = λ b. added (answer b (Subsystem [] name labels)) b (Subsystem [] name labels) in
       let later : Book M → Book M = λ b. after b (Subsystem [] name labels) in
       record {

@@ -14,7 +14,7 @@ use Rattle.fm_raw.specs.Metadata.{IsSameMetric}
 use Rattle.fm_raw.specs.declared.metadata.Metadata.{Metadata}
 use Rattle.fm_raw.specs.contracts.metadata.MetadataPartialEq.TheImpl as key
 use Rattle.fm_raw.proofs.MetadataLemmas.{metadata_decide, types_decide}
-use Rattle.fm_book.specs.Registration.{Registration, is_same_metric, same_type, same_bool, same_unit}
+use Rattle.fm_book.specs.Registration.{is_same_metric, same_type, same_bool, same_unit}
 use Rattle.fm_book.specs.Answer.{has_metric}
 use Rattle.fm_book.proofs.MetricLemmas as book
 use Rattle.fm_registry.specs.View.{seen_metric, seen_metrics}

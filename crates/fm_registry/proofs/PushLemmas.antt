@@ -1,9 +1,9 @@
 -- A new subsystem goes last.
-use Rattle.std.proofs.Common.{◌≡◌, ℕ, ◌+◌, true, false, List, [], ◌∷◌, ◌++◌, Option, None, Some, IsSome, Result, Ok, Err, OnOk, IfOk, length, if◌then◌else◌, refl, sym, ap, subst, ◌∙◌, true≢false, arith}
+use Rattle.std.proofs.Common.{◌≡◌, ℕ, ◌+◌, true, false, List, [], ◌∷◌, ◌++◌, None, Some, Result, Ok, Err, OnOk, IfOk, length, if◌then◌else◌, sym, ap, ◌∙◌, arith}
 use Rattle.std.specs.Str.{bytes_eq}
 use Rattle.std.specs.String.{string_bytes}
 use Rattle.fm_book.specs.Texts.{Text, Labels}
-use Rattle.fm_book.specs.Tree.{Facts, Forest, Leaf, Child, Tree, find_child}
+use Rattle.fm_book.specs.Tree.{Facts, Leaf, Child, Tree, find_child}
 use Rattle.fm_book.specs.Steps.{add_child, new_facts, new_tree, added_unless, with_subsystem, place_from, place_in}
 use Rattle.fm_registry.specs.View.{forest_of}
 use Rattle.fm_registry.specs.declared.registry.Subsystem.{Subsystem}

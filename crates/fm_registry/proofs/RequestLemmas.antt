@@ -1,5 +1,5 @@
 -- Requests that go down a path, and calls in turn.
-use Rattle.std.proofs.Common.{◌≡◌, List, [], ◌∷◌, ◌++◌, map, Option, None, Some, Result, Ok, Err, OnOk, OnErr, refl, sym, ap, subst, ◌∙◌, String, Global}
+use Rattle.std.proofs.Common.{◌≡◌, List, [], ◌∷◌, ◌++◌, map, Option, None, Some, Result, OnOk, OnErr, refl, sym, ap, subst, ◌∙◌, String, Global}
 use Rattle.std.specs.Prelude.{reverse}
 use Rattle.std.specs.String.{string_bytes}
 use Rattle.std.proofs.lemmas.List.{map-append}

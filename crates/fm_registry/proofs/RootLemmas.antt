@@ -1,5 +1,5 @@
 -- A root's labels, one after the other.
-use Rattle.std.proofs.Common.{◌≡◌, ℕ, ◌+◌, ◌<◌, suc, Bool, true, false, List, [], ◌∷◌, ◌++◌, map, length, get_or, take, drop, Option, None, Some, IfSome, IsTrue, is_some, String, Global, slice_get, if◌then◌else◌, not, refl, sym, ap, append_assoc, ◌∙◌, true≢false, arith}
+use Rattle.std.proofs.Common.{◌≡◌, ℕ, ◌+◌, Bool, true, false, List, [], ◌∷◌, ◌++◌, map, get_or, take, drop, Option, None, Some, IfSome, IsTrue, is_some, String, Global, slice_get, if◌then◌else◌, refl, sym, ap, append_assoc, ◌∙◌, true≢false}
 use Rattle.std.specs.Prelude.{is_none, MatchBool}
 use Rattle.std.specs.List.{position_from}
 use Rattle.std.specs.Str.{bytes_eq}
@@ -7,7 +7,6 @@ use Rattle.std.proofs.lemmas.List.{take_more, take-append-drop, map-append}
 use Rattle.std.proofs.lemmas.Option.{get_or_from_slice_get, slice_get_within}
 use Rattle.fm_grammar.specs.Names.{IsSnakeCase}
 use Rattle.fm_grammar.specs.NameTests.{is_label_name}
-use Rattle.fm_grammar.specs.WellFormed.{AreLabels}
 use Rattle.fm_raw.proofs.NameLemmas.{snake_case_is}
 use Rattle.fm_text.specs.Samples.{label_of, labels_of}
 use Rattle.fm_book.specs.Texts.{Text, Label, Labels, has_name}

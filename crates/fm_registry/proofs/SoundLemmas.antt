@@ -1,5 +1,5 @@
 -- Registries that read a book.
-use Rattle.std.proofs.Common.{◌≡◌, [], Option, None, Some, IfSome, Result, Ok, Err, refl, sym, subst}
+use Rattle.std.proofs.Common.{[], Option, None, IfSome, Result, Ok, Err, refl, sym, subst}
 use Rattle.std.specs.List.{AllByRecursion}
 use Rattle.fm_grammar.specs.Names.{IsSnakeCase}
 use Rattle.fm_grammar.specs.WellFormed.{AreLabels}

@@ -1,3 +1,4 @@
+pub use Rattle.fm_text.specs.Samples
 pub use Rattle.fm_book.specs.Texts
 pub use Rattle.fm_book.specs.Registration
 pub use Rattle.fm_book.specs.Book

@@ -1,4 +1,4 @@
-use Rattle.std.proofs.Common.{◌∙◌, ap, sym, map, [], ◌∷◌}
+use Rattle.std.proofs.Common.{◌∙◌, ap, sym, [], ◌∷◌}
 use Rattle.std.proofs.lemmas.List.{map-append}
 use Rattle.fm_book.specs.Texts.{set_label, merge_labels}
 use Rattle.fm_text.specs.Samples.{label_of, labels_of}

@@ -1,6 +1,6 @@
-use Rattle.std.proofs.Common.{◌≡◌, map}
+use Rattle.std.proofs.Common.{◌≡◌}
 use Rattle.fm_book.specs.Texts.{merge_labels}
-use Rattle.fm_text.specs.Samples.{label_of, labels_of}
+use Rattle.fm_text.specs.Samples.{labels_of}
 use Rattle.fm_registry.specs.View.{seen_labels}
 use Rattle.fm_registry.proofs.labels.merged_labels.Given as goal
 

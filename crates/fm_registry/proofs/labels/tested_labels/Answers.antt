@@ -1,6 +1,5 @@
 use Rattle.std.proofs.Common.{◌≡◌, ◌∙◌, ◌<◌, Some, sym, not, refl, length, arith}
 use Rattle.std.specs.List.{position_from}
-use Rattle.std.specs.String.{string_bytes}
 use Rattle.std.proofs.lemmas.Option.{slice_get_read}
 use Rattle.fm_text.specs.Samples.{label_of}
 use Rattle.fm_grammar.specs.NameTests.{is_label_name}

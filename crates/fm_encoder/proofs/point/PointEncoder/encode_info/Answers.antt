@@ -1,5 +1,4 @@
-use Rattle.std.proofs.Common.{◌≡◌, List, ◌++◌, subst, sym, ap, ◌∙◌}
-use Rattle.fm_grammar.specs.Exposition.{Label}
+use Rattle.std.proofs.Common.{subst, sym, ap, ◌∙◌}
 use Rattle.fm_grammar.specs.WellFormed.{AreLabels}
 use Rattle.fm_text.specs.Samples.{labels_of}
 use Rattle.fm_encoder.proofs.NameLemmas.{AreLabels-behind}

@@ -1,5 +1,4 @@
-use Rattle.std.proofs.Common.{◌≡◌, List, ◌++◌, ◌∷◌, [], subst, sym, ap, ◌∙◌, string_bytes, Contains}
-use Rattle.fm_grammar.specs.Exposition.{Label}
+use Rattle.std.proofs.Common.{subst, sym, string_bytes, Contains}
 use Rattle.fm_text.specs.Samples.{labels_of}
 use Rattle.fm_encoder.specs.Labels.{label_names}
 use Rattle.fm_encoder.specs.Gathered.{GatheredPoints}

@@ -1,4 +1,3 @@
-use Rattle.std.proofs.Common.{map}
 use Rattle.std.specs.String.{string_bytes}
 use Rattle.fm_text.specs.Samples.{labels_of}
 use Rattle.fm_book.specs.Answer.{refusal_of}

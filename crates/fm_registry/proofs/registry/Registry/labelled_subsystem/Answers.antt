@@ -1,4 +1,4 @@
-use Rattle.std.proofs.Common.{◌≡◌, ℕ, List, Some, sym, ap, ◌∙◌, inl, map}
+use Rattle.std.proofs.Common.{◌≡◌, ℕ, List, Some, sym, ap, ◌∙◌, inl}
 use Rattle.fm_text.specs.Samples.{labels_of}
 use Rattle.fm_book.specs.Tree.{find_child}
 use Rattle.fm_book.proofs.CallLemmas.{subsystem-loan}

@@ -1,0 +1,2 @@
+pub mod LinearLemmas
+pub mod ExponentialLemmas

@@ -1,0 +1,5 @@
+pub use Rattle.fm_grammar.specs.Numbers
+pub use Rattle.fm_raw.specs.Signed
+pub mod Errors
+pub mod BoundTests
+pub mod Bounds

@@ -1,0 +1,117 @@
+//! Buckets and their bounds.
+ghost use Rattle.std.specs.Prelude.{◌≡◌, ◌+◌, ◌^◌, ◌↔◌, ℤ, pos, [], ◌∷◌, Ok, Err, IfErr, OnOk, OnErr};
+ghost use Rattle.std.specs.Ordering.{int_cmp};
+ghost use Rattle.std.specs.declared.cmp.Ordering.TheVariants.{Less, Equal, Greater};
+ghost use Rattle.fm_raw.specs.declared.error.MetricError.TheVariants.{CountFull};
+ghost use Rattle.fm_bucket.specs.declared.bound.Bound.{Bound as OneBound};
+ghost use Rattle.fm_bucket.specs.declared.bound.Bound.TheVariants.{Finite, Inf};
+ghost use Rattle.fm_bucket.specs.BoundTests.{lies_below, bound_text};
+ghost use Rattle.fm_bucket.specs.Bounds.{default_bounds};
+ghost use Rattle.fm_bucket.specs.contracts.bound.BoundOrd.TheImpl.{ghosts as orders};
+
+use fm_raw::{Fixed, FixedBuffer, FixedSum, MetricError};
+
+/// The name of the label that holds a bucket's bound.
+pub const BUCKET_LABEL: &str = "le";
+
+/// A bucket's upper bound: a number, or none. Bounds are ordered as their numbers, and `Inf` is the greatest.
+#[derive(Clone, Copy, Debug, PartialEq, Eq, PartialOrd, Ord, Hash)]
+pub enum Bound {
+    /// Values up to this one.
+    Finite(Fixed),
+    /// All values.
+    Inf,
+}
+
+/// How many values lie in an interval that ends with the bound.
+#[derive(Clone, Copy, Debug, PartialEq, Eq)]
+pub struct Bucket {
+    pub(crate) upper_bound: Bound,
+    pub(crate) count: u64,
+}
+
+impl Bound {
+    /// Whether the bound is less than the value.
+    pub fn is_below(self, value: Fixed) -> bool
+        ensures { result ≡ lies_below self value }
+    {
+        match self {
+            Bound::Finite(bound) => bound < value,
+            Bound::Inf => false,
+        }
+    }
+
+    /// The bound's text as a label value: the number's text, or `+Inf`. It takes no memory.
+    pub fn format<'a>(self, buffer: &'a mut FixedBuffer) -> &'a str
+        ensures { result.now ≡ bound_text self }
+    {
+        match self {
+            Bound::Finite(bound) => buffer.format(FixedSum::from(bound)),
+            Bound::Inf => "+Inf",
+        }
+    }
+}
+
+impl Bucket {
+    /// A bucket with that upper bound and count.
+    pub fn new(upper_bound: Bound, count: u64) -> Bucket
+        ensures { result ≡ record { upper_bound = upper_bound; count = count } }
+    {
+        Bucket { upper_bound, count }
+    }
+
+    /// The greatest value that the bucket takes.
+    pub fn upper_bound(self) -> Bound
+        ensures { result ≡ self.upper_bound }
+    {
+        self.upper_bound
+    }
+
+    /// How many values the bucket has.
+    pub fn count(self) -> u64
+        ensures { result ≡ self.count }
+    {
+        self.count
+    }
+
+    /// Counts one value more. It answers `CountFull` where the count is the greatest `u64`, and then changes nothing.
+    pub fn inc(&mut self) -> Result<(), MetricError>
+        ensures counted { OnOk result (self.new ≡ record { upper_bound = self.old.upper_bound; count = self.old.count + 1 }) }
+        ensures full { (result ≡ Err CountFull) ↔ (self.old.count + 1 ≡ 2 ^ 64) }
+        ensures only_full { IfErr result (λ e. e ≡ CountFull) }
+        ensures kept { OnErr result (self.new ≡ self.old) }
+    {
+        let Some(count) = self.count.checked_add(1) else {
+            return Err(MetricError::CountFull);
+        };
+        self.count = count;
+        Ok(())
+    }
+}
+
+/// The bounds that suit most durations: 0.005, 0.01, 0.025, 0.05, 0.1, 0.25, 0.5, 1, 2.5, 5 and 10 seconds.
+pub fn default_buckets() -> [Fixed; 11]
+    ensures { result ≡ default_bounds }
+{
+    [
+        Fixed::from_millionths(5_000),
+        Fixed::from_millionths(10_000),
+        Fixed::from_millionths(25_000),
+        Fixed::from_millionths(50_000),
+        Fixed::from_millionths(100_000),
+        Fixed::from_millionths(250_000),
+        Fixed::from_millionths(500_000),
+        Fixed::from_millionths(1_000_000),
+        Fixed::from_millionths(2_500_000),
+        Fixed::from_millionths(5_000_000),
+        Fixed::from_millionths(10_000_000),
+    ]
+}
+
+/// Bounds are ordered as their numbers, and `Inf` is the greatest.
+pub fn bounds_are_ordered()
+    ensures finite { (a b : ℤ) → orders.cmp (Finite a) (Finite b) ≡ int_cmp a b }
+    ensures below { (a : ℤ) → orders.cmp (Finite a) Inf ≡ Less }
+    ensures above { (a : ℤ) → orders.cmp Inf (Finite a) ≡ Greater }
+    ensures same { orders.cmp Inf Inf ≡ Equal }
+{}

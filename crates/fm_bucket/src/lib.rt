@@ -1,0 +1,16 @@
+//! Buckets of histograms: their bounds, their counts, and the search for the bucket of a value.
+#![tactic(auto)]
+
+pub mod bound;
+pub mod error;
+pub mod exponential;
+pub mod linear;
+pub mod search;
+#[cfg(test)]
+mod tests;
+
+pub use bound::{BUCKET_LABEL, Bound, Bucket, default_buckets};
+pub use error::BucketError;
+pub use exponential::{ExponentialBuckets, exponential_buckets, exponential_buckets_range};
+pub use linear::{LinearBuckets, linear_buckets};
+pub use search::{Probe, Steps, find_bucket};

@@ -1,0 +1,74 @@
+//! The search for a bucket, with a bound on the number of questions.
+ghost use Rattle.std.specs.Prelude.{◌≡◌, ℕ, ◌+◌, ◌-◌, ◌*◌, ◌^◌, ◌<◌, ◌≤◌, ◌↔◌, IsTrue, min};
+
+use std::marker::Model;
+use std::sync::ledger::{Blank, Book, Ledger, Share};
+
+/// How many steps were taken. It takes no bytes, and only `tick` changes it.
+#[derive(Drop)]
+pub struct Steps<L: Ledger> {
+    book: Book<L>,
+    share: Share<L>,
+}
+
+impl<L: Ledger> Model for Steps<L> {
+    ghost Value = { ℕ };
+
+    ghost view = { λ s. s.book.total };
+
+    ghost invariant = { λ s. 0 < s.share.parts };
+}
+
+impl<L: Ledger> Steps<L> {
+    /// No step was taken yet.
+    pub fn new(blank: Blank) -> Steps<L>
+        requires name { blank.name ≡ L.name }
+        requires parts { blank.parts ≡ L.parts }
+        requires some { 0 < blank.parts }
+        ensures { result ≡ 0 }
+    {
+        let (book, share) = blank.open::<L>();
+        Steps { book, share }
+    }
+
+    /// One step more.
+    pub fn tick(&mut self)
+        ensures { self.new ≡ self.old + 1 }
+    {
+        self.book.add(&mut self.share, 1);
+    }
+}
+
+/// Answers questions about places: false below one place, and true from it on. Each answer is counted.
+pub trait Probe {
+    /// The first place with the answer true.
+    ghost first: { Self → ℕ };
+
+    /// How many answers were given.
+    ghost asked: { Self → ℕ };
+
+    /// Whether the place is the first one with the answer true, or behind it.
+    fn reaches(&mut self, i: usize) -> bool
+        ensures answer { IsTrue result ↔ (first self.old ≤ i) }
+        ensures same { first self.new ≡ first self.old }
+        ensures counted { asked self.new ≡ asked self.old + 1 };
+}
+
+/// The first place below `n` that answers true, else `n`. It asks at most as often as `n + 1` has binary digits.
+pub fn find_bucket<P: Probe>(n: usize, probe: &mut P) -> usize
+    ensures place { result ≡ min n (P.first probe.old) }
+    ensures same { P.first probe.new ≡ P.first probe.old }
+    ensures cost { 2 ^ (P.asked probe.new - P.asked probe.old) ≤ 2 * (n + 1) }
+{
+    let mut low = 0;
+    let mut high = n;
+    while low < high {
+        let middle = low + (high - low) / 2;
+        if probe.reaches(middle) {
+            high = middle;
+        } else {
+            low = middle + 1;
+        }
+    }
+    low
+}
