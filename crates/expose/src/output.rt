@@ -52,11 +52,7 @@ fn report<E: Write>(errors: &mut E, fault: Fault) -> u8
 }
 
 // Prints the registry's document.
-fn print_document<W: Write>(
-    alloc: Global,
-    out: &mut W,
-    registry: &Registry,
-) -> Result<(), Fault>
+fn print_document<W: Write>(alloc: Global, out: &mut W, registry: &Registry) -> Result<(), Fault>
     requires { HasBook registry.now }
     ensures printed { PrintsDocument (λ e. (b : _) → Reads registry.now b → Admits (λ m. offers m) (λ m. stamps m) (λ m. may_be_empty m) (order b) e)
         (W.contents out.old) (W.contents out.new) result }

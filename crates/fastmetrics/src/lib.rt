@@ -1,7 +1,7 @@
 //! fastmetrics, an OpenMetrics client library: metrics that instrumented programs count and observe with, registries
 //! that hold them, and the text that a scraper such as Prometheus reads.
 //!
-//! - [`metrics`]: counters, gauges, tallies.
+//! - [`metrics`]: counters, gauges, unknowns, infos, state sets, tallies.
 //! - [`registry`]: registries of metrics, with their subsystems.
 //! - [`format`]: `format::text::encode` writes a registry's document.
 //! - [`encoder`]: what metrics, points and labels of your own implement.
@@ -10,6 +10,43 @@
 
 pub use fm_core::format;
 pub use fm_encoder as encoder;
-pub use fm_metrics as metrics;
-pub use fm_raw as raw;
-pub use fm_registry as registry;
+
+pub mod metrics {
+    //! The types of metrics: those whose value is fixed, and those that threads count with.
+    pub use fm_handles::{info, state_set, unknown};
+    pub use fm_metrics::tally;
+
+    pub mod counter {
+        //! Counters: numbers that never fall.
+        pub use fm_handles::counter::Counter;
+        pub use fm_metrics::counter::ConstCounter;
+    }
+
+    pub mod gauge {
+        //! Gauges: numbers that rise and fall.
+        pub use fm_handles::gauge::Gauge;
+        pub use fm_metrics::gauge::ConstGauge;
+    }
+}
+
+pub mod raw {
+    //! Numbers, atomic words, units, metadata, and the buckets of histograms.
+    pub use fm_atomic::{Atomic, CounterValue, GaugeValue, TryDefault, UnknownValue, atomic};
+    pub use fm_bucket as bucket;
+    pub use fm_raw::{
+        Fixed, FixedBuffer, FixedSum, Metadata, MetricError, MetricType, Number, TypedMetric, Unit,
+        error, fixed, is_label_name, is_snake_case, is_unit_text, metadata, name, number, types,
+    };
+}
+
+pub mod registry {
+    //! Registries of metrics, with their subsystems, and the one that a whole program shares.
+    pub use fm_global::{
+        GlobalRegistry, Register, SetRegistryError, register_global, set_global_registry,
+        with_global_registry, with_global_registry_mut,
+    };
+    pub use fm_registry::{
+        ListedMetric, MetricType, Registry, RegistryBuilder, RegistryCall, RegistryError,
+        RegistrySubsystemBuilder, Subsystem, Unit,
+    };
+}

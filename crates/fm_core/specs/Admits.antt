@@ -36,7 +36,7 @@ module _ {M : Type 0} (k : EncodeError) (Offers : M → List Member → Type 0) 
   abbrev pub FaultOf : Listed M → Type 0
   FaultOf listed =
       MetricHasFault k (Offers listed.registration.metric) (Stamps listed.registration.metric) (MayFault listed.registration.metric)
-        (listed_name listed) listed.registration.metric_type listed.labels
+      (listed_name listed) listed.registration.metric_type listed.labels
 
   -- the fault stands in one of the listed metrics
   abbrev pub Fault : List (Listed M) → Type 0

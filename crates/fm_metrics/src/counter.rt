@@ -5,9 +5,7 @@ ghost use Rattle.fm_grammar.specs.declared.MetricType.TheVariants.{Counter};
 ghost use Rattle.fm_encoder.specs.Points.{CounterPoint, millis};
 ghost use Rattle.fm_metrics.specs.Constants.{total_of, created_of};
 
-use fm_encoder::{
-    EncodeCounterValue, EncodeMetric, EncodePoint, MetricEncoder, PointEncoder,
-};
+use fm_encoder::{EncodeCounterValue, EncodeMetric, EncodePoint, MetricEncoder, PointEncoder};
 use fm_raw::{MetricType, Number, TypedMetric};
 use fm_text::EncodeError;
 use std::time::Duration;

@@ -23,17 +23,16 @@ ghost use Rattle.fm_core.specs.Admits.{IsFamilyOf, Admits, AdmitsNext, FaultOf, 
 ghost use Rattle.fm_core.specs.Encoded.{WritesAdmitted, BeginsAdmitted};
 
 use fm_encoder::{EncodeMetric, MetricEncoder};
+pub use fm_grammar::SampleKind;
 use fm_raw::{MetricType, Unit};
 use fm_registry::{ListedMetric, Registry};
 use fm_text::make;
-use std::alloc::{AllocError, Global};
-use std::io::Write;
-use std::time::Duration;
-
-pub use fm_grammar::SampleKind;
 pub use fm_text::{
     EncodeError, Exemplar, Exposition, FamilySamples, Sample, Value, encode_exposition,
 };
+use std::alloc::{AllocError, Global};
+use std::io::Write;
+use std::time::Duration;
 
 // The whole milliseconds of a timestamp.
 fn whole_millis(time: Option<Duration>) -> Option<u128>

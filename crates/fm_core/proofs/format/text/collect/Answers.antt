@@ -13,14 +13,14 @@ collect_next-requires g c =
     let within : c.loop-listed.listed-index < length c.deref-listed-items.result.now = omega arith in
     let whole = ap seen_list c.deref-listed-items.ensures.value ∙ c.in-Ok.ensures.tree in
     IsListable-at c.deref-listed-items.result.now c.loop-listed.listed-index c.listed-item.result within c.listed-item.is
-      (subst (λ (ls : List (Listed _)). AllByRecursion IsListable ls) (sym whole) (listed_tree-fits c.args.registry.now c.requires.book c.requires.reads))
+    (subst (λ (ls : List (Listed _)). AllByRecursion IsListable ls) (sym whole) (listed_tree-fits c.args.registry.now c.requires.book c.requires.reads))
 
 pub loop-listed-preserved : goal.loop-listed-preserved
 loop-listed-preserved g c =
     let within : c.loop-listed.listed-index < length c.deref-listed-items.result.now = omega arith in
     record {
       admitted = Admits-next _ _ _ c.deref-listed-items.result.now c.loop-listed.listed-index c.listed-item.result c.loop-listed.families.items c.collect_next.new.families.items
-        within c.listed-item.is c.loop-listed.invariant.admitted (rw c.in_ok-collect_next.was at c.collect_next.ensures.ok);
+          within c.listed-item.is c.loop-listed.invariant.admitted (rw c.in_ok-collect_next.was at c.collect_next.ensures.ok);
       well_formed = c.collect_next.ensures.well_formed c.loop-listed.invariant.well_formed;
     }
 

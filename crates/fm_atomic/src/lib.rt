@@ -1,0 +1,10 @@
+//! Numbers that threads share without a lock, and values to begin with.
+#![tactic(auto)]
+
+pub mod atomic;
+pub mod try_default;
+pub mod value;
+
+pub use atomic::Atomic;
+pub use try_default::TryDefault;
+pub use value::{CounterValue, GaugeValue, UnknownValue};

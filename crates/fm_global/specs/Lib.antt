@@ -1,0 +1,2 @@
+pub use Rattle.fm_registry.specs.HasBook
+pub mod Kept

@@ -1,0 +1,69 @@
+//! Metrics of no known type.
+ghost use Rattle.std.specs.Prelude.{◌≡◌, [], ◌∷◌};
+ghost use Rattle.fm_grammar.specs.declared.MetricType.TheVariants.{Unknown as UnknownType};
+ghost use Rattle.fm_encoder.specs.Points.{UnknownPoint};
+ghost use Rattle.fm_handles.specs.Handles.{value_of};
+
+use fm_atomic::UnknownValue;
+use fm_encoder::{EncodeMetric, EncodePoint, EncodeUnknownValue, MetricEncoder, PointEncoder};
+use fm_raw::{MetricType, TypedMetric};
+use fm_text::EncodeError;
+use std::time::Duration;
+
+/// A metric of no known type that keeps the value it was made with.
+///
+/// `T` is `i32`, `i64`, `isize`, `u32` or `Fixed`.
+#[derive(Clone, Debug, Drop)]
+pub struct Unknown<T: UnknownValue> {
+    value: T,
+}
+
+impl<T: UnknownValue> Unknown<T> {
+    /// The metric of this value.
+    pub fn new(value: T) -> Unknown<T>
+        ensures { value_of result ≡ value }
+    {
+        Unknown { value }
+    }
+
+    /// The metric's value.
+    pub fn get(&self) -> &T
+        ensures { result.now ≡ value_of self.now }
+    {
+        &self.value
+    }
+}
+
+impl<T: UnknownValue> TypedMetric for Unknown<T> {
+    const TYPE: MetricType = MetricType::Unknown;
+}
+
+impl<T: UnknownValue + EncodeUnknownValue> EncodePoint for Unknown<T> {
+    ghost points = { λ u ps. ps ≡ UnknownPoint (T.numbers u.value) ∷ [] };
+
+    ghost may_fault = { λ u. T.may_fault u.value };
+
+    fn encode(&self, points: &mut PointEncoder) -> Result<(), EncodeError> {
+        points.encode_unknown(&self.value)
+    }
+}
+
+impl<T: UnknownValue + EncodeUnknownValue + Drop> EncodeMetric for Unknown<T> {
+    ghost types = { λ _ t. t ≡ UnknownType };
+
+    ghost offers = { λ u ms. ms ≡ record { labels = []; point = UnknownPoint (T.numbers u.value) } ∷ [] };
+
+    ghost may_fault = { λ u. T.may_fault u.value };
+
+    fn encode(&self, encoder: &mut MetricEncoder) -> Result<(), EncodeError> {
+        encoder.encode_unknown(&self.value)
+    }
+
+    fn metric_type(&self) -> MetricType {
+        MetricType::Unknown
+    }
+
+    fn timestamp(&self) -> Option<Duration> {
+        None
+    }
+}
