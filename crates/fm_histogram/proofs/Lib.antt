@@ -1,0 +1,5 @@
+pub mod BucketLemmas
+pub mod CountLemmas
+pub mod MergeLemmas
+pub mod EmptyLemmas
+pub mod BoundLemmas

@@ -1,0 +1,24 @@
+use Rattle.std.proofs.Common.{◌≡◌, ℕ, ◌≤◌, ℤ, pos, List, [], ◌∷◌, ◌++◌, None, true, map, take, length, refl, ap, ◌∙◌, arith}
+use Rattle.std.proofs.lemmas.Int.{ints}
+use Rattle.std.proofs.lemmas.List.{take_all}
+use Rattle.fm_bucket.specs.declared.bound.Bucket.{Bucket}
+use Rattle.fm_histogram.specs.Histogram.{IsCounts, rises}
+use Rattle.fm_histogram.proofs.EmptyLemmas.{finite, endless, of_none}
+use Rattle.fm_histogram.proofs.counts.Counts.new.Goals as goal
+
+made : (rising : List ℤ) (n : ℕ) (before buckets : List Bucket) → rises None rising ≡ true → length rising ≤ n → before ≡ map finite (take n rising)
+    → buckets ≡ before ++ endless ∷ [] → IsCounts rising [] (record { buckets = buckets; count = 0; sum = pos 0 })
+made rising n before buckets up all was is =
+    of_none rising _ up (is ∙ ap (λ bs. bs ++ endless ∷ []) (was ∙ ap (map finite) (take_all n rising all))) refl refl
+
+pub invariant_of-result : goal.invariant_of-result
+invariant_of-result c = record {
+  bounds = c.args.rising.now;
+  values = [];
+  is = made _ _ _ _ c.requires c.loop-bound-test.false c.loop-bound.invariant.0 (c.push_reserved-2.ensures.items ∙ ap (λ b. c.loop-bound.buckets.items ++ b ∷ []) c.new-2.ensures);
+  low = omega (arith, ints);
+  high = omega (arith, ints);
+}
+
+pub returns-clause-bounds : goal.returns-clause-bounds
+returns-clause-bounds c = made _ _ _ _ c.requires c.loop-bound-test.false c.loop-bound.invariant.0 (c.push_reserved-2.ensures.items ∙ ap (λ b. c.loop-bound.buckets.items ++ b ∷ []) c.new-2.ensures)

@@ -1,0 +1,3 @@
+pub use Rattle.fm_raw.specs.Signed
+pub use Rattle.fm_bucket.specs.BoundTests
+pub mod Histogram

@@ -1,0 +1,85 @@
+//! Snapshots against values from outside.
+use crate::{GaugeHistogramSnapshot, HistogramSnapshot};
+use fm_bucket::{Bound, Bucket, default_buckets};
+use fm_raw::{Fixed, FixedSum, MetricError};
+use std::alloc::{AllocError, Global};
+use std::test::Fail;
+
+const ONE: i64 = 1_000_000;
+
+fn whole(n: i8) -> Fixed {
+    Fixed::from_millionths(i64::from(n) * ONE)
+}
+
+fn counts(alloc: Global, buckets: &[Bucket]) -> Result<Vec<u64>, AllocError> {
+    buckets.iter().map(|b| b.count()).collect(alloc)
+}
+
+#[test]
+fn counts_by_bounds(rt: HostRuntime) -> Result<(), Fail> {
+    let alloc = rt.alloc();
+    let bounds = [whole(5), whole(1), whole(2), whole(-1), whole(1)];
+    let mut all = HistogramSnapshot::new(alloc, bounds.iter().copied())?;
+    let mut other = all.clone()?;
+    for value in [
+        whole(1),
+        whole(2),
+        whole(3),
+        whole(6),
+        whole(-1),
+        Fixed::ZERO,
+    ] {
+        all.observe(value)?;
+    }
+    assert_eq!(rt;
+        counts(alloc, all.buckets())?.as_slice(),
+        [2, 1, 1, 1].as_slice()
+    );
+    assert_eq!(rt; (all.count(), all.sum()), (5, FixedSum::from(whole(12))));
+    let last = all.buckets().last().copied();
+    assert_eq!(rt; last, Some(Bucket::new(Bound::Inf, 1)));
+    other.observe(whole(5))?;
+    all.merge(&other)?;
+    assert_eq!(rt;
+        counts(alloc, all.buckets())?.as_slice(),
+        [2, 1, 2, 1].as_slice()
+    );
+    assert_eq!(rt; (all.count(), all.sum()), (6, FixedSum::from(whole(17))));
+    let defaults = HistogramSnapshot::new(alloc, default_buckets().iter().copied())?;
+    assert_eq!(rt; defaults.buckets().len(), 12);
+    assert_eq!(rt; all.merge(&defaults), Err(MetricError::UnequalBounds));
+    assert_eq!(rt; all.count(), 6);
+    Ok(())
+}
+
+#[test]
+fn counts_stop_at_the_greatest(rt: HostRuntime) -> Result<(), Fail> {
+    let mut all = HistogramSnapshot::new(rt.alloc(), [].iter().copied())?;
+    all.observe(whole(1))?;
+    for _ in 0..63u8 {
+        let same = all.clone()?;
+        all.merge(&same)?;
+    }
+    let half = all.clone()?;
+    assert_eq!(rt; all.merge(&half), Err(MetricError::CountFull));
+    assert_eq!(rt; all.observe(whole(-1)), Ok(()));
+    assert_eq!(rt; all.count(), 1u64 << 63);
+    Ok(())
+}
+
+#[test]
+fn gauge_counts_negative_values(rt: HostRuntime) -> Result<(), Fail> {
+    let alloc = rt.alloc();
+    let mut all = GaugeHistogramSnapshot::new(alloc, [Fixed::ZERO, whole(-1)].iter().copied())?;
+    for value in [whole(-1), whole(-2), Fixed::ZERO, whole(1)] {
+        all.observe(value)?;
+    }
+    let other = all.clone()?;
+    all.merge(&other)?;
+    assert_eq!(rt;
+        counts(alloc, all.buckets())?.as_slice(),
+        [4, 2, 2].as_slice()
+    );
+    assert_eq!(rt; (all.gcount(), all.gsum()), (8, FixedSum::from(whole(-4))));
+    Ok(())
+}
