@@ -27,6 +27,16 @@ pub mod metrics {
         pub use fm_handles::gauge::Gauge;
         pub use fm_metrics::gauge::ConstGauge;
     }
+
+    pub mod histogram {
+        //! What histograms show: counts of observed values by bounds.
+        pub use fm_histogram::HistogramSnapshot;
+    }
+
+    pub mod gauge_histogram {
+        //! What gauge histograms show: counts of current values by bounds.
+        pub use fm_histogram::GaugeHistogramSnapshot;
+    }
 }
 
 pub mod raw {
