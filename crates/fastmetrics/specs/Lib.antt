@@ -28,3 +28,9 @@ pub use Rattle.fm_metrics.specs.Constants
 pub use Rattle.fm_metrics.specs.Events
 pub use Rattle.fm_core.specs.Admits
 pub use Rattle.fm_core.specs.Encoded
+pub use Rattle.fm_encoder.specs.States
+pub use Rattle.fm_handles.specs.Handles
+pub use Rattle.fm_handles.specs.StateSets
+pub use Rattle.fm_bucket.specs.BoundTests
+pub use Rattle.fm_bucket.specs.Bounds
+pub use Rattle.fm_histogram.specs.Histogram
