@@ -1,0 +1,25 @@
+//! Tests of the library as a whole: documents, refusals and refused memory, with values from outside.
+#![tactic(auto)]
+
+#[cfg(test)]
+mod constants;
+#[cfg(test)]
+mod documents;
+#[cfg(test)]
+mod expositions;
+#[cfg(test)]
+mod labels;
+#[cfg(test)]
+mod members;
+#[cfg(test)]
+mod parts;
+#[cfg(test)]
+mod refusals;
+#[cfg(test)]
+mod registering;
+#[cfg(test)]
+mod support;
+#[cfg(test)]
+mod tallies;
+#[cfg(test)]
+mod writers;

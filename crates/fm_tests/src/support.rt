@@ -1,0 +1,102 @@
+//! What the tests share: writers that stop, and documents of registries.
+ghost use Rattle.fm_registry.specs.HasBook.{HasBook};
+
+use fastmetrics::encoder::EncodeMetric;
+use fastmetrics::format::text::{EncodeError, encode};
+use fastmetrics::raw::Unit;
+use fastmetrics::registry::Registry;
+use std::alloc::Global;
+use std::io::{self, ErrorKind, Write};
+use std::test::Fail;
+
+/// A writer that takes at most `step` bytes a call and `room` bytes in all. Then it answers an error of this kind, or 0.
+#[derive(Drop)]
+pub(crate) struct Stopping {
+    pub(crate) bytes: Vec<u8>,
+    room: usize,
+    step: usize,
+    end: Option<ErrorKind>,
+}
+
+impl Stopping {
+    pub(crate) fn new(alloc: Global, room: usize, step: usize, end: Option<ErrorKind>) -> Stopping {
+        Stopping {
+            bytes: Vec::new(alloc),
+            room,
+            step,
+            end,
+        }
+    }
+}
+
+impl Write for Stopping {
+    fn write(&mut self, buf: &[u8]) -> io::Result<usize> {
+        let count = buf.len().min(self.room).min(self.step);
+        if count == 0
+            && let Some(kind) = self.end
+        {
+            return Err(io::Error::from(kind));
+        }
+        self.bytes.extend_from_slice(&buf[..count])?;
+        self.room -= count;
+        Ok(count)
+    }
+
+    fn flush(&mut self) -> io::Result<()> {
+        Ok(())
+    }
+}
+
+/// The text that these bytes are.
+pub(crate) fn text_of(bytes: Vec<u8>) -> Result<String, Fail> {
+    match String::from_utf8(bytes) {
+        Ok(text) => Ok(text),
+        Err(_) => Err(Fail::new("no text")),
+    }
+}
+
+/// The document of a registry.
+pub(crate) fn document_of(alloc: Global, registry: &Registry) -> Result<String, Fail>
+    requires { HasBook registry.now }
+{
+    let mut bytes = Vec::new(alloc);
+    encode(alloc, &mut bytes, registry)?;
+    text_of(bytes)
+}
+
+/// What encoding a metric under this name and the help `H` answers, and what it writes.
+pub(crate) fn encoded(
+    alloc: Global,
+    name: &str,
+    unit: Option<Unit>,
+    metric: Box<dyn EncodeMetric>,
+) -> Result<(Result<(), EncodeError>, String), Fail> {
+    let mut registry = Registry::default();
+    let name = String::from_str(alloc, name)?;
+    let help = String::from_str(alloc, "H")?;
+    registry.register_metric(alloc, name, help, unit, metric)?;
+    let mut bytes = Vec::new(alloc);
+    let answer = encode(alloc, &mut bytes, &registry);
+    Ok((answer, text_of(bytes)?))
+}
+
+/// The document of a metric alone, under this name and the help `H`.
+pub(crate) fn document_alone(
+    alloc: Global,
+    name: &str,
+    unit: Option<Unit>,
+    metric: Box<dyn EncodeMetric>,
+) -> Result<String, Fail> {
+    let (answer, document) = encoded(alloc, name, unit, metric)?;
+    answer?;
+    Ok(document)
+}
+
+/// Why a metric alone, under the name `t`, is refused. A refusal writes nothing.
+pub(crate) fn refusal(alloc: Global, metric: Box<dyn EncodeMetric>) -> Result<EncodeError, Fail> {
+    match encoded(alloc, "t", None, metric)? {
+        (Err(error), document) if document.is_empty() => Ok(error),
+        (Err(_), _) => Err(Fail::new("a refusal wrote something")),
+        (Ok(()), _) => Err(Fail::new("nothing was refused")),
+    }
+}
