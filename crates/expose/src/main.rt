@@ -3,28 +3,43 @@
 
 mod output;
 mod scene;
+mod states;
+mod tally;
+#[cfg(test)]
+mod tests;
 
 use fastmetrics::registry::Registry;
 use output::{Fault, finish};
-use scene::{Scene, choose, jobs_counter};
+use scene::{Scene, choose};
+use states::running_task;
 use std::alloc::Global;
 use std::env;
 use std::env::Env;
 use std::io::ErrorKind;
 use std::process::ExitCode;
+use tally::jobs_counter;
 
 fn main(rt: HostRuntime) -> ExitCode {
     let alloc = rt.alloc();
     let mut registry = Registry::default();
     let made = match scene_of_words(&rt) {
-        Ok(Scene::Empty) => Ok(registry),
+        Ok(Scene::Empty) => Ok(()),
         Ok(Scene::Tally) => match jobs_counter(alloc) {
-            Ok((name, help, jobs)) => match registry.register(alloc, name, help, jobs) {
-                Ok(()) => Ok(registry),
-                Err(error) => Err(Fault::of_registry(error)),
-            },
+            Ok((name, help, jobs)) => registry
+                .register(alloc, name, help, jobs)
+                .map_err(Fault::of_registry),
             Err(fault) => Err(fault),
         },
+        Ok(Scene::States) => match running_task(alloc) {
+            Ok((name, help, task)) => registry
+                .register(alloc, name, help, task)
+                .map_err(Fault::of_registry),
+            Err(fault) => Err(fault),
+        },
+        Err(fault) => Err(fault),
+    };
+    let made = match made {
+        Ok(()) => Ok(registry),
         Err(fault) => Err(fault),
     };
     let status = finish(alloc, made, &mut rt.stdout(), &mut rt.stderr());

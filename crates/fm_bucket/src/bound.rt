@@ -9,6 +9,7 @@ ghost use Rattle.fm_bucket.specs.BoundTests.{lies_below, bound_text};
 ghost use Rattle.fm_bucket.specs.Bounds.{default_bounds};
 ghost use Rattle.fm_bucket.specs.contracts.bound.BoundOrd.TheImpl.{ghosts as orders};
 
+use fm_raw::fixed::DEFAULT_BUCKETS;
 use fm_raw::{Fixed, FixedBuffer, FixedSum, MetricError};
 
 /// The name of the label that holds a bucket's bound.
@@ -89,23 +90,11 @@ impl Bucket {
     }
 }
 
-/// The bounds that suit most durations: 0.005, 0.01, 0.025, 0.05, 0.1, 0.25, 0.5, 1, 2.5, 5 and 10 seconds.
+/// The bounds that suit most durations, `DEFAULT_BUCKETS`, as a call whose clause says them.
 pub fn default_buckets() -> [Fixed; 11]
     ensures { result ≡ default_bounds }
 {
-    [
-        Fixed::from_millionths(5_000),
-        Fixed::from_millionths(10_000),
-        Fixed::from_millionths(25_000),
-        Fixed::from_millionths(50_000),
-        Fixed::from_millionths(100_000),
-        Fixed::from_millionths(250_000),
-        Fixed::from_millionths(500_000),
-        Fixed::from_millionths(1_000_000),
-        Fixed::from_millionths(2_500_000),
-        Fixed::from_millionths(5_000_000),
-        Fixed::from_millionths(10_000_000),
-    ]
+    DEFAULT_BUCKETS
 }
 
 /// Bounds are ordered as their numbers, and `Inf` is the greatest.

@@ -12,5 +12,6 @@ mod tests;
 pub use bound::{BUCKET_LABEL, Bound, Bucket, default_buckets};
 pub use error::BucketError;
 pub use exponential::{ExponentialBuckets, exponential_buckets, exponential_buckets_range};
+pub use fm_raw::fixed::DEFAULT_BUCKETS;
 pub use linear::{LinearBuckets, linear_buckets};
 pub use search::{Probe, Steps, find_bucket};

@@ -2,8 +2,8 @@
 ghost use Rattle.std.specs.Prelude.{◌≡◌, ◌<◌};
 
 use crate::{
-    BUCKET_LABEL, Bound, Bucket, BucketError, Probe, Steps, default_buckets, exponential_buckets,
-    exponential_buckets_range, find_bucket, linear_buckets,
+    BUCKET_LABEL, Bound, Bucket, BucketError, DEFAULT_BUCKETS, Probe, Steps, default_buckets,
+    exponential_buckets, exponential_buckets_range, find_bucket, linear_buckets,
 };
 use fm_raw::{Fixed, FixedBuffer, MetricError};
 use std::marker::Brand;
@@ -97,7 +97,8 @@ fn steps_between(rt: HostRuntime) -> Result<(), Fail> {
 #[test]
 fn bounds_and_counts(rt: HostRuntime) -> Result<(), Fail> {
     let mut buffer = FixedBuffer::new();
-    let [first, .., last] = default_buckets();
+    let [first, .., last] = DEFAULT_BUCKETS;
+    assert_eq!(rt; default_buckets(), DEFAULT_BUCKETS);
     assert_eq!(rt; Bound::Finite(first).format(&mut buffer), "0.005");
     assert_eq!(rt; Bound::Finite(last).format(&mut buffer), "10.0");
     assert_eq!(rt; Bound::Inf.format(&mut buffer), "+Inf");

@@ -1,0 +1,105 @@
+//! What the program prints for each scene, and for faults.
+use crate::output::{Fault, finish};
+use crate::scene::{Scene, choose};
+use crate::states::running_task;
+use crate::tally::jobs_counter;
+use fastmetrics::raw::MetricError;
+use fastmetrics::registry::{Registry, RegistryError};
+use std::test::Fail;
+
+#[test]
+fn words_name_scenes(rt: HostRuntime) -> Result<(), Fail> {
+    let alloc = rt.alloc();
+    for (word, scene) in [
+        ("empty", Some(Scene::Empty)),
+        ("tally", Some(Scene::Tally)),
+        ("states", Some(Scene::States)),
+        ("", None),
+        ("Tally", None),
+        ("tally ", None),
+    ] {
+        let mut words = Vec::new(alloc);
+        assert_eq!(rt; choose(&words), None);
+        words.push(String::from_str(alloc, word)?)?;
+        assert_eq!(rt; choose(&words), scene);
+        words.push(String::from_str(alloc, "tally")?)?;
+        assert_eq!(rt; choose(&words), None);
+    }
+    Ok(())
+}
+
+#[test]
+fn faults_are_said(rt: HostRuntime) -> Result<(), Fail> {
+    let alloc = rt.alloc();
+    for (fault, status, said) in [
+        (Fault::UnknownScene, 2, "unknown scene\n"),
+        (Fault::no_memory(), 1, "fault: registry 5\n"),
+        (
+            Fault::of_registry(RegistryError::Memory),
+            1,
+            "fault: registry 5\n",
+        ),
+        (
+            Fault::of_metric(MetricError::UnknownState),
+            1,
+            "fault: metric 4\n",
+        ),
+    ] {
+        let mut out = Vec::new(alloc);
+        let mut errors = Vec::new(alloc);
+        assert_eq!(rt; finish(alloc, Err(fault), &mut out, &mut errors), status);
+        assert!(rt; out.is_empty());
+        assert_eq!(rt; errors.as_slice(), said.as_bytes());
+    }
+    Ok(())
+}
+
+#[test]
+fn empty_scene(rt: HostRuntime) -> Result<(), Fail> {
+    let alloc = rt.alloc();
+    let mut out = Vec::new(alloc);
+    let mut errors = Vec::new(alloc);
+    assert_eq!(rt;
+        finish(alloc, Ok(Registry::default()), &mut out, &mut errors),
+        0
+    );
+    assert_eq!(rt; out.as_slice(), b"# EOF\n".as_slice());
+    assert!(rt; errors.is_empty());
+    Ok(())
+}
+
+#[test]
+fn tally_scene(rt: HostRuntime) -> Result<(), Fail> {
+    let alloc = rt.alloc();
+    let mut registry = Registry::default();
+    let Ok((name, help, jobs)) = jobs_counter(alloc) else {
+        return Err(Fail::new("no counter of jobs"));
+    };
+    registry.register(alloc, name, help, jobs)?;
+    let mut out = Vec::new(alloc);
+    let mut errors = Vec::new(alloc);
+    assert_eq!(rt; finish(alloc, Ok(registry), &mut out, &mut errors), 0);
+    assert_eq!(rt;
+        out.as_slice(),
+        "# TYPE jobs counter\n# HELP jobs Jobs done\njobs_total 10100\n# EOF\n".as_bytes()
+    );
+    Ok(())
+}
+
+#[test]
+fn states_scene(rt: HostRuntime) -> Result<(), Fail> {
+    let alloc = rt.alloc();
+    let mut registry = Registry::default();
+    let Ok((name, help, task)) = running_task(alloc) else {
+        return Err(Fail::new("no state set"));
+    };
+    registry.register(alloc, name, help, task)?;
+    let mut out = Vec::new(alloc);
+    let mut errors = Vec::new(alloc);
+    assert_eq!(rt; finish(alloc, Ok(registry), &mut out, &mut errors), 0);
+    assert_eq!(rt;
+        out.as_slice(),
+        "# TYPE my_stateset stateset\n# HELP my_stateset My stateset help\nmy_stateset{my_stateset=\"pending\"} 0\nmy_stateset{my_stateset=\"running\"} 1\nmy_stateset{my_stateset=\"completed\"} 0\nmy_stateset{my_stateset=\"failed\"} 0\n# EOF\n".as_bytes()
+    );
+    Ok(())
+}
