@@ -22,7 +22,7 @@ use std::time::Duration;
 pub const MAX_STATES: usize = 256;
 
 /// A type whose values are the states of a state set.
-pub trait StateSetValue: PartialEq + Sized + Send + Sync + Drop + 'static {
+pub trait StateSetValue: PartialEq + Sized + Send + Sync + Drop {
     /// The states, in order.
     ghost all: { List Self };
 
@@ -52,11 +52,11 @@ fn find_state<T: PartialEq>(all: &[T], state: &T) -> Option<usize>
 }
 
 // Lists all states where this is the current one. It is a trait, so that methods of other traits may call it.
-trait TellStates: StateSetValue {
+trait TellStates: StateSetValue + 'static {
     fn tell_states(&self, alloc: Global) -> Result<Vec<(&str, bool)>, MetricError>;
 }
 
-impl<T: StateSetValue> TellStates for T {
+impl<T: StateSetValue + 'static> TellStates for T {
     fn tell_states(&self, alloc: Global) -> Result<Vec<(&str, bool)>, MetricError>
         ensures told { IfOk result (λ told. map state_of told.items ≡ states_at T.eq T.all T.text self.now) }
         ensures one { AreDifferent T.eq T.all → ∥ IsState T.eq T.all self.now ∥₁ → IfOk result (λ told. count_by (λ p. p.1) told.items ≡ 1) }
@@ -91,7 +91,7 @@ trait CurrentState<T> {
     fn current(&self) -> &T;
 }
 
-impl<T: StateSetValue> CurrentState<T> for StateSet<T> {
+impl<T: StateSetValue + 'static> CurrentState<T> for StateSet<T> {
     fn current(&self) -> &T
         ensures { IsVariant T.eq T.all result.now }
     {
@@ -100,7 +100,7 @@ impl<T: StateSetValue> CurrentState<T> for StateSet<T> {
     }
 }
 
-impl<T: StateSetValue> StateSet<T> {
+impl<T: StateSetValue + 'static> StateSet<T> {
     /// The state set in this state. It is refused first as `TooManyStates` where there are more than 256 states, then as
     /// `UnknownState` where none equals the given one; then it takes memory and may find none.
     pub fn new(alloc: Global, state: T) -> Result<StateSet<T>, MetricError>
@@ -141,7 +141,7 @@ impl<T: StateSetValue> StateSet<T> {
 }
 
 /// The state set in the state's default. It is refused as `new` refuses that.
-impl<T: StateSetValue + Default, H: Wait + Drop> TryDefault<H> for StateSet<T> {
+impl<T: StateSetValue + Default + 'static, H: Wait + Drop> TryDefault<H> for StateSet<T> {
     ghost may_refuse = { λ e. (state : T) × T.is_default state × IsRefusedAs T.eq T.all state e };
 
     fn try_default(_wait: H, alloc: Global) -> Result<StateSet<T>, MetricError> {
@@ -171,7 +171,7 @@ impl<T: StateSetValue + 'static> TypedMetric for StateSet<T> {
     const TYPE: MetricType = MetricType::StateSet;
 }
 
-impl<T: StateSetValue> EncodePoint for StateSet<T> {
+impl<T: StateSetValue + 'static> EncodePoint for StateSet<T> {
     ghost points = { λ _ ps. (current : T) × IsVariant T.eq T.all current × (ps ≡ StateSetPoint (states_at T.eq T.all T.text current) ∷ []) };
 
     fn encode(&self, points: &mut PointEncoder) -> Result<(), EncodeError> {
@@ -182,7 +182,7 @@ impl<T: StateSetValue> EncodePoint for StateSet<T> {
     }
 }
 
-impl<T: StateSetValue> EncodeMetric for StateSet<T> {
+impl<T: StateSetValue + 'static> EncodeMetric for StateSet<T> {
     ghost types = { λ _ t. t ≡ StateSetType };
 
     ghost offers = { λ _ ms. (current : T) × IsVariant T.eq T.all current × (ms ≡ record {
@@ -214,7 +214,7 @@ pub struct ConstStateSet<T: StateSetValue> {
     ghost known: { ∥ IsState T.eq T.all state ∥₁ },
 }
 
-impl<T: StateSetValue> ConstStateSet<T> {
+impl<T: StateSetValue + 'static> ConstStateSet<T> {
     ghost use Rattle.fm_handles.specs.Handles.{kept_state};
 
     /// The state set in this state. It is refused first as `TooManyStates` where there are more than 256 states, then as
@@ -253,7 +253,7 @@ impl<T: StateSetValue + 'static> TypedMetric for ConstStateSet<T> {
     const TYPE: MetricType = MetricType::StateSet;
 }
 
-impl<T: StateSetValue> EncodePoint for ConstStateSet<T> {
+impl<T: StateSetValue + 'static> EncodePoint for ConstStateSet<T> {
     ghost points = { λ s ps. ps ≡ StateSetPoint (states_at T.eq T.all T.text s.state) ∷ [] };
 
     fn encode(&self, points: &mut PointEncoder) -> Result<(), EncodeError> {
@@ -264,7 +264,7 @@ impl<T: StateSetValue> EncodePoint for ConstStateSet<T> {
     }
 }
 
-impl<T: StateSetValue> EncodeMetric for ConstStateSet<T> {
+impl<T: StateSetValue + 'static> EncodeMetric for ConstStateSet<T> {
     ghost types = { λ _ t. t ≡ StateSetType };
 
     ghost offers = { λ s ms. ms ≡ record {
