@@ -52,8 +52,8 @@ pub mod raw {
 pub mod registry {
     //! Registries of metrics, with their subsystems, and the one that a whole program shares.
     pub use fm_global::{
-        GlobalRegistry, Register, SetRegistryError, register_global, set_global_registry,
-        with_global_registry, with_global_registry_mut,
+        GlobalRegistry, Register, SetRegistryError, register, register_global, register_metric,
+        register_with_unit, set_global_registry, with_global_registry, with_global_registry_mut,
     };
     pub use fm_registry::{
         ListedMetric, MetricType, Registry, RegistryBuilder, RegistryCall, RegistryError,

@@ -1,10 +1,13 @@
-//! Names and values of labels, lent or behind a pointer.
+//! Names and values of labels, lent, behind a pointer, or texts that are lent or owned.
 ghost use Rattle.std.specs.Prelude.{◌≡◌, [], ◌∷◌, false};
 ghost use Rattle.std.specs.Arc.{arc_value};
+ghost use Rattle.std.specs.Cow.{cow_str_bytes};
 ghost use Rattle.std.specs.Rc.{rc_value};
+ghost use Rattle.fm_encoder.specs.Labels.{NamePiece, ValuePiece};
 
 use crate::label::{EncodeLabelName, EncodeLabelValue, LabelEncoder};
 use fm_text::EncodeError;
+use std::borrow::CowStr;
 use std::rc::Rc;
 use std::sync::Arc;
 
@@ -135,5 +138,35 @@ impl<T: EncodeLabelValue> EncodeLabelValue for Arc<T> {
 
     fn skip_encoding(&self) -> bool {
         (**self).skip_encoding()
+    }
+}
+
+/// A text that is lent or owned, as a name.
+impl EncodeLabelName for CowStr<'_> {
+    ghost pieces = { λ c. NamePiece (cow_str_bytes c) ∷ [] };
+
+    fn encode(&self, encoder: &mut LabelEncoder) -> Result<(), EncodeError> {
+        match self {
+            CowStr::Borrowed(text) => encoder.encode_label_name(text),
+            CowStr::Owned(text) => encoder.encode_label_name(text.as_str()),
+        }
+    }
+}
+
+/// A text that is lent or owned, as a value.
+impl EncodeLabelValue for CowStr<'_> {
+    ghost pieces = { λ c. ValuePiece (cow_str_bytes c) ∷ [] };
+
+    ghost is_skipped = { λ _. false };
+
+    fn encode(&self, encoder: &mut LabelEncoder) -> Result<(), EncodeError> {
+        match self {
+            CowStr::Borrowed(text) => encoder.encode_str_value(text),
+            CowStr::Owned(text) => encoder.encode_str_value(text.as_str()),
+        }
+    }
+
+    fn skip_encoding(&self) -> bool {
+        false
     }
 }

@@ -1,2 +1,3 @@
 pub use Rattle.fm_registry.specs.HasBook
 pub mod Kept
+pub mod Locked

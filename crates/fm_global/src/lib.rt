@@ -2,6 +2,7 @@
 #![tactic(auto)]
 
 mod global;
+mod metrics;
 mod registering;
 #[cfg(test)]
 mod tests;
@@ -10,4 +11,5 @@ pub use global::{
     GlobalRegistry, SetRegistryError, set_global_registry, with_global_registry,
     with_global_registry_mut,
 };
+pub use metrics::{register, register_metric, register_with_unit};
 pub use registering::{Register, register_global};

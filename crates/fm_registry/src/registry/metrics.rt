@@ -123,8 +123,9 @@ impl<M: Drop> Registry<M> {
         insert_metric(&mut self.metrics, alloc, key, metric)
     }
 
-    // The same in terms of every book that the tree reads.
-    pub(super) fn add_metric(
+    /// Registers a metric here as one of this type, which the caller asked it for. It refuses and leaves what
+    /// `register_metric` does. It is for registries that are shared, whose lock is taken once the type is known.
+    pub fn add_metric(
         &mut self,
         alloc: Global,
         name: String,
@@ -137,6 +138,7 @@ impl<M: Drop> Registry<M> {
         ensures ok { OnOk result ((b : _) → Reads self.old b → Reads self.new (after b (Register [] (seen_metric (asked name help metric_type unit) metric)))) }
         ensures err { OnErr result (self.new ≡ self.old) }
         ensures grows { Grows self.old self.new }
+        ensures sound { HasBook self.old → HasBook self.new }
     {
         self.insert_here(alloc, name, help, metric_type, unit, metric)
     }

@@ -1,0 +1,86 @@
+//! Registering metrics in the registry that a program shares.
+ghost use Rattle.std.specs.Prelude.{◌≡◌, Some, None};
+ghost use Rattle.fm_registry.specs.View.{asked_metric};
+ghost use Rattle.fm_registry.specs.HasBook.{HasBook};
+ghost use Rattle.fm_registry.specs.Registers.{Registers};
+ghost use Rattle.fm_global.specs.Locked.{RegistersLocked};
+
+use crate::global::{GlobalRegistry, Kept};
+use fm_encoder::EncodeMetric;
+use fm_registry::{MetricType, RegistryError, Unit};
+use std::alloc::Global;
+use std::sync::Wait;
+
+impl<M: Drop> Kept<M> {
+    // Registers a metric of this type in the registry. From then on none can be set.
+    fn add_metric(
+        &mut self,
+        alloc: Global,
+        name: String,
+        help: String,
+        metric_type: MetricType,
+        unit: Option<Unit>,
+        metric: M,
+    ) -> Result<(), RegistryError>
+        ensures registers { Registers (λ t. t ≡ metric_type) (asked_metric name help unit metric) self.old self.new result }
+        ensures sound { HasBook self.old }
+    {
+        self.is_initialized = true;
+        self.registry
+            .add_metric(alloc, name, help, metric_type, unit, metric)
+    }
+}
+
+// The type that a metric says it is of.
+fn type_of(metric: &Box<dyn EncodeMetric>) -> MetricType
+    ensures { types metric.now result }
+{
+    metric.metric_type()
+}
+
+/// Registers a metric in the global registry, as `Registry::register_metric` does. The metric is asked for its type before
+/// the lock is taken. It waits for the lock.
+pub fn register_metric<R: Wait>(
+    rt: &R,
+    alloc: Global,
+    global: &GlobalRegistry,
+    name: String,
+    help: String,
+    unit: Option<Unit>,
+    metric: Box<dyn EncodeMetric>,
+) -> Result<(), RegistryError>
+    ensures { RegistersLocked (λ t. types metric t) (asked_metric name help unit metric) result }
+{
+    let metric_type = type_of(&metric);
+    let mut kept = global.kept.lock(rt);
+    kept.add_metric(alloc, name, help, metric_type, unit, metric)
+}
+
+/// The same with a unit.
+pub fn register_with_unit<R: Wait>(
+    rt: &R,
+    alloc: Global,
+    global: &GlobalRegistry,
+    name: String,
+    help: String,
+    unit: Unit,
+    metric: Box<dyn EncodeMetric>,
+) -> Result<(), RegistryError>
+    ensures { RegistersLocked (λ t. types metric t) (asked_metric name help (Some unit) metric) result }
+{
+    register_metric(rt, alloc, global, name, help, Some(unit), metric)
+}
+
+/// The same without a unit.
+pub fn register<R: Wait>(
+    rt: &R,
+    alloc: Global,
+    global: &GlobalRegistry,
+    name: String,
+    help: String,
+    metric: Box<dyn EncodeMetric>,
+) -> Result<(), RegistryError>
+    ensures { RegistersLocked (λ t. types metric t) (asked_metric name help None metric) result }
+{
+    register_metric(rt, alloc, global, name, help, None, metric)
+}
