@@ -1,6 +1,7 @@
 -- Cases of options and answers.
 use Rattle.std.proofs.Common.{◌≡◌, Option, Some, None, Result, Ok, Err, ◌⊎◌, inl, inr, refl}
 use Rattle.fm_text.specs.declared.error.EncodeError.{EncodeError}
+use Rattle.fm_encoder.specs.Gathered.{answer}
 
 pub option_cases : {X : Type 0} → (o : Option X) → (o ≡ None) ⊎ ((x : X) × (o ≡ Some x))
 option_cases None = inl refl
@@ -17,3 +18,8 @@ none_from_not (Some x) never = absurd (never x refl)
 pub ok_from_not : (r : Result (Unit {0}) EncodeError) → ((e : EncodeError) → r ≡ Err e → ⊥) → r ≡ Ok tt
 ok_from_not (Ok _) never = refl
 ok_from_not (Err e) never = absurd (never e refl)
+
+-- an encoder that answers no refusal has none
+pub none_from_answer : {r : Result (Unit {0}) EncodeError} → (refused : Option EncodeError) → r ≡ answer refused → r ≡ Ok tt → refused ≡ None
+none_from_answer None is ok = refl
+none_from_answer (Some k) is ok = absurd cc

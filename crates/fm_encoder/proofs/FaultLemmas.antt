@@ -3,10 +3,10 @@ use Rattle.std.proofs.Common.{◌≡◌, ℕ, List, [], ◌∷◌, Option, inl, 
 use Rattle.fm_grammar.specs.declared.MetricType.{MetricType}
 use Rattle.fm_grammar.specs.Exposition.{Text, Label, Value}
 use Rattle.fm_text.specs.declared.error.EncodeError.{EncodeError}
-use Rattle.fm_text.specs.declared.error.EncodeError.TheVariants.{MalformedLabel, KindMismatch, DuplicateLabel, ExemplarTwice, ExemplarTooLong, MetricFault, Write, WriteZero}
+use Rattle.fm_text.specs.declared.error.EncodeError.TheVariants.{MalformedLabel, KindMismatch, DuplicateLabel, ExemplarCountMismatch, BucketOverflow, ExemplarTwice, ExemplarTooLong, MetricFault, Write, WriteZero}
 use Rattle.fm_text.specs.Written.{IsWritersFault}
 use Rattle.fm_encoder.specs.Labels.{HandedLabel, NameFault, LabelFault, LabelsFault}
-use Rattle.fm_encoder.specs.Points.{HandedExemplar, Point, UnknownPoint, GaugePoint, CounterPoint, StateSetPoint, InfoPoint, Member, Setting, Context, NumberFault, ExemplarFault, PartsFault, PointFault, MembersFault}
+use Rattle.fm_encoder.specs.Points.{HandedExemplar, Point, UnknownPoint, GaugePoint, CounterPoint, StateSetPoint, InfoPoint, HistogramPoint, Member, Setting, Context, NumberFault, ExemplarFault, PartsFault, PointFault, MembersFault}
 use Rattle.fm_encoder.specs.Offers.{MetricHasFault, context_at}
 
 is_other : (k j : EncodeError) → k ≡ j → ¬ (IsWritersFault j) → ¬ (IsWritersFault k)
@@ -43,9 +43,12 @@ PartsFault-not_writing k setting common (CounterPoint numbers exemplars created)
 PartsFault-not_writing k setting common (CounterPoint numbers exemplars created) (inr fault) = ExemplarFault-not_writing k exemplars fault
 PartsFault-not_writing k setting common (StateSetPoint states) fault = is_other k DuplicateLabel fault.0 (λ never. never)
 PartsFault-not_writing k setting common (InfoPoint labels) fault = LabelsFault-not_writing k _ common labels fault
+PartsFault-not_writing k setting common (HistogramPoint buckets slots count sum created) (inl (is, overflow)) = is_other k BucketOverflow is (λ never. never)
+PartsFault-not_writing k setting common (HistogramPoint buckets slots count sum created) (inr (exemplars, there, fault)) = ExemplarFault-not_writing k exemplars fault
 
 PointFault-not_writing : (k : EncodeError) (setting : Setting) (common : List Label) (point : Point) → PointFault k setting common point → ¬ (IsWritersFault k)
-PointFault-not_writing k setting common point (inl (is, mismatch)) = is_other k KindMismatch is (λ never. never)
+PointFault-not_writing k setting common point (inl (inl (is, mismatch))) = is_other k KindMismatch is (λ never. never)
+PointFault-not_writing k setting common point (inl (inr (is, differ))) = is_other k ExemplarCountMismatch is (λ never. never)
 PointFault-not_writing k setting common point (inr fault) = PartsFault-not_writing k setting common point fault
 
 MembersFault-not_writing : (k : EncodeError) (context : Context) (members : List Member) → MembersFault k context members → ¬ (IsWritersFault k)

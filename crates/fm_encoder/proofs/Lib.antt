@@ -5,3 +5,4 @@ pub mod LabelsLemmas
 pub mod LabelSetLemmas
 pub mod MemberLemmas
 pub mod FaultLemmas
+pub mod BucketLemmas

@@ -8,7 +8,7 @@ use Rattle.fm_grammar.specs.Exposition.{Text, Label}
 use Rattle.fm_grammar.specs.Names.{IsLowerLetter, IsDigit, IsWord, BeginsWithLetter, further_words, IsSnakeCase, IsLabelByte, IsLabelName, AllDifferent}
 use Rattle.fm_grammar.specs.WellFormed.{AreLabels}
 use Rattle.fm_text.specs.Samples.{labels_of}
-use Rattle.fm_encoder.specs.Labels.{HandedLabel, NamePiece, ValuePiece, label_names, NameFits, LabelClean, LabelsClean, written, all_written, handed_again}
+use Rattle.fm_encoder.specs.Labels.{HandedLabel, NamePiece, ValuePiece, IsReserved, AreFree, label_names, NameFits, LabelClean, LabelsClean, written, all_written, handed_again}
 
 abbrev pub Pairs : Type 0
 Pairs = List (String Global × String Global)
@@ -122,4 +122,36 @@ AreLabels-named before ls l h snake fresh is =
     subst AreLabels (sym is) (record {
       names = valid-push before l h.names (label_name_of_snake_case l.name snake);
       different = subst AllDifferent (sym (names_of-append before (l ∷ []))) (different-push (label_names before) l.name h.different fresh);
+    })
+
+AreFree-append : (type : MetricType) (xs ys : List Label) → AreFree type xs → AreFree type ys → AreFree type (xs ++ ys)
+AreFree-append type [] ys h more = more
+AreFree-append type (x ∷ xs) ys h more = (h.0, AreFree-append type xs ys h.1 more)
+
+AreFree-clean : (type : MetricType) (before : List Label) (label : HandedLabel) → LabelClean type before label → AreFree type (written label)
+AreFree-clean type before label (inl none) = subst (λ (l : HandedLabel). AreFree type (written l)) (sym none) tt
+AreFree-clean type before label (inr (n, t, is, fits)) = subst (λ (l : HandedLabel). AreFree type (written l)) (sym is) (fits.free, tt)
+
+-- clean labels have no reserved names
+pub AreFree-written : (type : MetricType) (before : List Label) (labels : List HandedLabel) → LabelsClean type before labels → AreFree type (all_written labels)
+AreFree-written type before [] clean = tt
+AreFree-written type before (label ∷ labels) clean =
+    AreFree-append type (written label) (all_written labels) (AreFree-clean type before label clean.0) (AreFree-written type _ labels clean.1)
+
+-- nor have labels that were read clean
+pub AreFree-read : {L E : Type 0} (items : L → List Label) (type : MetricType) (all : List HandedLabel) (Refused : E → Type 0) (read : Result L E) → MatchResult read (λ ls. LabelsClean type [] all × (items ls ≡ all_written all)) Refused → IfOk read (λ ls. AreFree type (items ls))
+AreFree-read items type all Refused (Ok ls) h = subst (AreFree type) (sym h.1) (AreFree-written type [] all h.0)
+AreFree-read items type all Refused (Err e) h = tt
+
+AreFree-without : (type : MetricType) (before : List Label) (name : Text) → AreFree type before → IsReserved type name → ¬ (Contains (label_names before) name)
+AreFree-without type [] name h reserved (i, within, is) = absurd (omega arith)
+AreFree-without type (x ∷ before) name h reserved (zero, within, is) = h.0 (subst (IsReserved type) (sym is) reserved)
+AreFree-without type (x ∷ before) name h reserved (suc i, within, is) = AreFree-without type before name h.1 reserved (i, omega arith, is)
+
+-- a label of a name that the type keeps for labels of its own, behind the common labels
+pub AreLabels-own : (type : MetricType) (before ls : List Label) (l : Label) → AreLabels before → AreFree type before → IsReserved type l.name → IsLabelName l.name → ls ≡ before ++ l ∷ [] → AreLabels ls
+AreLabels-own type before ls l h free reserved valid is =
+    subst AreLabels (sym is) (record {
+      names = valid-push before l h.names valid;
+      different = subst AllDifferent (sym (names_of-append before (l ∷ []))) (different-push (label_names before) l.name h.different (AreFree-without type before l.name free reserved));
     })

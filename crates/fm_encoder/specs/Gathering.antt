@@ -1,15 +1,18 @@
 -- What holds of a point encoder's fields between calls: its samples are well formed, the family's name is in
--- snake case, and well formed are the common labels and the timestamp that further samples get.
+-- snake case, and well formed are the common labels and the timestamp that further samples get. No common label has a name that
+-- the family's type keeps for labels of its own.
 use Rattle.std.specs.Prelude.{IfSome}
 use Rattle.std.specs.List.{AllByRecursion}
 use Rattle.std.specs.String.{string_bytes}
 use Rattle.fm_grammar.specs.Names.{IsSnakeCase}
 use Rattle.fm_grammar.specs.WellFormed.{AreLabels, AreMillis, IsSample}
 use Rattle.fm_text.specs.Samples.{labels_of, samples_of}
+use Rattle.fm_encoder.specs.Labels.{AreFree}
 use Rattle.fm_encoder.specs.declared.point.PointEncoder.TheInside.{Inside}
 
 pub record IsGathering (e : Inside) : Type 0 where
   pub name : IsSnakeCase (string_bytes e.name)
   pub labels : AreLabels (labels_of e.common.items)
+  pub free : AreFree e.metric_type (labels_of e.common.items)
   pub time : IfSome e.time AreMillis
   pub samples : AllByRecursion (IsSample e.metric_type) (samples_of e.samples.items)

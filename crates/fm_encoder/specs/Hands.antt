@@ -6,9 +6,9 @@ use Rattle.std.specs.Prelude.{◌≡◌, ◌≤◌, List, [], ◌∷◌, ◌++�
 use Rattle.std.specs.List.{flat_map}
 use Rattle.fm_grammar.specs.Exposition.{Value, Sample}
 use Rattle.fm_text.specs.declared.error.EncodeError.{EncodeError}
-use Rattle.fm_text.specs.declared.error.EncodeError.TheVariants.{Memory, ValueTwice, KindMismatch}
+use Rattle.fm_text.specs.declared.error.EncodeError.TheVariants.{Memory, ValueTwice}
 use Rattle.fm_encoder.specs.Labels.{HandedLabel, PieceFault, LabelsFault, LabelsClean, all_written}
-use Rattle.fm_encoder.specs.Points.{HandedExemplar, ExemplarClean, ExemplarFault, written_as, Point, type_of, PointClean, PartsFault, point_samples, Member, MembersClean, MembersFault, members_samples}
+use Rattle.fm_encoder.specs.Points.{HandedExemplar, ExemplarClean, ExemplarFault, written_as, Point, PointClean, HeadFault, PartsFault, point_samples, Member, MembersClean, MembersFault, members_samples}
 use Rattle.fm_encoder.specs.Gathered.{GatheredPieces, GatheredLabels, GatheredNumbers, GatheredExemplars, GatheredPoints, GatheredMembers, OwnRefusal, OwnError}
 
 -- of what hands these pieces of a label to a label encoder
@@ -49,11 +49,11 @@ abbrev pub PointsClean : GatheredPoints → List Point → Type 0
 PointsClean g [] = Unit {0}
 PointsClean g (point ∷ points) = (g.deferred ≡ None) × PointClean g.setting g.common point × PointsClean g points
 
--- the fault stands in a point: in its type, in the common labels, or, where these are clean, in its parts
+-- the fault stands in a point: in its type or the number of its slots, in the common labels, or, where these are clean, in its
+-- parts
 abbrev pub PointFaultHere : EncodeError → GatheredPoints → Point → Type 0
 PointFaultHere k g point =
-    ((k ≡ KindMismatch) × (¬ (type_of point ≡ g.setting.metric_type)))
-    ⊎ ((g.deferred ≡ Some k) ⊎ ((g.deferred ≡ None) × PartsFault k g.setting g.common point))
+    HeadFault k g.setting point ⊎ ((g.deferred ≡ Some k) ⊎ ((g.deferred ≡ None) × PartsFault k g.setting g.common point))
 
 abbrev pub PointsFault : EncodeError → GatheredPoints → List Point → Type 0
 PointsFault k g [] = ⊥

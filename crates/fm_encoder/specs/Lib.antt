@@ -6,5 +6,6 @@ pub mod States
 pub mod Gathered
 pub mod Hands
 pub mod Steps
+pub mod Buckets
 pub mod Offers
 pub mod Gathering

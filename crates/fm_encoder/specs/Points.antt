@@ -1,16 +1,19 @@
 -- Points and members as they are handed over, when they are clean, which fault stands in them, and their samples.
-use Rattle.std.specs.Prelude.{◌≡◌, ◌≤◌, ◌<◌, ◌/◌, ℕ, ℤ, pos, Bool, List, [], ◌∷◌, ◌++◌, map, length, Contains, Option, Some, None, ◌⊎◌, if◌then◌else◌}
-use Rattle.std.specs.List.{flat_map}
+use Rattle.std.specs.Prelude.{◌≡◌, ◌≤◌, ◌<◌, ◌/◌, ◌^◌, ℕ, ℤ, pos, Bool, List, [], ◌∷◌, ◌++◌, map, length, sum_by, Contains, Option, Some, None, ◌⊎◌, if◌then◌else◌, codes}
+use Rattle.std.specs.List.{AllByRecursion, flat_map}
 use Rattle.std.specs.Duration.{as_nanos}
 use Rattle.std.specs.declared.time.Duration.{Duration}
 use Rattle.fm_grammar.specs.declared.MetricType.{MetricType}
-use Rattle.fm_grammar.specs.declared.MetricType.TheVariants.{Unknown, Gauge, Counter, StateSet, Info as InfoType}
+use Rattle.fm_grammar.specs.declared.MetricType.TheVariants.{Unknown, Gauge, Counter, StateSet, Info as InfoType, Histogram}
 use Rattle.fm_grammar.specs.declared.SampleKind.{SampleKind}
-use Rattle.fm_grammar.specs.declared.SampleKind.TheVariants.{Plain, Total, Created, Info}
-use Rattle.fm_grammar.specs.Exposition.{Text, Label, Value, Whole, Millis, Exemplar, Sample}
+use Rattle.fm_grammar.specs.declared.SampleKind.TheVariants.{Plain, Total, Created, Bucket as BucketKind, Count, Sum, Info}
+use Rattle.fm_grammar.specs.Exposition.{Text, Label, Value, Whole, Fixed, Millis, Exemplar, Sample}
 use Rattle.fm_grammar.specs.WellFormed.{label_code_points}
 use Rattle.fm_text.specs.declared.error.EncodeError.{EncodeError}
-use Rattle.fm_text.specs.declared.error.EncodeError.TheVariants.{DuplicateLabel, KindMismatch, MissingValue, ValueTwice, ExemplarTwice, ExemplarTooLong}
+use Rattle.fm_text.specs.declared.error.EncodeError.TheVariants.{DuplicateLabel, KindMismatch, MissingValue, ValueTwice, ExemplarCountMismatch, BucketOverflow, ExemplarTwice, ExemplarTooLong}
+use Rattle.fm_bucket.specs.BoundTests.{bound_text}
+use Rattle.fm_bucket.specs.declared.bound.Bound.{Bound}
+use Rattle.fm_bucket.specs.declared.bound.Bucket.{Bucket}
 use Rattle.fm_encoder.specs.Labels.{HandedLabel, LabelsFault, LabelsClean, all_written, handed_again, label_names}
 
 -- the whole milliseconds of a duration
@@ -24,13 +27,15 @@ pub record HandedExemplar : Type 0 where
   pub time : Option ℕ
 
 -- A point as it is handed over. A value is the list of the numbers that its object wrote, an exemplar the list of the
--- exemplars that its object wrote, a time of creation is in milliseconds.
+-- exemplars that its object wrote, a time of creation is in milliseconds. Buckets have their own counts, and each a slot for
+-- an exemplar; behind them come how many values there are, and the values' sum in millionths.
 pub data Point : Type 0 where
   UnknownPoint : List Value → Point
   GaugePoint : List Value → Point
   CounterPoint : List Value → List HandedExemplar → Option ℕ → Point
   StateSetPoint : List (Text × Bool) → Point
   InfoPoint : List HandedLabel → Point
+  HistogramPoint : List Bucket → List (List HandedExemplar) → ℕ → ℤ → Option ℕ → Point
 
 -- a member: its labels, each as its pieces, and its point
 pub record Member : Type 0 where
@@ -55,6 +60,7 @@ type_of (GaugePoint numbers) = Gauge
 type_of (CounterPoint numbers exemplars created) = Counter
 type_of (StateSetPoint states) = StateSet
 type_of (InfoPoint labels) = InfoType
+type_of (HistogramPoint buckets slots count sum created) = Histogram
 
 -- a value object wrote just one number
 abbrev pub NumberClean : List Value → Type 0
@@ -78,6 +84,25 @@ ExemplarFault k exemplars =
     ⊎ ((exemplar : HandedExemplar) × Contains exemplars exemplar
     × (LabelsFault k Unknown [] exemplar.labels ⊎ ((k ≡ ExemplarTooLong) × (128 < label_code_points (all_written exemplar.labels)))))
 
+-- how many values the buckets have together
+abbrev pub values_in : List Bucket → ℕ
+values_in = sum_by (λ bucket. bucket.count)
+
+-- each bucket has a slot, the buckets have fewer than 2^64 values, and each slot is clean
+abbrev pub BucketsClean : List Bucket → List (List HandedExemplar) → Type 0
+BucketsClean buckets slots = (length slots ≡ length buckets) × (values_in buckets < 2 ^ 64) × AllByRecursion ExemplarClean slots
+
+-- too many values, or the fault of a slot
+abbrev pub BucketsFault : EncodeError → List Bucket → List (List HandedExemplar) → Type 0
+BucketsFault k buckets slots =
+    ((k ≡ BucketOverflow) × (2 ^ 64 ≤ values_in buckets))
+    ⊎ ((exemplars : List HandedExemplar) × Contains slots exemplars × ExemplarFault k exemplars)
+
+-- the point has buckets, and slots of another number
+abbrev pub SlotsDiffer : Point → Type 0
+SlotsDiffer (HistogramPoint buckets slots count sum created) = ¬ (length slots ≡ length buckets)
+SlotsDiffer _ = ⊥
+
 -- what stands in a point of its family's type, under these common labels
 abbrev pub PartsClean : Setting → List Label → Point → Type 0
 PartsClean setting common (UnknownPoint numbers) = NumberClean numbers
@@ -85,6 +110,7 @@ PartsClean setting common (GaugePoint numbers) = NumberClean numbers
 PartsClean setting common (CounterPoint numbers exemplars created) = NumberClean numbers × ExemplarClean exemplars
 PartsClean setting common (StateSetPoint states) = (states ≡ []) ⊎ (¬ (Contains (label_names common) setting.name))
 PartsClean setting common (InfoPoint labels) = LabelsClean setting.metric_type common labels
+PartsClean setting common (HistogramPoint buckets slots count sum created) = BucketsClean buckets slots
 
 abbrev pub PartsFault : EncodeError → Setting → List Label → Point → Type 0
 PartsFault k setting common (UnknownPoint numbers) = NumberFault k numbers
@@ -92,16 +118,21 @@ PartsFault k setting common (GaugePoint numbers) = NumberFault k numbers
 PartsFault k setting common (CounterPoint numbers exemplars created) = NumberFault k numbers ⊎ ExemplarFault k exemplars
 PartsFault k setting common (StateSetPoint states) = (k ≡ DuplicateLabel) × (¬ (states ≡ [])) × Contains (label_names common) setting.name
 PartsFault k setting common (InfoPoint labels) = LabelsFault k setting.metric_type common labels
+PartsFault k setting common (HistogramPoint buckets slots count sum created) = BucketsFault k buckets slots
 
 -- the point has its family's type, and its parts are clean
 pub record PointClean (setting : Setting) (common : List Label) (point : Point) : Type 0 where
   pub type : type_of point ≡ setting.metric_type
   pub parts : PartsClean setting common point
 
+-- the fault stands in the point, whatever its labels are: in its type, or in the number of its slots
+abbrev pub HeadFault : EncodeError → Setting → Point → Type 0
+HeadFault k setting point =
+    ((k ≡ KindMismatch) × (¬ (type_of point ≡ setting.metric_type))) ⊎ ((k ≡ ExemplarCountMismatch) × SlotsDiffer point)
+
 -- the fault stands in the point
 abbrev pub PointFault : EncodeError → Setting → List Label → Point → Type 0
-PointFault k setting common point =
-    ((k ≡ KindMismatch) × (¬ (type_of point ≡ setting.metric_type))) ⊎ PartsFault k setting common point
+PointFault k setting common point = HeadFault k setting point ⊎ PartsFault k setting common point
 
 -- a sample without exemplar, whose own labels come after the common ones
 abbrev pub plain_sample : Setting → List Label → SampleKind → List Label → Value → Sample
@@ -131,6 +162,32 @@ state_value is_on = Whole (pos (if is_on then 1 else 0))
 abbrev pub state_sample : Setting → List Label → Text × Bool → Sample
 state_sample setting common state = plain_sample setting common Plain (record { name = setting.name; value = state.0 } ∷ []) (state_value state.1)
 
+-- the own label of a bucket with this bound
+abbrev pub bound_label : Bound → Label
+bound_label bound = record { name = codes "le"; value = bound_text bound }
+
+-- a sample that shows so many values up to the bound
+abbrev pub bucket_line : Setting → List Label → Bound → ℕ → List HandedExemplar → Sample
+bucket_line setting common bound values exemplars =
+    record (plain_sample setting common BucketKind (bound_label bound ∷ []) (Whole (pos values))) { exemplar = written_exemplar exemplars }
+
+-- the sample of a bucket behind others: it shows how many values these and the bucket have together
+abbrev pub bucket_sample : Setting → List Label → List Bucket → Bucket → List HandedExemplar → Sample
+bucket_sample setting common before bucket exemplars = bucket_line setting common bucket.upper_bound (values_in (before ++ bucket ∷ [])) exemplars
+
+-- a sample for each bucket and its slot
+abbrev pub bucket_samples : Setting → List Label → List Bucket → List Bucket → List (List HandedExemplar) → List Sample
+bucket_samples setting common before (bucket ∷ buckets) (exemplars ∷ slots) =
+    bucket_sample setting common before bucket exemplars ∷ bucket_samples setting common (before ++ bucket ∷ []) buckets slots
+bucket_samples setting common before _ _ = []
+
+-- how many values there are, and their sum
+abbrev pub count_sample : Setting → List Label → ℕ → Sample
+count_sample setting common count = plain_sample setting common Count [] (Whole (pos count))
+
+abbrev pub sum_sample : Setting → List Label → ℤ → Sample
+sum_sample setting common sum = plain_sample setting common Sum [] (Fixed sum)
+
 -- the samples of a clean point under these common labels, in order
 abbrev pub point_samples : Setting → List Label → Point → List Sample
 point_samples setting common (UnknownPoint numbers) = map (plain_sample setting common Plain []) numbers
@@ -139,6 +196,9 @@ point_samples setting common (CounterPoint numbers exemplars created) =
     map (total_sample setting common exemplars) numbers ++ created_samples setting common created
 point_samples setting common (StateSetPoint states) = map (state_sample setting common) states
 point_samples setting common (InfoPoint labels) = plain_sample setting common Info (all_written labels) (Whole (pos 1)) ∷ []
+point_samples setting common (HistogramPoint buckets slots count sum created) =
+    bucket_samples setting common [] buckets slots
+    ++ (count_sample setting common count ∷ sum_sample setting common sum ∷ created_samples setting common created)
 
 -- the labels that stand first in each sample of a member: the constant ones, and then the member's
 abbrev pub common_handed : Context → Member → List HandedLabel

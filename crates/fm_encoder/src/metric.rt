@@ -26,6 +26,8 @@ use std::alloc::Global;
 use std::marker::Model;
 use std::time::Duration;
 
+mod histogram;
+
 /// A metric, which a registry holds in a box.
 ///
 /// What it declares is all that a collector relies on: the lists of members that `encode` may offer, the timestamps

@@ -8,7 +8,7 @@ ghost use Rattle.fm_grammar.specs.WellFormed.{AreLabels, AreMillis, IsSample};
 ghost use Rattle.fm_text.specs.declared.error.EncodeError.{EncodeError};
 ghost use Rattle.fm_text.specs.Samples.{labels_of, samples_of, value_of, exemplar_of};
 ghost use Rattle.fm_encoder.specs.Points.{Point, UnknownPoint, GaugePoint, CounterPoint, StateSetPoint, InfoPoint, state_sample, millis};
-ghost use Rattle.fm_encoder.specs.Labels.{label_names};
+ghost use Rattle.fm_encoder.specs.Labels.{AreFree, label_names};
 ghost use Rattle.fm_encoder.specs.States.{state_of};
 ghost use Rattle.fm_encoder.specs.Gathered.{answer};
 ghost use Rattle.fm_encoder.specs.Hands.{HandsPoints};
@@ -28,6 +28,8 @@ use fm_text::{EncodeError, Exemplar, Sample, Value, make};
 use std::alloc::Global;
 use std::marker::Model;
 use std::time::Duration;
+
+mod histogram;
 
 /// Something that hands over points, mostly one.
 pub trait EncodePoint {
@@ -333,7 +335,8 @@ impl PointEncoder {
 
     // Takes the common labels of the next points, or keeps their refusal for the first of them.
     pub(crate) fn begin_member(&mut self, read: Result<Vec<(String, String)>, EncodeError>)
-        requires { IfOk read (λ ls. AreLabels (labels_of ls.items)) }
+        requires labels { IfOk read (λ ls. AreLabels (labels_of ls.items)) }
+        requires free { IfOk read (λ ls. AreFree self.old.setting.metric_type (labels_of ls.items)) }
         ensures setting { self.new.setting ≡ self.old.setting }
         ensures samples { self.new.samples ≡ self.old.samples }
         ensures refused { self.new.refused ≡ self.old.refused }

@@ -1,7 +1,7 @@
 use Rattle.std.proofs.Common.{◌++◌, sym, ◌∙◌}
 use Rattle.fm_text.specs.Samples.{labels_of}
 use Rattle.fm_encoder.specs.Labels.{handed_again}
-use Rattle.fm_encoder.proofs.NameLemmas.{AreLabels-read}
+use Rattle.fm_encoder.proofs.NameLemmas.{AreLabels-read, AreFree-read}
 use Rattle.fm_encoder.proofs.Cases.{none_from_not}
 use Rattle.fm_encoder.proofs.MemberLemmas.{HandsMembers-one, BeginsMember-read}
 use Rattle.fm_encoder.proofs.metric.MetricEncoder.encode.Goals as goal
@@ -16,6 +16,11 @@ returns-clause-handed g c =
     let offered = HandsMembers-one constants (g.LS.EncodeLabelSet.labels c.args.labels.now) _ _ _ _ _ _ _ _ begun c.encode-visited.ensures c.end_points.ensures.ended (sym c.refused.ensures ∙ none_from_not _ c.in_default.not-Some) in
     rw (c.end_points.ensures.answered, ← c.self.view_is) offered
 
-pub begin_member-requires : goal.begin_member-requires
-begin_member-requires g c =
+pub begin_member-requires-clause-free : goal.begin_member-requires-clause-free
+begin_member-requires-clause-free g c =
+    let read = rw (c.metric_type.ensures) at c.read_labels-read.ensures in
+    AreFree-read (λ ls. labels_of ls.items) _ (handed_again (labels_of c.as_slice.result.now) ++ g.LS.EncodeLabelSet.labels c.args.labels.now) _ c.read_labels-read.result read
+
+pub begin_member-requires-clause-labels : goal.begin_member-requires-clause-labels
+begin_member-requires-clause-labels g c =
     AreLabels-read (λ ls. labels_of ls.items) _ (handed_again (labels_of c.as_slice.result.now) ++ g.LS.EncodeLabelSet.labels c.args.labels.now) _ c.read_labels-read.result c.read_labels-read.ensures

@@ -1,0 +1,12 @@
+use Rattle.std.proofs.Common.{[], MatchOption}
+use Rattle.std.specs.Option.{option_map_or}
+use Rattle.fm_encoder.proofs.BucketLemmas.{PushedFirst-more, PushesBuckets-refused}
+use Rattle.fm_encoder.proofs.point.PointEncoder.push_buckets.Goals as goal
+
+pub returns-in_err-values-clause-pushed : goal.returns-in_err-values-clause-pushed
+returns-in_err-values-clause-pushed g c =
+    PushesBuckets-refused (λ slot. option_map_or (λ e. g.E.EncodeExemplar.exemplars e.now) slot []) (λ slot. MatchOption slot ⊥ (λ e. g.E.EncodeExemplar.may_fault e.now)) c.args.buckets.now c.args.exemplars.now c.loop-i.i _ _ c.index-buckets-i.result c.index-exemplars-i.result _ _ _ _ c.loop-i-test.true c.requires.slots c.index-buckets-i.is c.index-exemplars-i.is c.loop-i.invariant c.push_bucket.ensures c.in_err-values.was
+
+pub loop-i-preserved : goal.loop-i-preserved
+loop-i-preserved g c =
+    PushedFirst-more (λ slot. option_map_or (λ e. g.E.EncodeExemplar.exemplars e.now) slot []) _ c.args.buckets.now c.args.exemplars.now c.loop-i.i _ _ c.index-buckets-i.result c.index-exemplars-i.result _ _ _ _ c.loop-i-test.true c.requires.slots c.index-buckets-i.is c.index-exemplars-i.is c.loop-i.invariant c.push_bucket.ensures c.in_ok-values.was

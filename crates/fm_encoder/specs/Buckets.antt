@@ -1,0 +1,55 @@
+-- What the steps of a point with buckets do.
+use Rattle.std.specs.Prelude.{◌≡◌, ◌+◌, ◌<◌, ◌≤◌, ◌^◌, ℕ, List, [], ◌∷◌, ◌++◌, map, Contains, Option, Some, None, MatchOption, Result, MatchResult, ◌⊎◌}
+use Rattle.std.specs.Option.{option_map_or}
+use Rattle.std.specs.List.{AllByRecursion}
+use Rattle.std.specs.Borrow.{Bor}
+use Rattle.fm_grammar.specs.declared.MetricType.{MetricType}
+use Rattle.fm_grammar.specs.declared.MetricType.TheVariants.{Histogram, GaugeHistogram}
+use Rattle.fm_text.specs.declared.error.EncodeError.{EncodeError}
+use Rattle.fm_text.specs.declared.error.EncodeError.TheVariants.{KindMismatch, ExemplarCountMismatch, BucketOverflow}
+use Rattle.fm_bucket.specs.declared.bound.Bucket.{Bucket}
+use Rattle.fm_encoder.specs.Points.{HandedExemplar, ExemplarClean, ExemplarFault, values_in, BucketsFault, bucket_line, bucket_samples}
+use Rattle.fm_encoder.specs.Gathered.{GatheredPoints, OwnRefusal}
+use Rattle.fm_encoder.specs.Hands.{SamePlace}
+
+-- metrics of the type have buckets
+abbrev pub HasBuckets : MetricType → Type 0
+HasBuckets Histogram = Unit {0}
+HasBuckets GaugeHistogram = Unit {0}
+HasBuckets _ = ⊥
+
+-- the exemplars of each slot
+abbrev pub slots_of : {E : Type 0} → (E → List HandedExemplar) → List (Option (Bor E)) → List (List HandedExemplar)
+slots_of exemplars = map (λ slot. option_map_or (λ e. exemplars e.now) slot [])
+
+-- the exemplar of some slot may answer an error of its own
+abbrev pub MaySlotsFault : {E : Type 0} → (E → Type 0) → List (Option (Bor E)) → Type 0
+MaySlotsFault may_fault slots = (slot : _) × Contains slots slot × MatchOption slot ⊥ (λ e. may_fault e.now)
+
+-- The tests of a point's type, then of the number of its slots, and then of whether its common labels were refused.
+pub record BeginsBuckets (type : MetricType) (buckets slots : ℕ) (old new : GatheredPoints) : Type 0 where
+  pub place : SamePlace old new
+  pub samples : new.samples ≡ old.samples
+  pub kept : (k : EncodeError) → old.refused ≡ Some k → new ≡ old
+  pub same_type : new.refused ≡ None → type ≡ old.setting.metric_type
+  pub same_number : new.refused ≡ None → slots ≡ buckets
+  pub no_deferred : new.refused ≡ None → old.deferred ≡ None
+  pub refused : (k : EncodeError) → old.refused ≡ None → new.refused ≡ Some k →
+      ((k ≡ KindMismatch) × (¬ (type ≡ old.setting.metric_type))) ⊎ (((k ≡ ExemplarCountMismatch) × (¬ (slots ≡ buckets))) ⊎ (old.deferred ≡ Some k))
+
+-- One bucket's sample more, which shows how many values there are up to it, or why there is none.
+pub record PushesBucket (before : ℕ) (bucket : Bucket) (exemplars : List HandedExemplar) (MayFault : Type 0) (old new : GatheredPoints) (result : Result ℕ EncodeError) : Type 0 where
+  pub place : SamePlace old new
+  pub answered : MatchResult result
+      (λ values. (values ≡ before + bucket.count) × (values < 2 ^ 64) × (new.refused ≡ None) × ExemplarClean exemplars
+      × (new.samples ≡ old.samples ++ bucket_line old.setting old.common bucket.upper_bound values exemplars ∷ []))
+      (λ k. (new.refused ≡ Some k)
+      × (OwnRefusal MayFault k ⊎ (((k ≡ BucketOverflow) × (2 ^ 64 ≤ before + bucket.count)) ⊎ ExemplarFault k exemplars)))
+
+-- The samples of buckets more, or why there are none.
+pub record PushesBuckets (buckets : List Bucket) (slots : List (List HandedExemplar)) (MayFault : Type 0) (old new : GatheredPoints) : Type 0 where
+  pub place : SamePlace old new
+  pub fits : new.refused ≡ None → values_in buckets < 2 ^ 64
+  pub clean : new.refused ≡ None → AllByRecursion ExemplarClean slots
+  pub samples : new.refused ≡ None → new.samples ≡ old.samples ++ bucket_samples old.setting old.common [] buckets slots
+  pub refused : (k : EncodeError) → new.refused ≡ Some k → OwnRefusal MayFault k ⊎ BucketsFault k buckets slots

@@ -1,0 +1,68 @@
+//! Histograms without member labels.
+ghost use Rattle.std.specs.Prelude.{◌≡◌, [], ◌∷◌};
+ghost use Rattle.std.specs.Option.{option_map};
+ghost use Rattle.fm_encoder.specs.Points.{HistogramPoint, millis};
+ghost use Rattle.fm_encoder.specs.Buckets.{slots_of, MaySlotsFault};
+ghost use Rattle.fm_encoder.specs.Gathered.{answer};
+ghost use Rattle.fm_encoder.specs.Hands.{HandsMembers};
+
+use crate::exemplar::EncodeExemplar;
+use crate::metric::MetricEncoder;
+use crate::point::{EncodePoint, PointEncoder};
+use fm_bucket::Bucket;
+use fm_raw::fixed::FixedSum;
+use fm_text::EncodeError;
+use std::time::Duration;
+
+// The point of a histogram's parts.
+#[derive(Drop)]
+struct HistogramParts<'a, E> {
+    buckets: &'a [Bucket],
+    exemplars: &'a [Option<&'a E>],
+    count: u64,
+    sum: FixedSum,
+    created: Option<Duration>,
+}
+
+impl<E: EncodeExemplar> EncodePoint for HistogramParts<'_, E> {
+    ghost points = { λ p ps. ps ≡ HistogramPoint p.buckets.now (slots_of E.exemplars p.exemplars.now) p.count p.sum (option_map millis p.created) ∷ [] };
+
+    ghost may_fault = { λ p. MaySlotsFault E.may_fault p.exemplars.now };
+
+    fn encode(&self, encoder: &mut PointEncoder) -> Result<(), EncodeError> {
+        encoder.encode_histogram(
+            self.buckets,
+            self.exemplars,
+            self.count,
+            self.sum,
+            self.created,
+        )
+    }
+}
+
+impl MetricEncoder {
+    /// Takes the point of a histogram without member labels, as `PointEncoder::encode_histogram` does.
+    pub fn encode_histogram<E: EncodeExemplar>(
+        &mut self,
+        buckets: &[Bucket],
+        exemplars: &[Option<&E>],
+        count: u64,
+        sum: FixedSum,
+        created: Option<Duration>,
+    ) -> Result<(), EncodeError>
+        ensures handed { HandsMembers (λ ms. ms ≡ record {
+          labels = [];
+          point = HistogramPoint buckets.now (slots_of E.exemplars exemplars.now) count sum (option_map millis created);
+        } ∷ []) (MaySlotsFault E.may_fault exemplars.now) self.old self.new result }
+        ensures answered { result ≡ answer self.new.refused }
+    {
+        let parts = HistogramParts {
+            buckets,
+            exemplars,
+            count,
+            sum,
+            created,
+        };
+        self.encode(&(), &parts)
+    }
+}

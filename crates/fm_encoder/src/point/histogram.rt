@@ -1,0 +1,178 @@
+//! The points of histograms.
+ghost use Rattle.std.specs.Prelude.{◌≡◌, ◌++◌, [], ◌∷◌, length, None, Some, pos, MatchOption, IfSome};
+ghost use Rattle.std.specs.Option.{option_map, option_map_or};
+ghost use Rattle.fm_grammar.specs.declared.MetricType.{MetricType};
+ghost use Rattle.fm_grammar.specs.WellFormed.{IsExemplar, ValueFits};
+ghost use Rattle.fm_grammar.specs.Exposition.{Whole, Fixed as Millionths};
+ghost use Rattle.fm_grammar.specs.declared.SampleKind.TheVariants.{Bucket as BucketKind};
+ghost use Rattle.fm_text.specs.Samples.{exemplar_of};
+ghost use Rattle.fm_text.specs.declared.exposition.Value.TheVariants.{Fixed as FixedValue};
+ghost use Rattle.fm_encoder.specs.Points.{HistogramPoint, millis, plain_sample, bound_label, count_sample, sum_sample, created_samples};
+ghost use Rattle.fm_encoder.specs.Gathered.{answer};
+ghost use Rattle.fm_encoder.specs.Hands.{HandsPoints};
+ghost use Rattle.fm_encoder.specs.Steps.{PushesSample, PushesSamples};
+ghost use Rattle.fm_encoder.specs.Buckets.{HasBuckets, slots_of, MaySlotsFault, BeginsBuckets, PushesBucket, PushesBuckets};
+
+use crate::exemplar::{EncodeExemplar, exemplar_if_any};
+use crate::label_copies::labels_with;
+use crate::point::PointEncoder;
+use fm_bucket::{BUCKET_LABEL, Bound, Bucket};
+use fm_grammar::{MetricType, SampleKind};
+use fm_raw::fixed::{FixedBuffer, FixedSum};
+use fm_text::{EncodeError, Exemplar, Value};
+use std::time::Duration;
+
+// The value of a sum.
+fn sum_value(sum: FixedSum) -> Value
+    ensures value { result ≡ FixedValue sum }
+    ensures fits { ValueFits (Millionths sum) }
+{
+    Value::Fixed(FixedSum::from_millionths(sum.millionths()))
+}
+
+impl PointEncoder {
+    /// Takes a histogram's point: its buckets with their own counts, a slot for an exemplar of each, how many values there
+    /// are, their sum, and when it was created, of which whole milliseconds are written. A bucket's sample has its bound in a
+    /// label `le`, and shows how many values the bucket and those before it have together.
+    ///
+    /// It is refused as `KindMismatch` in a family of another type, as `ExemplarCountMismatch` where buckets and slots differ in
+    /// number, then for its labels, and then, bucket by bucket, as `BucketOverflow` where so many values are no `u64`, or for
+    /// the exemplar. It may find no memory.
+    pub fn encode_histogram<E: EncodeExemplar>(
+        &mut self,
+        buckets: &[Bucket],
+        exemplars: &[Option<&E>],
+        count: u64,
+        sum: FixedSum,
+        created: Option<Duration>,
+    ) -> Result<(), EncodeError>
+        ensures handed { HandsPoints
+            (λ ps. ps ≡ HistogramPoint buckets.now (slots_of E.exemplars exemplars.now) count sum (option_map millis created) ∷ [])
+            (MaySlotsFault E.may_fault exemplars.now) self.old self.new result }
+        ensures answered { result ≡ answer self.new.refused }
+    {
+        self.begin_buckets(MetricType::Histogram, buckets.len(), exemplars.len())?;
+        self.push_buckets(buckets, exemplars)?;
+        self.push_totals(count, sum, created)
+    }
+
+    // Tests a point's type, then that each bucket has a slot, and then whether the common labels were refused.
+    fn begin_buckets(
+        &mut self,
+        metric_type: MetricType,
+        buckets: usize,
+        slots: usize,
+    ) -> Result<(), EncodeError>
+        ensures begun { BeginsBuckets metric_type buckets slots self.old self.new }
+        ensures answered { result ≡ answer self.new.refused }
+    {
+        if self.refused.is_none() && metric_type == self.metric_type && buckets != slots {
+            return self.refuse(EncodeError::ExemplarCountMismatch);
+        }
+        self.begin_point(metric_type)
+    }
+
+    // Adds a sample for each bucket, in order.
+    fn push_buckets<E: EncodeExemplar>(
+        &mut self,
+        buckets: &[Bucket],
+        exemplars: &[Option<&E>],
+    ) -> Result<(), EncodeError>
+        requires accepting { self.old.refused ≡ None }
+        requires buckets { HasBuckets self.old.setting.metric_type }
+        requires slots { length exemplars.now ≡ length buckets.now }
+        ensures pushed { PushesBuckets buckets.now (slots_of E.exemplars exemplars.now) (MaySlotsFault E.may_fault exemplars.now) self.old self.new }
+        ensures answered { result ≡ answer self.new.refused }
+    {
+        let mut values = 0;
+        for i in 0..buckets.len() {
+            values = self.push_bucket(values, &buckets[i], exemplars[i])?;
+        }
+        Ok(())
+    }
+
+    // Adds the sample of a bucket behind so many values, and answers how many values there are with its own.
+    fn push_bucket<E: EncodeExemplar>(
+        &mut self,
+        before: u64,
+        bucket: &Bucket,
+        exemplar: Option<&E>,
+    ) -> Result<u64, EncodeError>
+        requires accepting { self.old.refused ≡ None }
+        requires buckets { HasBuckets self.old.setting.metric_type }
+        ensures { PushesBucket before bucket.now (option_map_or (λ e. E.exemplars e.now) exemplar.entry []) (MatchOption exemplar.entry ⊥ (λ e. E.may_fault e.now)) self.old self.new result }
+    {
+        let Some(values) = before.checked_add(bucket.count()) else {
+            self.refused = Some(EncodeError::BucketOverflow);
+            return Err(EncodeError::BucketOverflow);
+        };
+        let exemplar = match exemplar_if_any(exemplar) {
+            Ok(exemplar) => exemplar,
+            Err(error) => {
+                self.refused = Some(error);
+                return Err(error);
+            }
+        };
+        self.push_bound(bucket.upper_bound(), values, exemplar)?;
+        Ok(values)
+    }
+
+    // Adds a sample that shows so many values up to the bound.
+    fn push_bound(
+        &mut self,
+        bound: Bound,
+        values: u64,
+        exemplar: Option<Exemplar>,
+    ) -> Result<(), EncodeError>
+        requires accepting { self.old.refused ≡ None }
+        requires buckets { HasBuckets self.old.setting.metric_type }
+        requires exemplar { IfSome exemplar (λ x. IsExemplar (exemplar_of x)) }
+        ensures pushed { PushesSample (record (plain_sample self.old.setting self.old.common BucketKind (bound_label bound ∷ []) (Whole (pos values))) { exemplar = option_map exemplar_of exemplar }) self.old self.new }
+        ensures answered { result ≡ answer self.new.refused }
+    {
+        let mut buffer = FixedBuffer::new();
+        let text = bound.format(&mut buffer);
+        let Ok(labels) = labels_with(self.alloc, self.common.as_slice(), BUCKET_LABEL, text) else {
+            return self.refuse(EncodeError::Memory);
+        };
+        let value = Value::Whole(i128::from(values));
+        self.push_labeled(SampleKind::Bucket, labels, value, exemplar)
+    }
+
+    // Adds the samples of how many values a histogram has, of their sum, and of its time of creation.
+    fn push_totals(
+        &mut self,
+        count: u64,
+        sum: FixedSum,
+        created: Option<Duration>,
+    ) -> Result<(), EncodeError>
+        requires accepting { self.old.refused ≡ None }
+        requires histogram { self.old.setting.metric_type ≡ MetricType.Histogram }
+        ensures pushed { PushesSamples
+            (count_sample self.old.setting self.old.common count
+            ∷ sum_sample self.old.setting self.old.common sum
+            ∷ created_samples self.old.setting self.old.common (option_map millis created)) self.old self.new }
+        ensures answered { result ≡ answer self.new.refused }
+    {
+        self.push_sample(SampleKind::Count, Value::Whole(i128::from(count)), None)?;
+        self.push_sample(SampleKind::Sum, sum_value(sum), None)?;
+        self.push_created(created)
+    }
+
+    // Adds the sample of a time of creation, where there is one.
+    fn push_created(&mut self, created: Option<Duration>) -> Result<(), EncodeError>
+        requires accepting { self.old.refused ≡ None }
+        requires histogram { self.old.setting.metric_type ≡ MetricType.Histogram }
+        ensures pushed { PushesSamples (created_samples self.old.setting self.old.common (option_map millis created)) self.old self.new }
+        ensures answered { result ≡ answer self.new.refused }
+    {
+        match created {
+            Some(time) => self.push_sample(
+                SampleKind::Created,
+                Value::Millis(time.as_millis()),
+                None,
+            ),
+            None => Ok(()),
+        }
+    }
+}
