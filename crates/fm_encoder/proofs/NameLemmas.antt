@@ -1,13 +1,13 @@
 -- The names of labels, and that clean labels have valid and different names.
-use Rattle.std.proofs.Common.{◌≡◌, ◌≢◌, ℕ, ◌<◌, ◌+◌, zero, suc, List, [], ◌∷◌, ◌++◌, length, get_or, take, map, ◌⊎◌, inl, inr, refl, sym, ap, subst, ◌∙◌, arith, append-nil, append_assoc, String, Global, string_bytes, Contains, Result, Ok, Err, MatchResult, IfOk, codes}
+use Rattle.std.proofs.Common.{◌≡◌, ◌≢◌, ℕ, ◌<◌, ◌+◌, zero, suc, List, [], ◌∷◌, ◌++◌, length, get_or, take, drop, map, ◌⊎◌, inl, inr, refl, sym, ap, subst, ◌∙◌, arith, append-nil, append_assoc, String, Global, string_bytes, Contains, Result, Ok, Err, MatchResult, IfOk, codes}
 use Rattle.std.specs.List.{AllByRecursion}
-use Rattle.std.proofs.lemmas.List.{take_more}
+use Rattle.std.proofs.lemmas.List.{take_more, drop-map, drop_at, length-map}
 use Rattle.std.proofs.lemmas.List.Elements.{Contains-append_right, Contains-append_cases}
 use Rattle.fm_grammar.specs.declared.MetricType.{MetricType}
 use Rattle.fm_grammar.specs.Exposition.{Text, Label}
 use Rattle.fm_grammar.specs.Names.{IsLowerLetter, IsDigit, IsWord, BeginsWithLetter, further_words, IsSnakeCase, IsLabelByte, IsLabelName, AllDifferent}
 use Rattle.fm_grammar.specs.WellFormed.{AreLabels}
-use Rattle.fm_text.specs.Samples.{labels_of}
+use Rattle.fm_text.specs.Samples.{label_of, labels_of}
 use Rattle.fm_encoder.specs.Labels.{HandedLabel, NamePiece, ValuePiece, IsReserved, AreFree, label_names, NameFits, LabelClean, LabelsClean, written, all_written, handed_again}
 
 abbrev pub Pairs : Type 0
@@ -89,6 +89,14 @@ AreLabels-read items type all Refused (Err e) h = tt
 -- labels that are clean behind well-formed ones
 pub AreLabels-behind : (type : MetricType) (before ls : List Label) (labels : List HandedLabel) → AreLabels before → LabelsClean type before labels → ls ≡ before ++ all_written labels → AreLabels ls
 AreLabels-behind type before ls labels h clean is = subst AreLabels (sym is) (AreLabels-after type before labels h clean)
+
+-- the labels behind copies of clean ones
+pub own_behind : (type : MetricType) (common copies all own : Pairs) (labels : List HandedLabel) → labels_of copies ≡ labels_of common → LabelsClean type (labels_of copies) labels → labels_of all ≡ labels_of copies ++ all_written labels → own ≡ drop (length common) all → LabelsClean type (labels_of common) labels × (labels_of own ≡ all_written labels)
+own_behind type common copies all own labels same clean is cut = (
+  subst (λ (before : List Label). LabelsClean type before labels) same clean,
+  ap labels_of cut ∙ sym (drop-map label_of (length common) all) ∙ ap (drop (length common)) (is ∙ ap (λ (before : List Label). before ++ all_written labels) same)
+      ∙ drop_at (labels_of common) (all_written labels) (length common) (length-map common label_of),
+)
 
 all_bytes-append : (xs ys : Text) → AllByRecursion IsLabelByte xs → AllByRecursion IsLabelByte ys → AllByRecursion IsLabelByte (xs ++ ys)
 all_bytes-append [] ys h more = more

@@ -45,31 +45,51 @@ pub(crate) fn cloned_labels(
     Ok(clones)
 }
 
-// The labels, and one more of this name and value.
-pub(crate) fn labels_with(
+// A list of one label of this name and value.
+pub(crate) fn one_label(
     alloc: Global,
-    labels: &[(String, String)],
     name: &str,
     value: &str,
 ) -> Result<Vec<(String, String)>, EncodeError>
-    ensures ok { IfOk result (λ ls. labels_of ls.items ≡ labels_of labels.now ++ record { name = name.now; value = value.now } ∷ []) }
+    ensures ok { IfOk result (λ ls. labels_of ls.items ≡ record { name = name.now; value = value.now } ∷ []) }
     ensures err { IfErr result (λ e. e ≡ EncodeError.Memory) }
 {
-    let mut all = cloned_labels(alloc, labels)?;
     let (Ok(name), Ok(value)) = (
         String::from_str(alloc, name),
         String::from_str(alloc, value),
     ) else {
         return Err(EncodeError::Memory);
     };
-    if let Err(_) = all.push((name, value)) {
+    let mut labels = Vec::new(alloc);
+    if let Err(_) = labels.push((name, value)) {
         return Err(EncodeError::Memory);
     }
-    Ok(all)
+    Ok(labels)
 }
 
-// The labels, and those that a label set hands over behind them.
+// The labels that a label set hands over behind the common ones.
 pub(crate) fn labels_behind<LS: EncodeLabelSet>(
+    alloc: Global,
+    metric_type: MetricType,
+    common: &[(String, String)],
+    labels: &LS,
+) -> Result<Vec<(String, String)>, EncodeError>
+    ensures { MatchResult result
+        (λ ls. LabelsClean metric_type (labels_of common.now) (LS.labels labels.now) × (labels_of ls.items ≡ all_written (LS.labels labels.now)))
+        (λ k. OwnRefusal (LS.may_fault labels.now) k ⊎ LabelsFault k metric_type (labels_of common.now) (LS.labels labels.now)) }
+{
+    if labels.is_empty() {
+        return Ok(Vec::new(alloc));
+    }
+    let mut all = joined_labels(alloc, metric_type, cloned_labels(alloc, common)?, labels)?;
+    let Ok(own) = all.split_off(common.len()) else {
+        return Err(EncodeError::Memory);
+    };
+    Ok(own)
+}
+
+// The common labels, and those that a label set hands over behind them.
+fn joined_labels<LS: EncodeLabelSet>(
     alloc: Global,
     metric_type: MetricType,
     common: Vec<(String, String)>,
@@ -79,9 +99,6 @@ pub(crate) fn labels_behind<LS: EncodeLabelSet>(
         (λ ls. LabelsClean metric_type (labels_of common.items) (LS.labels labels.now) × (labels_of ls.items ≡ labels_of common.items ++ all_written (LS.labels labels.now)))
         (λ k. OwnRefusal (LS.may_fault labels.now) k ⊎ LabelsFault k metric_type (labels_of common.items) (LS.labels labels.now)) }
 {
-    if labels.is_empty() {
-        return Ok(common);
-    }
     let mut encoder = LabelSetEncoder::behind(alloc, metric_type, common);
     let visited = labels.encode(&mut encoder);
     encoder.end(visited)

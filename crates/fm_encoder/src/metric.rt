@@ -6,7 +6,7 @@ ghost use Rattle.fm_grammar.specs.declared.MetricType.{MetricType};
 ghost use Rattle.fm_grammar.specs.Names.{IsSnakeCase};
 ghost use Rattle.fm_grammar.specs.WellFormed.{AreMillis, IsSample};
 ghost use Rattle.fm_text.specs.declared.error.EncodeError.{EncodeError};
-ghost use Rattle.fm_text.specs.Samples.{labels_of, samples_of};
+ghost use Rattle.fm_text.specs.Samples.{labels_of, shared_labels, samples_of};
 ghost use Rattle.fm_encoder.specs.Labels.{LabelsClean, LabelsFault, all_written, handed_again};
 ghost use Rattle.fm_encoder.specs.Points.{Member, UnknownPoint, GaugePoint, CounterPoint, StateSetPoint, InfoPoint, millis};
 ghost use Rattle.fm_encoder.specs.States.{state_of};
@@ -21,9 +21,10 @@ use crate::own::own_refusal;
 use crate::point::{EncodePoint, PointEncoder};
 use crate::value::{EncodeCounterValue, EncodeGaugeValue, EncodeUnknownValue};
 use fm_grammar::MetricType;
-use fm_text::{EncodeError, Sample};
+use fm_text::{CommonLabels, EncodeError, Sample};
 use std::alloc::Global;
 use std::marker::Model;
+use std::sync::Arc;
 use std::time::Duration;
 
 mod histogram;
@@ -84,7 +85,7 @@ fn hand_labels<LS: EncodeLabelSet>(
 }
 
 // The constant labels and then these, each of them clean.
-fn read_labels<LS: EncodeLabelSet>(
+fn gathered_labels<LS: EncodeLabelSet>(
     alloc: Global,
     metric_type: MetricType,
     constants: &[(String, String)],
@@ -98,6 +99,25 @@ fn read_labels<LS: EncodeLabelSet>(
     let mut encoder = LabelSetEncoder::new(alloc, metric_type);
     let visited = hand_labels(constants, labels, &mut encoder);
     encoder.end(visited)
+}
+
+// The same labels, for samples to share.
+fn read_labels<LS: EncodeLabelSet>(
+    alloc: Global,
+    metric_type: MetricType,
+    constants: &[(String, String)],
+    labels: &LS,
+) -> Result<CommonLabels, EncodeError>
+    ensures { let all = handed_again (labels_of constants.now) ++ LS.labels labels.now in
+        MatchResult result
+        (λ ls. LabelsClean metric_type [] all × (shared_labels ls ≡ all_written all))
+        (λ k. OwnRefusal (LS.may_fault labels.now) k ⊎ LabelsFault k metric_type [] all) }
+{
+    let labels = gathered_labels(alloc, metric_type, constants, labels)?;
+    let Ok(shared) = Arc::new(alloc, labels) else {
+        return Err(EncodeError::Memory);
+    };
+    Ok(shared)
 }
 
 // The point of an unknown metric's value.
@@ -216,7 +236,7 @@ impl MetricEncoder {
     {
         Ok(MetricEncoder {
             constants: cloned_labels(alloc, constants)?,
-            points: PointEncoder::new(alloc, name, metric_type, time),
+            points: PointEncoder::new(alloc, name, metric_type, time)?,
         })
     }
 

@@ -1,12 +1,12 @@
 //! Points: what hands them over, and the encoder that gathers their samples.
-ghost use Rattle.std.specs.Prelude.{◌≡◌, ◌⊎◌, List, [], ◌∷◌, MatchResult, MatchOption, None, Some, IfOk, IfSome, Contains, map, string_bytes};
+ghost use Rattle.std.specs.Prelude.{◌≡◌, ◌⊎◌, ◌++◌, List, [], ◌∷◌, MatchResult, MatchOption, None, Some, IfOk, IfErr, IfSome, Contains, map, string_bytes};
 ghost use Rattle.std.specs.Option.{option_map, option_map_or};
 ghost use Rattle.std.specs.List.{AllByRecursion};
 ghost use Rattle.fm_grammar.specs.Names.{IsSnakeCase};
 ghost use Rattle.fm_grammar.specs.declared.MetricType.{MetricType};
 ghost use Rattle.fm_grammar.specs.WellFormed.{AreLabels, AreMillis, IsSample};
 ghost use Rattle.fm_text.specs.declared.error.EncodeError.{EncodeError};
-ghost use Rattle.fm_text.specs.Samples.{labels_of, samples_of, value_of, exemplar_of};
+ghost use Rattle.fm_text.specs.Samples.{labels_of, shared_labels, samples_of, value_of, exemplar_of};
 ghost use Rattle.fm_encoder.specs.Points.{Point, UnknownPoint, GaugePoint, CounterPoint, StateSetPoint, InfoPoint, state_sample, millis};
 ghost use Rattle.fm_encoder.specs.Labels.{AreFree, label_names};
 ghost use Rattle.fm_encoder.specs.States.{state_of};
@@ -15,7 +15,7 @@ ghost use Rattle.fm_encoder.specs.Hands.{HandsPoints};
 ghost use Rattle.fm_encoder.specs.Steps.{FitsType, BeginsPoint, PushesSample, PushesSamples, TestsStates, EndsPoints, IsNumber};
 
 use crate::exemplar::{EncodeExemplar, exemplar_if_any};
-use crate::label_copies::{cloned_labels, labels_behind, labels_with};
+use crate::label_copies::{labels_behind, one_label};
 use crate::label_set::EncodeLabelSet;
 use crate::names::has_name;
 use crate::own::own_refusal;
@@ -24,9 +24,10 @@ use crate::value::{
     unknown_number,
 };
 use fm_grammar::{MetricType, SampleKind};
-use fm_text::{EncodeError, Exemplar, Sample, Value, make};
+use fm_text::{CommonLabels, EncodeError, Exemplar, Sample, Value, make};
 use std::alloc::Global;
 use std::marker::Model;
+use std::sync::Arc;
 use std::time::Duration;
 
 mod histogram;
@@ -51,7 +52,7 @@ pub struct PointEncoder {
     name: String,
     metric_type: MetricType,
     time: Option<u128>,
-    common: Vec<(String, String)>,
+    common: CommonLabels,
     deferred: Option<EncodeError>,
     samples: Vec<Sample>,
     refused: Option<EncodeError>,
@@ -59,14 +60,14 @@ pub struct PointEncoder {
 
 impl Model for PointEncoder {
     ghost use Rattle.std.specs.Prelude.{string_bytes};
-    ghost use Rattle.fm_text.specs.Samples.{labels_of, samples_of};
+    ghost use Rattle.fm_text.specs.Samples.{shared_labels, samples_of};
     ghost use Rattle.fm_encoder.specs.Gathered.{GatheredPoints};
 
     ghost Value = { GatheredPoints };
 
     ghost view = { λ e. record {
       setting = record { name = string_bytes e.name; metric_type = e.metric_type; time = e.time };
-      common = labels_of e.common.items;
+      common = shared_labels e.common;
       deferred = e.deferred;
       samples = samples_of e.samples.items;
       refused = e.refused;
@@ -83,27 +84,31 @@ impl PointEncoder {
         name: String,
         metric_type: MetricType,
         time: Option<u128>,
-    ) -> PointEncoder
+    ) -> Result<PointEncoder, EncodeError>
         requires name { IsSnakeCase (string_bytes name) }
         requires time { IfSome time AreMillis }
-        ensures { result ≡ record {
+        ensures made { IfOk result (λ encoder. encoder ≡ record {
           setting = record { name = string_bytes name; metric_type = metric_type; time = time };
           common = [];
           deferred = None;
           samples = [];
           refused = None;
-        } }
+        }) }
+        ensures memory { IfErr result (λ e. e ≡ EncodeError.Memory) }
     {
-        PointEncoder {
+        let Ok(common) = Arc::new(alloc, Vec::new(alloc)) else {
+            return Err(EncodeError::Memory);
+        };
+        Ok(PointEncoder {
             alloc,
             name,
             metric_type,
             time,
-            common: Vec::new(alloc),
+            common,
             deferred: None,
             samples: Vec::new(alloc),
             refused: None,
-        }
+        })
     }
 
     fn refuse(&mut self, error: EncodeError) -> Result<(), EncodeError>
@@ -131,27 +136,30 @@ impl PointEncoder {
         Ok(())
     }
 
-    // Adds a sample under these labels.
+    // Adds a sample whose own labels stand behind the common ones.
     fn push_labeled(
         &mut self,
         kind: SampleKind,
-        labels: Vec<(String, String)>,
+        own: Vec<(String, String)>,
         value: Value,
         exemplar: Option<Exemplar>,
     ) -> Result<(), EncodeError>
         requires accepting { self.old.refused ≡ None }
-        requires labels { AreLabels (labels_of labels.items) }
+        requires labels { AreLabels (self.old.common ++ labels_of own.items) }
         requires fits { FitsType self.old.setting.metric_type kind (value_of value) (option_map exemplar_of exemplar) }
         ensures pushed { PushesSample (record {
           kind = kind;
-          labels = labels_of labels.items;
+          labels = self.old.common ++ labels_of own.items;
           value = value_of value;
           time = self.old.setting.time;
           exemplar = option_map exemplar_of exemplar;
         }) self.old self.new }
         ensures answered { result ≡ answer self.new.refused }
     {
-        let sample = make::sample(kind, labels, value, self.time, exemplar);
+        let Ok(common) = self.common.clone() else {
+            return self.refuse(EncodeError::Memory);
+        };
+        let sample = make::sample(kind, common, own, value, self.time, exemplar);
         if let Err(_) = self.samples.push(sample) {
             return self.refuse(EncodeError::Memory);
         }
@@ -176,10 +184,7 @@ impl PointEncoder {
         }) self.old self.new }
         ensures answered { result ≡ answer self.new.refused }
     {
-        let Ok(labels) = cloned_labels(self.alloc, self.common.as_slice()) else {
-            return self.refuse(EncodeError::Memory);
-        };
-        self.push_labeled(kind, labels, value, exemplar)
+        self.push_labeled(kind, Vec::new(self.alloc), value, exemplar)
     }
 
     /// Takes an unknown metric's point. It is refused as `KindMismatch` in a family of another type, then for its
@@ -293,12 +298,11 @@ impl PointEncoder {
         ensures pushed { PushesSample (state_sample self.old.setting self.old.common (text.now, is_on)) self.old self.new }
         ensures answered { result ≡ answer self.new.refused }
     {
-        let Ok(labels) = labels_with(self.alloc, self.common.as_slice(), self.name.as_str(), text)
-        else {
+        let Ok(own) = one_label(self.alloc, self.name.as_str(), text) else {
             return self.refuse(EncodeError::Memory);
         };
         let value = Value::Whole(if is_on { 1 } else { 0 });
-        self.push_labeled(SampleKind::Plain, labels, value, None)
+        self.push_labeled(SampleKind::Plain, own, value, None)
     }
 
     /// Takes an info's point: its labels, which stand behind the common ones. It is refused as `KindMismatch` in a family of
@@ -308,11 +312,8 @@ impl PointEncoder {
         ensures answered { result ≡ answer self.new.refused }
     {
         self.begin_point(MetricType::Info)?;
-        let Ok(common) = cloned_labels(self.alloc, self.common.as_slice()) else {
-            return self.refuse(EncodeError::Memory);
-        };
-        match labels_behind(self.alloc, self.metric_type, common, labels) {
-            Ok(labels) => self.push_labeled(SampleKind::Info, labels, Value::Whole(1), None),
+        match labels_behind(self.alloc, self.metric_type, self.common.as_slice(), labels) {
+            Ok(own) => self.push_labeled(SampleKind::Info, own, Value::Whole(1), None),
             Err(error) => self.refuse(error),
         }
     }
@@ -334,14 +335,14 @@ impl PointEncoder {
     }
 
     // Takes the common labels of the next points, or keeps their refusal for the first of them.
-    pub(crate) fn begin_member(&mut self, read: Result<Vec<(String, String)>, EncodeError>)
-        requires labels { IfOk read (λ ls. AreLabels (labels_of ls.items)) }
-        requires free { IfOk read (λ ls. AreFree self.old.setting.metric_type (labels_of ls.items)) }
+    pub(crate) fn begin_member(&mut self, read: Result<CommonLabels, EncodeError>)
+        requires labels { IfOk read (λ ls. AreLabels (shared_labels ls)) }
+        requires free { IfOk read (λ ls. AreFree self.old.setting.metric_type (shared_labels ls)) }
         ensures setting { self.new.setting ≡ self.old.setting }
         ensures samples { self.new.samples ≡ self.old.samples }
         ensures refused { self.new.refused ≡ self.old.refused }
         ensures read { MatchResult read
-            (λ ls. (self.new.deferred ≡ None) × (self.new.common ≡ labels_of ls.items))
+            (λ ls. (self.new.deferred ≡ None) × (self.new.common ≡ shared_labels ls))
             (λ k. self.new.deferred ≡ Some k) }
     {
         match read {

@@ -1,3 +1,4 @@
+pub mod LabelLemmas
 pub mod SameLemmas
 pub mod ResultLemmas
 pub mod LineLemmas

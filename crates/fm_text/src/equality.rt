@@ -1,9 +1,10 @@
 // When two parts of an exposition are the same: exactly where contracts see the same.
 ghost use Rattle.std.specs.Prelude.{◌≡◌, ◌↔◌, IsTrue};
 ghost use Rattle.std.specs.Cmp.Lexicographic.{pointwise};
+ghost use Rattle.std.specs.Option.{option_map, option_eq};
 ghost use Rattle.std.specs.Ordering.{on};
 ghost use Rattle.fm_text.specs.Same.{same_label, same_value, same_exemplar, same_sample, same_family, same_exposition};
-ghost use Rattle.fm_text.specs.Samples.{labels_of, value_of, exemplar_of, sample_of};
+ghost use Rattle.fm_text.specs.Samples.{labels_of, value_of, exemplar_of, sample_of, shown_label};
 ghost use Rattle.fm_text.specs.SameLaws.{view_laws, view_equivalence, same_value_decides, same_exemplar_decides, same_sample_decides, same_family_decides, same_exposition_decides, family_laws, family_equivalence, exposition_laws, exposition_equivalence};
 
 use crate::exposition::{Exemplar, Exposition, FamilySamples, Sample, Value};
@@ -116,6 +117,33 @@ fn same_labels(one: &[(String, String)], other: &[(String, String)]) -> bool
     one == other
 }
 
+// Whether two samples have the same labels, however they share them.
+fn same_joined_labels(one: &Sample, other: &Sample) -> bool
+    ensures { result ≡ pointwise same_label (sample_of one.now).labels (sample_of other.now).labels }
+{
+    for place in 0..usize::MAX {
+        let label = one.label(place);
+        if !is_same_label(label, other.label(place)) {
+            return false;
+        }
+        if label.is_none() {
+            return true;
+        }
+    }
+    true
+}
+
+// Whether two labels are the same, or both are missing.
+fn is_same_label(one: Option<(&str, &str)>, other: Option<(&str, &str)>) -> bool
+    ensures { result ≡ option_eq same_label (option_map shown_label one.entry) (option_map shown_label other.entry) }
+{
+    match (one, other) {
+        (Some(one), Some(other)) => one.0 == other.0 && one.1 == other.1,
+        (None, None) => true,
+        _ => false,
+    }
+}
+
 // Whether two exemplars have the same parts.
 #[tactic(auto, using(crate::proofs::SameLemmas::same))]
 fn is_same_exemplar(one: &Exemplar, other: &Exemplar) -> bool
@@ -132,7 +160,7 @@ fn is_same_sample(one: &Sample, other: &Sample) -> bool
     ensures { result ≡ same_sample (sample_of one.now) (sample_of other.now) }
 {
     one.kind as u8 == other.kind as u8
-        && same_labels(&one.labels, &other.labels)
+        && same_joined_labels(one, other)
         && one.value == other.value
         && one.time == other.time
         && one.exemplar == other.exemplar

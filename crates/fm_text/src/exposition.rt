@@ -1,5 +1,5 @@
 //! What was collected: families, their samples and the samples' exemplars.
-ghost use Rattle.std.specs.Prelude.{◌≡◌, length, slice_get};
+ghost use Rattle.std.specs.Prelude.{◌≡◌, ◌++◌, length, slice_get};
 ghost use Rattle.std.specs.Option.{option_copied, option_map};
 ghost use Rattle.fm_grammar.specs.WellFormed.{IsWellFormed};
 ghost use Rattle.fm_text.specs.Samples.{labels_of, value_of, exemplar_of, sample_of, samples_of, shown_label, exemplar_at};
@@ -7,6 +7,10 @@ ghost use Rattle.fm_text.specs.Samples.{labels_of, value_of, exemplar_of, sample
 use fm_grammar::{MetricType, SampleKind};
 use fm_raw::fixed::{Fixed, FixedSum};
 use std::marker::Model;
+use std::sync::Arc;
+
+/// Labels that the samples of a point share.
+pub type CommonLabels = Arc<Vec<(String, String)>>;
 
 /// The value of a sample.
 #[derive(Clone, Copy, Debug)]
@@ -27,11 +31,12 @@ pub struct Exemplar {
     pub(crate) time: Option<u128>,
 }
 
-/// One line of a family.
+/// One line of a family. The labels that it shares with the others of its point stand before its own.
 #[derive(Debug, Drop)]
 pub struct Sample {
     pub(crate) kind: SampleKind,
-    pub(crate) labels: Vec<(String, String)>,
+    pub(crate) common: CommonLabels,
+    pub(crate) own: Vec<(String, String)>,
     pub(crate) value: Value,
     pub(crate) time: Option<u128>,
     pub(crate) exemplar: Option<Exemplar>,
@@ -131,17 +136,19 @@ impl Sample {
     }
 
     /// How many labels the sample has.
+    #[tactic(auto, using(crate::proofs::LabelLemmas::lengths))]
     pub fn label_count(&self) -> usize
         ensures { result ≡ length (sample_of self.now).labels }
     {
-        self.labels.len()
+        self.common.len() + self.own.len()
     }
 
     /// The name and the value of the label at a place, or None where there is none.
     pub fn label(&self, place: usize) -> Option<(&str, &str)>
         ensures { option_map shown_label result ≡ slice_get (sample_of self.now).labels place }
     {
-        label_at(&self.labels, place)
+        let label = joined_at(&self.common, &self.own, place)?;
+        Some((label.0.as_str(), label.1.as_str()))
     }
 
     /// The sample's value.
@@ -202,4 +209,20 @@ fn label_at(labels: &[(String, String)], place: usize) -> Option<(&str, &str)>
 {
     let label = labels.get(place)?;
     Some((label.0.as_str(), label.1.as_str()))
+}
+
+// The label at a place of two lists, one behind the other.
+#[tactic(auto, using(crate::proofs::LabelLemmas::gets))]
+fn joined_at<'a>(
+    front: &'a [(String, String)],
+    back: &'a [(String, String)],
+    place: usize,
+) -> Option<&'a (String, String)>
+    ensures { option_copied result ≡ slice_get (front.now ++ back.now) place }
+{
+    if place < front.len() {
+        front.get(place)
+    } else {
+        back.get(place - front.len())
+    }
 }

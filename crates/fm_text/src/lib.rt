@@ -13,5 +13,5 @@ mod tests;
 mod writing;
 
 pub use error::EncodeError;
-pub use exposition::{Exemplar, Exposition, FamilySamples, Sample, Value};
+pub use exposition::{CommonLabels, Exemplar, Exposition, FamilySamples, Sample, Value};
 pub use writing::encode_exposition;

@@ -1,13 +1,13 @@
 //! How expositions are put together. It is for the collector: a user gets expositions from a
 //! registry's `collect`.
 
-ghost use Rattle.std.specs.Prelude.{◌≡◌};
+ghost use Rattle.std.specs.Prelude.{◌≡◌, ◌++◌};
 ghost use Rattle.std.specs.Option.{option_map};
 ghost use Rattle.std.specs.String.{string_bytes};
 ghost use Rattle.fm_grammar.specs.WellFormed.{IsWellFormed};
-ghost use Rattle.fm_text.specs.Samples.{labels_of, value_of, exemplar_of, sample_of, samples_of};
+ghost use Rattle.fm_text.specs.Samples.{labels_of, shared_labels, value_of, exemplar_of, sample_of, samples_of};
 
-use crate::exposition::{Exemplar, Exposition, FamilySamples, Sample, Value};
+use crate::exposition::{CommonLabels, Exemplar, Exposition, FamilySamples, Sample, Value};
 use fm_grammar::{MetricType, SampleKind};
 use fm_raw::fixed::Fixed;
 
@@ -22,19 +22,27 @@ pub fn exemplar(labels: Vec<(String, String)>, value: Fixed, time: Option<u128>)
     }
 }
 
-/// The sample of these parts. The time is in milliseconds.
+/// The sample of these parts, whose own labels stand behind those of its point. The time is in milliseconds.
 pub fn sample(
     kind: SampleKind,
-    labels: Vec<(String, String)>,
+    common: CommonLabels,
+    own: Vec<(String, String)>,
     value: Value,
     time: Option<u128>,
     exemplar: Option<Exemplar>,
 ) -> Sample
-    ensures { sample_of result ≡ record { kind = kind; labels = labels_of labels.items; value = value_of value; time = time; exemplar = option_map exemplar_of exemplar } }
+    ensures { sample_of result ≡ record {
+      kind = kind;
+      labels = shared_labels common ++ labels_of own.items;
+      value = value_of value;
+      time = time;
+      exemplar = option_map exemplar_of exemplar;
+    } }
 {
     Sample {
         kind,
-        labels,
+        common,
+        own,
         value,
         time,
         exemplar,

@@ -90,14 +90,30 @@ fn append_in_braces(line: &mut LineBuffer, labels: &[(String, String)])
     line.append(b"}");
 }
 
-// Appends labels in braces, and nothing for none.
-#[tactic(auto, using(crate::proofs::LineLemmas::room, crate::proofs::RowLemmas::blocks))]
-fn append_label_block(line: &mut LineBuffer, labels: &[(String, String)])
-    requires { HasRoom line.old (label_block_text (labels_of labels.now)) }
-    ensures { Appended line.old line.new (label_block_text (labels_of labels.now)) }
+// Appends a sample's labels with commas between them.
+#[tactic(auto, using(crate::proofs::LineLemmas::room, crate::proofs::RowLemmas::joined))]
+fn append_joined_list(line: &mut LineBuffer, sample: &Sample)
+    requires { HasRoom line.old (label_list_text (sample_of sample.now).labels) }
+    ensures { Appended line.old line.new (label_list_text (sample_of sample.now).labels) }
 {
-    if !labels.is_empty() {
-        append_in_braces(line, labels);
+    if sample.common.is_empty() {
+        append_label_list(line, &sample.own);
+    } else {
+        append_label_list(line, &sample.common);
+        append_further_labels(line, &sample.own);
+    }
+}
+
+// Appends a sample's labels in braces, and nothing for none.
+#[tactic(auto, using(crate::proofs::LineLemmas::room, crate::proofs::RowLemmas::blocks), unfolding(fm_grammar::specs::Spelling::in_braces))]
+fn append_joined_block(line: &mut LineBuffer, sample: &Sample)
+    requires { HasRoom line.old (label_block_text (sample_of sample.now).labels) }
+    ensures { Appended line.old line.new (label_block_text (sample_of sample.now).labels) }
+{
+    if sample.label_count() != 0 {
+        line.append(b"{");
+        append_joined_list(line, sample);
+        line.append(b"}");
     }
 }
 
@@ -162,7 +178,7 @@ fn append_sample_line(line: &mut LineBuffer, name: &str, sample: &Sample)
 {
     line.append(name.as_bytes());
     line.append(sample.kind.suffix().as_bytes());
-    append_label_block(line, &sample.labels);
+    append_joined_block(line, sample);
     append_reading(line, sample);
 }
 

@@ -8,6 +8,7 @@ use fm_grammar::{MetricType, SampleKind};
 use fm_raw::fixed::Fixed;
 use std::alloc::{AllocError, Global};
 use std::io::{self, ErrorKind, Write};
+use std::sync::Arc;
 use std::test::Fail;
 
 const DOCUMENT: &[u8] = b"# TYPE c counter
@@ -70,7 +71,8 @@ fn total(alloc: Global) -> Result<Sample, AllocError>
     let exemplar = make::exemplar(Vec::new(alloc), Fixed::from_millionths(700_000), Some(2000));
     Ok(make::sample(
         SampleKind::Total,
-        labels,
+        Arc::new(alloc, labels)?,
+        Vec::new(alloc),
         Value::Whole(42),
         Some(1005),
         Some(exemplar),
