@@ -1,5 +1,6 @@
-use Rattle.std.proofs.Common.{subst, sym}
-use Rattle.fm_text.specs.Samples.{labels_of}
+use Rattle.std.proofs.Common.{◌++◌, subst, sym, ap}
+use Rattle.fm_grammar.specs.WellFormed.{AreLabels}
+use Rattle.fm_text.specs.Samples.{labels_of, shared_labels}
 use Rattle.fm_encoder.specs.Gathered.{GatheredPoints}
 use Rattle.fm_encoder.specs.Points.{bound_label}
 use Rattle.fm_encoder.specs.Buckets.{HasBuckets}
@@ -10,6 +11,8 @@ use Rattle.fm_encoder.proofs.point.PointEncoder.push_bound.Goals as goal
 pub push_labeled-requires-clause-labels : goal.push_labeled-requires-clause-labels
 push_labeled-requires-clause-labels c =
     let inside = c.self.inside in
+    let before = shared_labels inside.common in
     let has = subst (λ (g : GatheredPoints). HasBuckets g.setting.metric_type) (sym c.self.view_is) c.requires.buckets in
-    let is = rw (c.as_slice.ensures.value, c.format-text.ensures) at c.in-Ok.ensures.ok in
-    AreLabels-own inside.metric_type (labels_of inside.common.items) _ (bound_label c.args.bound) c.self.invariant.labels c.self.invariant.free (le_is_reserved _ has) le_is_label_name is
+    let is = rw (c.format-text.ensures) at c.in-Ok.ensures.ok in
+    subst (λ (g : GatheredPoints). AreLabels (g.common ++ labels_of c.in-Ok.own.items)) c.self.view_is
+    (AreLabels-own inside.metric_type before _ (bound_label c.args.bound) c.self.invariant.labels c.self.invariant.free (le_is_reserved _ has) le_is_label_name (ap (λ ls. before ++ ls) is))
