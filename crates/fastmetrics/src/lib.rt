@@ -8,8 +8,7 @@
 //! - [`raw`]: numbers, units and metadata.
 #![tactic(auto)]
 
-pub use fm_core::format;
-pub use fm_encoder as encoder;
+pub use fm_core::{encoder, format};
 
 pub mod metrics {
     //! The types of metrics: those whose value is fixed, and those that threads count with.

@@ -1,9 +1,8 @@
 -- One metric more in a collection.
-use Rattle.std.proofs.Common.{◌≡◌, ℕ, ◌<◌, ◌+◌, zero, suc, List, [], ◌∷◌, ◌++◌, Option, ◌⊎◌, length, get_or, take, inl, inr, refl, sym, ap, subst, ◌∙◌, arith, map}
+use Rattle.std.proofs.Common.{◌≡◌, ℕ, ◌<◌, ◌+◌, zero, suc, List, [], ◌∷◌, ◌++◌, Option, ◌⊎◌, length, get_or, take, inl, inr, refl, sym, ap, subst, ◌∙◌, arith}
 use Rattle.std.specs.List.{AllByRecursion}
 use Rattle.std.proofs.lemmas.List.{take_more, map-append}
 use Rattle.fm_grammar.specs.Exposition.{Family, Exposition}
-use Rattle.fm_grammar.specs.WellFormed.{IsFamily, IsWellFormed}
 use Rattle.fm_text.specs.declared.error.EncodeError.{EncodeError}
 use Rattle.fm_text.specs.declared.error.EncodeError.TheVariants.{Memory}
 use Rattle.fm_text.specs.Written.{IsWritersFault}
@@ -48,10 +47,6 @@ module _ {M : Type 0} where
   IsListable-at [] i x within is all = absurd (omega arith)
   IsListable-at (y ∷ xs) zero x within is all = subst (λ (z : ListedMetric M). IsListable (seen_listed z)) (sym is) all.0
   IsListable-at (y ∷ xs) (suc i) x within is all = IsListable-at xs i x (omega arith) is all.1
-
-pub IsWellFormed-push : (e : Exposition) (f : Family) → IsWellFormed e → IsFamily f → IsWellFormed (e ++ f ∷ [])
-IsWellFormed-push [] f h fits = (fits, tt)
-IsWellFormed-push (g ∷ e) f h fits = (h.0, IsWellFormed-push e f h.1 fits)
 
 -- no refusal in collecting is the writer's
 pub refusal-not_writing : {M : Type 0} (k : EncodeError) (Offers : M → List Member → Type 0) (Stamps : M → Option ℕ → Type 0) (MayFault : M → Type 0) (l : Listed M) → (k ≡ Memory) ⊎ FaultOf k Offers Stamps MayFault l → ¬ (IsWritersFault k)

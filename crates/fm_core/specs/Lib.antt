@@ -9,3 +9,5 @@ pub use Rattle.fm_encoder.specs.Points
 pub use Rattle.fm_encoder.specs.Offers
 pub mod Admits
 pub mod Encoded
+pub mod Families
+pub mod Heading

@@ -1,4 +1,4 @@
-use Rattle.std.proofs.Common.{◌≡◌, ◌<◌, List, length, arith, inl, inr, subst, ap, sym, ◌∙◌}
+use Rattle.std.proofs.Common.{◌<◌, List, length, arith, inl, inr, subst, ap, sym, ◌∙◌}
 use Rattle.std.specs.List.{AllByRecursion}
 use Rattle.std.proofs.lemmas.Result.{err_from_is_err_and}
 use Rattle.fm_book.specs.Listing.{Listed, IsListable}
@@ -8,8 +8,8 @@ use Rattle.fm_core.specs.Admits.{Fault}
 use Rattle.fm_core.proofs.CollectLemmas.{Admits-next, Fault-at, IsListable-at, refusal-not_writing}
 use Rattle.fm_core.proofs.format.text.collect.Goals as goal
 
-pub collect_next-requires : goal.collect_next-requires
-collect_next-requires g c =
+pub encode_listed-requires-clause-listable : goal.encode_listed-requires-clause-listable
+encode_listed-requires-clause-listable g c =
     let within : c.loop-listed.listed-index < length c.deref-listed-items.result.now = omega arith in
     let whole = ap seen_list c.deref-listed-items.ensures.value ∙ c.in-Ok.ensures.tree in
     IsListable-at c.deref-listed-items.result.now c.loop-listed.listed-index c.listed-item.result within c.listed-item.is
@@ -19,26 +19,26 @@ pub loop-listed-preserved : goal.loop-listed-preserved
 loop-listed-preserved g c =
     let within : c.loop-listed.listed-index < length c.deref-listed-items.result.now = omega arith in
     record {
-      admitted = Admits-next _ _ _ c.deref-listed-items.result.now c.loop-listed.listed-index c.listed-item.result c.loop-listed.families.items c.collect_next.new.families.items
-          within c.listed-item.is c.loop-listed.invariant.admitted (rw c.in_ok-collect_next.was at c.collect_next.ensures.ok);
-      well_formed = c.collect_next.ensures.well_formed c.loop-listed.invariant.well_formed;
+      admitted = Admits-next _ _ _ c.deref-listed-items.result.now c.loop-listed.listed-index c.listed-item.result c.loop-listed.encoder.families c.encode_listed.new.encoder.families
+          within c.listed-item.is c.loop-listed.invariant.admitted (rw c.in_ok-encode_listed.was at c.encode_listed.ensures.ok);
+      accepting = rw c.in_ok-encode_listed.was at c.encode_listed.ensures.accepting;
     }
 
-pub returns-in_err-collect_next-clause-fault : goal.returns-in_err-collect_next-clause-fault
-returns-in_err-collect_next-clause-fault g c =
+pub returns-in_err-encode_listed-clause-fault : goal.returns-in_err-encode_listed-clause-fault
+returns-in_err-encode_listed-clause-fault g c =
     let within : c.loop-listed.listed-index < length c.deref-listed-items.result.now = omega arith in
     let exit = err_from_is_err_and c.from_residual.result c.from_residual.ensures.1 in
-    let refusal = rw c.in_err-collect_next.was at c.collect_next.ensures.err in
-    let k = c.in_err-collect_next.field-0.0 in
+    let refusal = rw c.in_err-encode_listed.was at c.encode_listed.ensures.err in
+    let k = c.in_err-encode_listed.field-0.0 in
     rw (exit.1, exit.2) (elim refusal [
       | inl memory ↦ inl memory
       | inr fault ↦ inr (λ b reads. subst (λ ls. Fault k (λ m. (goal.EncodeMetric-dyn g (m.vtable, m.value)).offers m.value) (λ m. (goal.EncodeMetric-dyn g (m.vtable, m.value)).stamps m.value) (λ m. (goal.EncodeMetric-dyn g (m.vtable, m.value)).may_fault m.value) ls) (ap seen_list c.deref-listed-items.ensures.value ∙ c.in-Ok.ensures.book b reads)
           (Fault-at k (λ m. (goal.EncodeMetric-dyn g (m.vtable, m.value)).offers m.value) (λ m. (goal.EncodeMetric-dyn g (m.vtable, m.value)).stamps m.value) (λ m. (goal.EncodeMetric-dyn g (m.vtable, m.value)).may_fault m.value) c.deref-listed-items.result.now c.loop-listed.listed-index c.listed-item.result within c.listed-item.is fault))
     ])
 
-pub returns-in_err-collect_next-clause-not_writing : goal.returns-in_err-collect_next-clause-not_writing
-returns-in_err-collect_next-clause-not_writing g c =
+pub returns-in_err-encode_listed-clause-not_writing : goal.returns-in_err-encode_listed-clause-not_writing
+returns-in_err-encode_listed-clause-not_writing g c =
     let exit = err_from_is_err_and c.from_residual.result c.from_residual.ensures.1 in
-    let refusal = rw c.in_err-collect_next.was at c.collect_next.ensures.err in
-    let k = c.in_err-collect_next.field-0.0 in
+    let refusal = rw c.in_err-encode_listed.was at c.encode_listed.ensures.err in
+    let k = c.in_err-encode_listed.field-0.0 in
     rw (exit.1, exit.2) (refusal-not_writing k (λ m. (goal.EncodeMetric-dyn g (m.vtable, m.value)).offers m.value) (λ m. (goal.EncodeMetric-dyn g (m.vtable, m.value)).stamps m.value) (λ m. (goal.EncodeMetric-dyn g (m.vtable, m.value)).may_fault m.value) (seen_listed c.listed-item.result) refusal)

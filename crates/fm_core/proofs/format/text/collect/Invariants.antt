@@ -1,5 +1,4 @@
-use Rattle.std.proofs.Common.{take}
-use Rattle.fm_grammar.specs.WellFormed.{IsWellFormed}
+use Rattle.std.proofs.Common.{◌≡◌, None, take}
 use Rattle.fm_registry.specs.Seen.{seen_list}
 use Rattle.fm_core.specs.Admits.{Admits}
 use Rattle.fm_core.proofs.format.text.collect.Given as goal
@@ -9,6 +8,6 @@ invariant-loop-listed g l = record {
   admitted : Admits (λ m. (goal.EncodeMetric-dyn g (m.vtable, m.value)).offers m.value)
       (λ m. (goal.EncodeMetric-dyn g (m.vtable, m.value)).stamps m.value)
       (λ m. (goal.EncodeMetric-dyn g (m.vtable, m.value)).may_be_empty m.value)
-      (seen_list (take l.listed-index l.listed-items)) l.families.items;
-  well_formed : IsWellFormed l.families.items;
+      (seen_list (take l.listed-index l.listed-items)) l.encoder.families;
+  accepting : l.encoder.refused ≡ None;
 }

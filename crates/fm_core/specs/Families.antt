@@ -1,0 +1,31 @@
+-- What the encoder of families has gathered, and what it does with one metric more.
+use Rattle.std.specs.Prelude.{◌≡◌, ℕ, List, Option, Some, None, ◌⊎◌}
+use Rattle.fm_grammar.specs.Exposition.{Exposition}
+use Rattle.fm_raw.specs.declared.metadata.Metadata.{Metadata}
+use Rattle.fm_text.specs.declared.error.EncodeError.{EncodeError}
+use Rattle.fm_text.specs.declared.error.EncodeError.TheVariants.{Memory}
+use Rattle.fm_book.specs.Texts.{Text, Labels}
+use Rattle.fm_encoder.specs.Points.{Member}
+use Rattle.fm_registry.specs.View.{seen_metric}
+use Rattle.fm_core.specs.Heading.{Heading, heading_of}
+use Rattle.fm_core.specs.Admits.{AddsFamily, FaultUnder}
+
+-- the namespace and the labels of the registry under way, the families so far, and the refusal
+pub record GatheredFamilies : Type 0 where
+  pub namespace : Option Text
+  pub labels : Labels
+  pub families : Exposition
+  pub refused : Option EncodeError
+
+-- what stands above the samples of a metric with this metadata in the registry under way
+abbrev pub next_heading : GatheredFamilies → Metadata → Heading
+next_heading gathered metadata = heading_of (record { namespace = gathered.namespace; labels = gathered.labels; registration = seen_metric metadata (tt {0}) })
+
+-- An encoder that had refused is as it was. Else it adds the family of the metric, unless that is empty, or refuses for want of
+-- memory or a fault that stands in the metric.
+pub record EncodesFamily (Offers : List Member → Type 0) (Stamps : Option ℕ → Type 0) (MayBeEmpty MayFault : Type 0) (heading : Heading) (old new : GatheredFamilies) : Type 0 where
+  pub namespace_kept : new.namespace ≡ old.namespace
+  pub labels_kept : new.labels ≡ old.labels
+  pub kept : (k : EncodeError) → old.refused ≡ Some k → new ≡ old
+  pub added : old.refused ≡ None → new.refused ≡ None → AddsFamily Offers Stamps MayBeEmpty heading old.families new.families
+  pub refused : (k : EncodeError) → old.refused ≡ None → new.refused ≡ Some k → (k ≡ Memory) ⊎ FaultUnder Offers Stamps k MayFault heading

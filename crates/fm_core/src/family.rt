@@ -1,0 +1,242 @@
+//! The encoder of families, one for a whole collection.
+ghost use Rattle.std.specs.Prelude.{◌≡◌, ◌⊎◌, [], Some, None, MatchResult, IfOk, IfSome, string_bytes};
+ghost use Rattle.std.specs.Option.{option_map, option_copied};
+ghost use Rattle.std.specs.List.{AllByRecursion};
+ghost use Rattle.fm_grammar.specs.Names.{IsSnakeCase};
+ghost use Rattle.fm_grammar.specs.WellFormed.{AreMillis, IsSample, IsFamily};
+ghost use Rattle.fm_raw.specs.Units.{unit_text};
+ghost use Rattle.fm_text.specs.declared.error.EncodeError.{EncodeError};
+ghost use Rattle.fm_text.specs.Samples.{labels_of, samples_of};
+ghost use Rattle.fm_book.specs.Texts.{printed_name};
+ghost use Rattle.fm_encoder.specs.Points.{millis};
+ghost use Rattle.fm_encoder.specs.Gathered.{answer};
+ghost use Rattle.fm_encoder.specs.Offers.{AdmitsSamples, MetricHasFault};
+ghost use Rattle.fm_core.specs.Heading.{IsHeading};
+ghost use Rattle.fm_core.specs.Admits.{IsFamilyUnder, FaultUnder};
+ghost use Rattle.fm_core.specs.Families.{next_heading, EncodesFamily};
+
+use fm_encoder::{EncodeMetric, MetricEncoder};
+use fm_raw::{Metadata, MetricType, Unit};
+use fm_text::{EncodeError, Exposition, FamilySamples, Sample, make};
+use std::alloc::{AllocError, Global};
+use std::marker::Model;
+use std::time::Duration;
+
+// The whole milliseconds of a timestamp.
+fn whole_millis(time: Option<Duration>) -> Option<u128>
+    ensures value { result ≡ option_map millis time }
+    ensures range { IfSome result AreMillis }
+{
+    match time {
+        Some(time) => Some(time.as_millis()),
+        None => None,
+    }
+}
+
+// Namespace, name and unit, those that are there, joined by underscores.
+fn joined_name(
+    alloc: Global,
+    namespace: Option<&str>,
+    name: &str,
+    unit: Option<&str>,
+) -> Result<String, AllocError>
+    ensures { IfOk result (λ text. string_bytes text ≡ printed_name (option_copied namespace.entry) name.now (option_copied unit.entry)) }
+{
+    let mut text = String::new(alloc);
+    if let Some(namespace) = namespace {
+        text.push_str(namespace)?;
+        text.push_str("_")?;
+    }
+    text.push_str(name)?;
+    if let Some(unit) = unit {
+        text.push_str("_")?;
+        text.push_str(unit)?;
+    }
+    Ok(text)
+}
+
+// A text of its own memory, equal to the given one.
+fn cloned_text(alloc: Global, text: Option<&str>) -> Result<Option<String>, AllocError>
+    ensures { IfOk result (λ clone. option_map string_bytes clone ≡ option_copied text.entry) }
+{
+    match text {
+        Some(text) => Ok(Some(String::from_str(alloc, text)?)),
+        None => Ok(None),
+    }
+}
+
+// The text of a unit.
+fn text_of(unit: Option<&Unit>) -> Option<&str>
+    ensures { option_copied result ≡ option_map (λ u. unit_text u.now) unit.entry }
+{
+    match unit {
+        Some(unit) => Some(unit.as_str()),
+        None => None,
+    }
+}
+
+// What a metric offers under its printed name, type and constant labels, as samples, or the first refusal. The name comes
+// back with them.
+fn samples_of_metric(
+    alloc: Global,
+    name: String,
+    metric_type: MetricType,
+    constants: &[(String, String)],
+    metric: &dyn EncodeMetric,
+) -> Result<(String, Vec<Sample>), EncodeError>
+    requires { IsSnakeCase (string_bytes name) }
+    ensures { MatchResult result
+        (λ made. (string_bytes made.0 ≡ string_bytes name)
+        × AdmitsSamples (offers metric.now) (stamps metric.now) (string_bytes name) metric_type (labels_of constants.now) (samples_of made.1.items)
+        × AllByRecursion (IsSample metric_type) (samples_of made.1.items))
+        (λ k. (k ≡ EncodeError.Memory) ⊎ MetricHasFault k (offers metric.now) (stamps metric.now) (may_fault metric.now) (string_bytes name) metric_type (labels_of constants.now)) }
+{
+    let time = whole_millis(metric.timestamp());
+    let mut encoder = match MetricEncoder::new(alloc, name, metric_type, constants, time) {
+        Ok(encoder) => encoder,
+        Err(error) => return Err(error),
+    };
+    let visited = metric.encode(&mut encoder);
+    encoder.end(visited)
+}
+
+/// Gathers the families of a registry and all below it, one after the other. `collect` alone makes it.
+#[derive(Drop)]
+pub struct MetricFamilyEncoder<'a> {
+    alloc: Global,
+    namespace: Option<&'a str>,
+    const_labels: &'a [(String, String)],
+    families: Vec<FamilySamples>,
+    refused: Option<EncodeError>,
+}
+
+impl<'a> Model for MetricFamilyEncoder<'a> {
+    ghost use Rattle.std.specs.Option.{option_copied};
+    ghost use Rattle.fm_grammar.specs.WellFormed.{IsWellFormed};
+    ghost use Rattle.fm_text.specs.Samples.{labels_of};
+    ghost use Rattle.fm_core.specs.Families.{GatheredFamilies};
+
+    ghost Value = { GatheredFamilies };
+
+    ghost view = { λ e. record {
+      namespace = option_copied e.namespace;
+      labels = labels_of e.const_labels.now;
+      families = e.families.items;
+      refused = e.refused;
+    } };
+
+    ghost invariant = { λ e. IsWellFormed e.families.items };
+}
+
+impl<'a> MetricFamilyEncoder<'a> {
+    // An encoder without families, in a registry with no namespace and no labels.
+    pub(crate) fn new(alloc: Global) -> MetricFamilyEncoder<'a>
+        ensures { result ≡ record { namespace = None; labels = []; families = []; refused = None } }
+    {
+        MetricFamilyEncoder {
+            alloc,
+            namespace: None,
+            const_labels: &[],
+            families: Vec::new(alloc),
+            refused: None,
+        }
+    }
+
+    // Goes on to a registry with this namespace and these constant labels.
+    pub(crate) fn enter(&mut self, namespace: Option<&'a str>, const_labels: &'a [(String, String)])
+        ensures { self.new ≡ record self.old {
+          namespace = option_copied namespace.entry;
+          labels = labels_of const_labels.now;
+        } }
+    {
+        self.namespace = namespace;
+        self.const_labels = const_labels;
+    }
+
+    // The printed name of a metric with this metadata, its help, and its unit's text.
+    fn heads_of(&self, metadata: &Metadata) -> Result<(String, String, Option<String>), AllocError>
+        ensures { IfOk result (λ heads. (string_bytes heads.0 ≡ (next_heading self.now metadata.now).name)
+            × (string_bytes heads.1 ≡ (next_heading self.now metadata.now).help)
+            × (option_map string_bytes heads.2 ≡ (next_heading self.now metadata.now).unit)) }
+    {
+        let alloc = self.alloc;
+        let unit = text_of(metadata.unit());
+        let name = joined_name(alloc, self.namespace, metadata.name(), unit)?;
+        let help = String::from_str(alloc, metadata.help())?;
+        let unit = cloned_text(alloc, unit)?;
+        Ok((name, help, unit))
+    }
+
+    // The family of a metric with this metadata, or the first refusal.
+    fn family_of(
+        &self,
+        metadata: &Metadata,
+        metric: &dyn EncodeMetric,
+    ) -> Result<FamilySamples, EncodeError>
+        requires { IsHeading (next_heading self.now metadata.now) }
+        ensures { MatchResult result
+            (λ family. IsFamilyUnder (offers metric.now) (stamps metric.now) (next_heading self.now metadata.now) family × IsFamily family)
+            (λ k. (k ≡ EncodeError.Memory) ⊎ FaultUnder (offers metric.now) (stamps metric.now) k (may_fault metric.now) (next_heading self.now metadata.now)) }
+    {
+        let Ok((name, help, unit)) = self.heads_of(metadata) else {
+            return Err(EncodeError::Memory);
+        };
+        let metric_type = metadata.metric_type();
+        match samples_of_metric(self.alloc, name, metric_type, self.const_labels, metric) {
+            Ok((name, samples)) => Ok(make::family(name, metric_type, help, unit, samples)),
+            Err(error) => Err(error),
+        }
+    }
+
+    fn refuse(&mut self, error: EncodeError) -> Result<(), EncodeError>
+        ensures refused { self.new ≡ record self.old { refused = Some error } }
+        ensures answered { result ≡ answer self.new.refused }
+    {
+        self.refused = Some(error);
+        Err(error)
+    }
+
+    /// Takes the next metric: adds its family under this metadata, unless the metric is empty. The metadata is that of a
+    /// metric of the registry under way. It is refused for want of memory, or for a fault that stands in the metric, and
+    /// from then on each call answers that refusal and changes nothing. It may wait where the metric waits for a lock.
+    pub fn encode(
+        &mut self,
+        metadata: &Metadata,
+        metric: &dyn EncodeMetric,
+    ) -> Result<(), EncodeError>
+        requires { IsHeading (next_heading self.old metadata.now) }
+        ensures encoded { EncodesFamily (offers metric.now) (stamps metric.now) (may_be_empty metric.now) (may_fault metric.now) (next_heading self.old metadata.now) self.old self.new }
+        ensures answered { result ≡ answer self.new.refused }
+    {
+        if let Some(error) = self.refused {
+            return Err(error);
+        }
+        if metric.is_empty() {
+            return Ok(());
+        }
+        match self.family_of(metadata, metric) {
+            Ok(family) => match self.families.push(family) {
+                Ok(()) => Ok(()),
+                Err(_) => self.refuse(EncodeError::Memory),
+            },
+            Err(error) => self.refuse(error),
+        }
+    }
+
+    // The families, where nothing was refused, else the first refusal.
+    pub(crate) fn end(self) -> Result<Exposition, EncodeError>
+        ensures { MatchResult result
+            (λ e. (self.entry.refused ≡ None) × (e ≡ self.entry.families))
+            (λ k. self.entry.refused ≡ Some k) }
+    {
+        let MetricFamilyEncoder {
+            families,
+            refused,
+            ..
+        } = self;
+        match refused {
+            Some(error) => Err(error),
+            None => Ok(make::exposition(families)),
+        }
+    }
+}
