@@ -3,3 +3,4 @@ pub mod CountLemmas
 pub mod MergeLemmas
 pub mod EmptyLemmas
 pub mod BoundLemmas
+pub mod ShownLemmas

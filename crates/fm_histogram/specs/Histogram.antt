@@ -58,6 +58,10 @@ takes_all x = true
 abbrev pub IsHistogram : (ℤ → Bool) → List ℤ → List ℤ → Histogram → Type 0
 IsHistogram taken bounds xs s = IsCounts bounds (filter taken xs) s
 
+-- it counts some values by bounds that rise
+abbrev pub CountsSome : Histogram → Type 0
+CountsSome s = (bounds : List ℤ) × (values : List ℤ) × IsCounts bounds values s
+
 -- what each snapshot is: the histogram of some values of 64 bits
 pub record IsOfSome (s : Histogram) : Type 0 where
   pub bounds : List ℤ

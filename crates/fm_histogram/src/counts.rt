@@ -2,7 +2,7 @@
 ghost use Rattle.std.specs.Prelude.{◌≡◌, ℕ, ℤ, pos, true, ◌+◌, ◌^◌, ◌<◌, ◌≤◌, ◌↔◌, List, [], ◌∷◌, ◌++◌, None, Err, IfOk, IfErr, OnOk, OnErr, length, ◌⊎◌, ◌≢◌, IsTrue, slice_index_or, slice_set};
 ghost use Rattle.fm_raw.specs.declared.error.MetricError.TheVariants.{Memory, CountFull, UnequalBounds};
 ghost use Rattle.fm_bucket.specs.declared.bound.Bucket.{Bucket as OneBucket};
-ghost use Rattle.fm_histogram.specs.Histogram.{IsCounts, rises, upper_bounds, one_more, merged, merged_buckets};
+ghost use Rattle.fm_histogram.specs.Histogram.{IsCounts, CountsSome, rises, upper_bounds, one_more, merged, merged_buckets};
 
 use crate::place::place_of;
 use fm_bucket::{Bound, Bucket};
@@ -46,6 +46,17 @@ impl Counts {
             count: 0,
             sum: 0,
         })
+    }
+
+    // Counts are those of some values.
+    pub(crate) fn counts_some(&self)
+        ensures { CountsSome self.now }
+    {
+        let _ = &self.buckets;
+    }
+
+    pub(crate) fn allocator(&self) -> Global {
+        *self.buckets.allocator()
     }
 
     pub(crate) fn buckets(&self) -> &[Bucket]

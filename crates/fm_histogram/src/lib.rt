@@ -1,7 +1,9 @@
-//! Snapshots of histograms: counts of observed values by bounds.
+//! Histograms and their snapshots: counts of observed values by bounds.
 #![tactic(auto)]
 
 mod counts;
+mod encode;
+pub mod histogram;
 mod law;
 mod place;
 mod rising;
@@ -9,5 +11,6 @@ pub mod snapshot;
 #[cfg(test)]
 mod tests;
 
+pub use histogram::Histogram;
 pub use law::merging_is_lawful;
 pub use snapshot::{GaugeHistogramSnapshot, HistogramSnapshot};

@@ -2,11 +2,12 @@
 ghost use Rattle.std.specs.Prelude.{◌≡◌, ℤ, ◌+◌, ◌^◌, ◌≤◌, ◌↔◌, List, [], ◌∷◌, ◌++◌, true, Err, IfOk, IfErr, OnOk, OnErr, ◌⊎◌, ◌≢◌, if◌then◌else◌};
 ghost use Rattle.std.specs.Iterator.{IsFinite, Drains};
 ghost use Rattle.fm_raw.specs.declared.error.MetricError.TheVariants.{Memory, CountFull, UnequalBounds};
-ghost use Rattle.fm_histogram.specs.Histogram.{IsHistogram, IsBoundsOf, is_taken, takes_all, upper_bounds, merged};
+ghost use Rattle.fm_bucket.specs.Bounds.{default_bounds};
+ghost use Rattle.fm_histogram.specs.Histogram.{IsHistogram, CountsSome, IsBoundsOf, is_taken, takes_all, upper_bounds, merged};
 
 use crate::counts::Counts;
 use crate::rising::rising_bounds;
-use fm_bucket::Bucket;
+use fm_bucket::{Bucket, default_buckets};
 use fm_raw::{Fixed, FixedSum, MetricError};
 use std::alloc::Global;
 use std::marker::Model;
@@ -43,6 +44,15 @@ impl HistogramSnapshot {
         Ok(HistogramSnapshot { counts })
     }
 
+    // A histogram of no values with the bounds that suit most durations.
+    pub(crate) fn with_default_bounds(alloc: Global) -> Result<HistogramSnapshot, MetricError>
+        ensures bounds { IfOk result (IsHistogram is_taken default_bounds []) }
+        ensures only_memory { IfErr result (λ e. e ≡ Memory) }
+    {
+        let counts = Counts::new(alloc, default_buckets().as_slice())?;
+        Ok(HistogramSnapshot { counts })
+    }
+
     /// The buckets, from the least bound on. The last one has the bound `Inf`.
     pub fn buckets(&self) -> &[Bucket]
         ensures { result.now ≡ self.now.buckets }
@@ -62,6 +72,17 @@ impl HistogramSnapshot {
         ensures { result ≡ self.now.sum }
     {
         FixedSum::from_millionths(self.counts.sum())
+    }
+
+    // Each snapshot counts some values.
+    pub(crate) fn counts_some(&self)
+        ensures { CountsSome self.now }
+    {
+        self.counts.counts_some();
+    }
+
+    pub(crate) fn allocator(&self) -> Global {
+        self.counts.allocator()
     }
 
     /// Counts a value in the first bucket whose bound is not below it. A negative value changes nothing.

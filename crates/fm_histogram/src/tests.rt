@@ -1,9 +1,13 @@
-//! Snapshots against values from outside.
-use crate::{GaugeHistogramSnapshot, HistogramSnapshot};
+//! Histograms and their snapshots against values from outside.
+use crate::{GaugeHistogramSnapshot, Histogram, HistogramSnapshot};
+use fm_atomic::TryDefault;
 use fm_bucket::{Bound, Bucket, default_buckets};
 use fm_raw::{Fixed, FixedSum, MetricError};
 use std::alloc::{AllocError, Global};
+use std::sync::Wait;
 use std::test::Fail;
+use std::thread;
+use std::time::Duration;
 
 const ONE: i64 = 1_000_000;
 
@@ -81,5 +85,50 @@ fn gauge_counts_negative_values(rt: HostRuntime) -> Result<(), Fail> {
         [4, 2, 2].as_slice()
     );
     assert_eq!(rt; (all.gcount(), all.gsum()), (8, FixedSum::from(whole(-4))));
+    Ok(())
+}
+
+#[test]
+fn two_threads_observe_in_one_histogram(rt: HostRuntime) -> Result<(), Fail> {
+    let alloc = rt.alloc();
+    let bounds = [whole(1), whole(2), whole(5)];
+    let sizes = Histogram::new(rt, alloc, bounds.iter().copied())?;
+    let clone = sizes.clone()?;
+    let (first, second) = thread::join(
+        &rt,
+        || observe_hundred(&sizes),
+        || observe_hundred(&clone),
+    );
+    first?;
+    second?;
+    let own = sizes.with_snapshot(|all| counts(alloc, all.buckets()))?;
+    assert_eq!(rt; own.as_slice(), [2, 2, 6, 190].as_slice());
+    let totals = clone.with_snapshot(|all| (all.count(), all.sum()));
+    assert_eq!(rt; totals, (200, FixedSum::from_millionths(10_100_000_000)));
+    Ok(())
+}
+
+// Observes the whole numbers from 1 to 100.
+fn observe_hundred<H: Wait>(sizes: &Histogram<H>) -> Result<(), MetricError> {
+    for n in 1..101 {
+        sizes.observe(Fixed::from_millionths(n * ONE))?;
+    }
+    Ok(())
+}
+
+#[test]
+fn histograms_keep_when_they_were_created(rt: HostRuntime) -> Result<(), Fail> {
+    let alloc = rt.alloc();
+    let bounds = [whole(1)];
+    let since = Duration::from_secs(7);
+    let sizes = Histogram::with_created(rt, alloc, bounds.iter().copied(), since)?;
+    assert_eq!(rt; sizes.clone()?.created(), Some(since));
+    assert_eq!(rt; sizes.observe(whole(-1)), Ok(()));
+    assert_eq!(rt; sizes.with_snapshot(|all| all.count()), 0);
+    let defaults = Histogram::try_default(rt, alloc)?;
+    assert_eq!(rt; defaults.created(), None);
+    assert_eq!(rt; defaults.with_snapshot(|all| all.buckets().len()), 12);
+    let snapshot = HistogramSnapshot::try_default(rt, alloc)?;
+    assert_eq!(rt; snapshot.buckets().len(), 12);
     Ok(())
 }
