@@ -7,7 +7,7 @@ ghost use Rattle.std.specs.List.{AllByRecursion};
 ghost use Rattle.fm_grammar.specs.Names.{IsSnakeCase};
 ghost use Rattle.fm_grammar.specs.WellFormed.{AreMillis, IsSample, IsFamily, IsWellFormed};
 ghost use Rattle.fm_text.specs.declared.error.EncodeError.{EncodeError};
-ghost use Rattle.fm_text.specs.Samples.{labels_of, samples_of};
+ghost use Rattle.fm_text.specs.Samples.{labels_of};
 ghost use Rattle.fm_text.specs.Written.{IsWritersFault};
 ghost use Rattle.fm_book.specs.Texts.{printed_name};
 ghost use Rattle.fm_book.specs.Registration.{printed_unit};
@@ -26,7 +26,7 @@ use fm_encoder::{EncodeMetric, MetricEncoder};
 pub use fm_grammar::SampleKind;
 use fm_raw::{MetricType, Unit};
 use fm_registry::{ListedMetric, Registry};
-use fm_text::make;
+use fm_text::{SampleStore, make};
 pub use fm_text::{
     EncodeError, Exemplar, Exposition, FamilySamples, Sample, Value, encode_exposition,
 };
@@ -105,12 +105,12 @@ fn samples_of_metric(
     metric_type: MetricType,
     constants: &[(String, String)],
     metric: &Box<dyn EncodeMetric>,
-) -> Result<(String, Vec<Sample>), EncodeError>
+) -> Result<(String, SampleStore), EncodeError>
     requires { IsSnakeCase (string_bytes name) }
     ensures { MatchResult result
         (λ made. (string_bytes made.0 ≡ string_bytes name)
-        × AdmitsSamples (offers metric.now) (stamps metric.now) (string_bytes name) metric_type (labels_of constants.now) (samples_of made.1.items)
-        × AllByRecursion (IsSample metric_type) (samples_of made.1.items))
+        × AdmitsSamples (offers metric.now) (stamps metric.now) (string_bytes name) metric_type (labels_of constants.now) made.1.samples
+        × AllByRecursion (IsSample metric_type) made.1.samples)
         (λ k. (k ≡ EncodeError.Memory) ⊎ MetricHasFault k (offers metric.now) (stamps metric.now) (may_fault metric.now) (string_bytes name) metric_type (labels_of constants.now)) }
 {
     let time = whole_millis(metric.timestamp());
