@@ -6,7 +6,7 @@ ghost use Rattle.fm_grammar.specs.Names.{IsSnakeCase};
 ghost use Rattle.fm_grammar.specs.WellFormed.{AreMillis, IsSample, IsFamily};
 ghost use Rattle.fm_raw.specs.Units.{unit_text};
 ghost use Rattle.fm_text.specs.declared.error.EncodeError.{EncodeError};
-ghost use Rattle.fm_text.specs.Samples.{labels_of, samples_of};
+ghost use Rattle.fm_text.specs.Samples.{labels_of};
 ghost use Rattle.fm_book.specs.Texts.{printed_name};
 ghost use Rattle.fm_encoder.specs.Points.{millis};
 ghost use Rattle.fm_encoder.specs.Gathered.{answer};
@@ -17,7 +17,7 @@ ghost use Rattle.fm_core.specs.Families.{next_heading, EncodesFamily};
 
 use fm_encoder::{EncodeMetric, MetricEncoder};
 use fm_raw::{Metadata, MetricType, Unit};
-use fm_text::{EncodeError, Exposition, FamilySamples, Sample, make};
+use fm_text::{EncodeError, Exposition, FamilySamples, SampleStore, make};
 use std::alloc::{AllocError, Global};
 use std::marker::Model;
 use std::time::Duration;
@@ -83,12 +83,12 @@ fn samples_of_metric(
     metric_type: MetricType,
     constants: &[(String, String)],
     metric: &dyn EncodeMetric,
-) -> Result<(String, Vec<Sample>), EncodeError>
+) -> Result<(String, SampleStore), EncodeError>
     requires { IsSnakeCase (string_bytes name) }
     ensures { MatchResult result
         (λ made. (string_bytes made.0 ≡ string_bytes name)
-        × AdmitsSamples (offers metric.now) (stamps metric.now) (string_bytes name) metric_type (labels_of constants.now) (samples_of made.1.items)
-        × AllByRecursion (IsSample metric_type) (samples_of made.1.items))
+        × AdmitsSamples (offers metric.now) (stamps metric.now) (string_bytes name) metric_type (labels_of constants.now) made.1.samples
+        × AllByRecursion (IsSample metric_type) made.1.samples)
         (λ k. (k ≡ EncodeError.Memory) ⊎ MetricHasFault k (offers metric.now) (stamps metric.now) (may_fault metric.now) (string_bytes name) metric_type (labels_of constants.now)) }
 {
     let time = whole_millis(metric.timestamp());

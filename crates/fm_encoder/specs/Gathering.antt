@@ -6,13 +6,12 @@ use Rattle.std.specs.List.{AllByRecursion}
 use Rattle.std.specs.String.{string_bytes}
 use Rattle.fm_grammar.specs.Names.{IsSnakeCase}
 use Rattle.fm_grammar.specs.WellFormed.{AreLabels, AreMillis, IsSample}
-use Rattle.fm_text.specs.Samples.{shared_labels, samples_of}
 use Rattle.fm_encoder.specs.Labels.{AreFree}
 use Rattle.fm_encoder.specs.declared.point.PointEncoder.TheInside.{Inside}
 
 pub record IsGathering (e : Inside) : Type 0 where
   pub name : IsSnakeCase (string_bytes e.name)
-  pub labels : AreLabels (shared_labels e.common)
-  pub free : AreFree e.metric_type (shared_labels e.common)
+  pub labels : AreLabels e.samples.common
+  pub free : AreFree e.metric_type e.samples.common
   pub time : IfSome e.time AreMillis
-  pub samples : AllByRecursion (IsSample e.metric_type) (samples_of e.samples.items)
+  pub samples : AllByRecursion (IsSample e.metric_type) (e.samples.samples)

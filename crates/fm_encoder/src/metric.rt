@@ -6,7 +6,7 @@ ghost use Rattle.fm_grammar.specs.declared.MetricType.{MetricType};
 ghost use Rattle.fm_grammar.specs.Names.{IsSnakeCase};
 ghost use Rattle.fm_grammar.specs.WellFormed.{AreMillis, IsSample};
 ghost use Rattle.fm_text.specs.declared.error.EncodeError.{EncodeError};
-ghost use Rattle.fm_text.specs.Samples.{labels_of, shared_labels, samples_of};
+ghost use Rattle.fm_text.specs.Samples.{labels_of, shared_labels};
 ghost use Rattle.fm_encoder.specs.Labels.{LabelsClean, LabelsFault, all_written, handed_again};
 ghost use Rattle.fm_encoder.specs.Points.{Member, UnknownPoint, GaugePoint, CounterPoint, StateSetPoint, InfoPoint, millis};
 ghost use Rattle.fm_encoder.specs.States.{state_of};
@@ -21,7 +21,7 @@ use crate::own::own_refusal;
 use crate::point::{EncodePoint, PointEncoder};
 use crate::value::{EncodeCounterValue, EncodeGaugeValue, EncodeUnknownValue};
 use fm_grammar::MetricType;
-use fm_text::{CommonLabels, EncodeError, Sample};
+use fm_text::{CommonLabels, EncodeError, SampleStore};
 use std::alloc::Global;
 use std::marker::Model;
 use std::sync::Arc;
@@ -331,10 +331,10 @@ impl MetricEncoder {
 
     /// The family's name and its samples, where nothing was refused and the metric answered `visited`; else the first
     /// refusal. It is for the collector.
-    pub fn end(self, visited: Result<(), EncodeError>) -> Result<(String, Vec<Sample>), EncodeError>
+    pub fn end(self, visited: Result<(), EncodeError>) -> Result<(String, SampleStore), EncodeError>
         ensures { MatchResult result
             (λ made. (self.refused ≡ None) × (visited ≡ Ok tt) × (string_bytes made.0 ≡ self.context.setting.name)
-            × (samples_of made.1.items ≡ self.samples) × AllByRecursion (IsSample self.context.setting.metric_type) self.samples)
+            × (made.1.samples ≡ self.samples) × AllByRecursion (IsSample self.context.setting.metric_type) self.samples)
             (λ k. (self.refused ≡ Some k) ⊎ ((e : EncodeError) × (self.refused ≡ None) × (visited ≡ Err e) × (k ≡ own_refusal e))) }
     {
         let MetricEncoder {

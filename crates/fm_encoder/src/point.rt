@@ -6,7 +6,7 @@ ghost use Rattle.fm_grammar.specs.Names.{IsSnakeCase};
 ghost use Rattle.fm_grammar.specs.declared.MetricType.{MetricType};
 ghost use Rattle.fm_grammar.specs.WellFormed.{AreLabels, AreMillis, IsSample};
 ghost use Rattle.fm_text.specs.declared.error.EncodeError.{EncodeError};
-ghost use Rattle.fm_text.specs.Samples.{labels_of, shared_labels, samples_of, value_of, exemplar_of};
+ghost use Rattle.fm_text.specs.Samples.{labels_of, shared_labels, value_of, exemplar_of};
 ghost use Rattle.fm_encoder.specs.Points.{Point, UnknownPoint, GaugePoint, CounterPoint, StateSetPoint, InfoPoint, state_sample, millis};
 ghost use Rattle.fm_encoder.specs.Labels.{AreFree, label_names};
 ghost use Rattle.fm_encoder.specs.States.{state_of};
@@ -24,7 +24,7 @@ use crate::value::{
     unknown_number,
 };
 use fm_grammar::{MetricType, SampleKind};
-use fm_text::{CommonLabels, EncodeError, Exemplar, Sample, Value, make};
+use fm_text::{CommonLabels, EncodeError, Exemplar, SampleStore, Value};
 use std::alloc::Global;
 use std::marker::Model;
 use std::sync::Arc;
@@ -52,24 +52,22 @@ pub struct PointEncoder {
     name: String,
     metric_type: MetricType,
     time: Option<u128>,
-    common: CommonLabels,
     deferred: Option<EncodeError>,
-    samples: Vec<Sample>,
+    samples: SampleStore,
     refused: Option<EncodeError>,
 }
 
 impl Model for PointEncoder {
     ghost use Rattle.std.specs.Prelude.{string_bytes};
-    ghost use Rattle.fm_text.specs.Samples.{shared_labels, samples_of};
     ghost use Rattle.fm_encoder.specs.Gathered.{GatheredPoints};
 
     ghost Value = { GatheredPoints };
 
     ghost view = { λ e. record {
       setting = record { name = string_bytes e.name; metric_type = e.metric_type; time = e.time };
-      common = shared_labels e.common;
+      common = e.samples.common;
       deferred = e.deferred;
-      samples = samples_of e.samples.items;
+      samples = e.samples.samples;
       refused = e.refused;
     } };
 
@@ -104,9 +102,8 @@ impl PointEncoder {
             name,
             metric_type,
             time,
-            common,
             deferred: None,
-            samples: Vec::new(alloc),
+            samples: SampleStore::new(alloc, common),
             refused: None,
         })
     }
@@ -119,7 +116,7 @@ impl PointEncoder {
         Err(error)
     }
 
-    // Tests a point's type, and then whether the common labels were refused.
+    // Tests a point's type, and then whether the common labels were refused. The next sample begins the point.
     fn begin_point(&mut self, metric_type: MetricType) -> Result<(), EncodeError>
         ensures begun { BeginsPoint metric_type self.old self.new }
         ensures answered { result ≡ answer self.new.refused }
@@ -133,6 +130,7 @@ impl PointEncoder {
         if let Some(error) = self.deferred {
             return self.refuse(error);
         }
+        self.samples.end_point();
         Ok(())
     }
 
@@ -156,14 +154,10 @@ impl PointEncoder {
         }) self.old self.new }
         ensures answered { result ≡ answer self.new.refused }
     {
-        let Ok(common) = self.common.clone() else {
-            return self.refuse(EncodeError::Memory);
-        };
-        let sample = make::sample(kind, common, own, value, self.time, exemplar);
-        if let Err(_) = self.samples.push(sample) {
-            return self.refuse(EncodeError::Memory);
+        match self.samples.push(kind, own, value, self.time, exemplar) {
+            Ok(()) => Ok(()),
+            Err(error) => self.refuse(error),
         }
-        Ok(())
     }
 
     // Adds a sample under the common labels.
@@ -270,7 +264,7 @@ impl PointEncoder {
         ensures tested { TestsStates is_empty self.old self.new }
         ensures answered { result ≡ answer self.new.refused }
     {
-        if !is_empty && has_name(self.common.as_slice(), self.name.as_str()) {
+        if !is_empty && has_name(self.samples.common(), self.name.as_str()) {
             return self.refuse(EncodeError::DuplicateLabel);
         }
         Ok(())
@@ -312,7 +306,7 @@ impl PointEncoder {
         ensures answered { result ≡ answer self.new.refused }
     {
         self.begin_point(MetricType::Info)?;
-        match labels_behind(self.alloc, self.metric_type, self.common.as_slice(), labels) {
+        match labels_behind(self.alloc, self.metric_type, self.samples.common(), labels) {
             Ok(own) => self.push_labeled(SampleKind::Info, own, Value::Whole(1), None),
             Err(error) => self.refuse(error),
         }
@@ -347,7 +341,7 @@ impl PointEncoder {
     {
         match read {
             Ok(common) => {
-                self.common = common;
+                self.samples.share(common);
                 self.deferred = None;
             }
             Err(error) => {
@@ -371,9 +365,9 @@ impl PointEncoder {
     }
 
     // The family's name, and its samples, which are well formed.
-    pub(crate) fn into_parts(self) -> (String, Vec<Sample>)
+    pub(crate) fn into_parts(self) -> (String, SampleStore)
         ensures name { string_bytes result.0 ≡ self.setting.name }
-        ensures samples { samples_of result.1.items ≡ self.samples }
+        ensures samples { result.1.samples ≡ self.samples }
         ensures well_formed { AllByRecursion (IsSample self.setting.metric_type) self.samples }
     {
         let PointEncoder { name, samples, .. } = self;

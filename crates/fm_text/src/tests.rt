@@ -1,9 +1,10 @@
-ghost use Rattle.std.specs.Prelude.{◌≡◌, IfOk};
-ghost use Rattle.fm_grammar.specs.WellFormed.{IsSample};
+ghost use Rattle.std.specs.Prelude.{◌≡◌, ◌++◌, IfOk};
+ghost use Rattle.std.specs.List.{AllByRecursion};
+ghost use Rattle.fm_grammar.specs.WellFormed.{AreLabels, IsSample};
 ghost use Rattle.fm_grammar.specs.declared.MetricType.TheVariants.{Counter};
-ghost use Rattle.fm_text.specs.Samples.{label_of, sample_of};
+ghost use Rattle.fm_text.specs.Samples.{label_of, labels_of};
 
-use crate::{EncodeError, Exposition, Sample, Value, encode_exposition, make};
+use crate::{EncodeError, Exposition, SampleStore, Value, encode_exposition, make};
 use fm_grammar::{MetricType, SampleKind};
 use fm_raw::fixed::Fixed;
 use std::alloc::{AllocError, Global};
@@ -61,30 +62,51 @@ fn label(alloc: Global, name: &str, value: &str) -> Result<(String, String), All
     Ok((name, value))
 }
 
-// A sample with two labels, a timestamp and an exemplar without labels.
-fn total(alloc: Global) -> Result<Sample, AllocError>
-    ensures { IfOk result (λ sample. IsSample Counter (sample_of sample)) }
+// A sample with these labels, a timestamp and an exemplar without labels.
+fn total(
+    alloc: Global,
+    common: Vec<(String, String)>,
+    own: Vec<(String, String)>,
+) -> Result<SampleStore, EncodeError>
+    requires { AreLabels (labels_of common.items ++ labels_of own.items) }
+    ensures { IfOk result (λ store. AllByRecursion (IsSample Counter) store.samples) }
 {
-    let mut labels = Vec::new(alloc);
-    labels.push(label(alloc, "a", "x\"\\\ny")?)?;
-    labels.push(label(alloc, "b", "")?)?;
     let exemplar = make::exemplar(Vec::new(alloc), Fixed::from_millionths(700_000), Some(2000));
-    Ok(make::sample(
+    let mut store = SampleStore::new(alloc, Arc::new(alloc, common)?);
+    store.push(
         SampleKind::Total,
-        Arc::new(alloc, labels)?,
-        Vec::new(alloc),
+        own,
         Value::Whole(42),
         Some(1005),
         Some(exemplar),
-    ))
+    )?;
+    Ok(store)
 }
 
-fn counter(alloc: Global) -> Result<Exposition, AllocError> {
+fn family(alloc: Global, samples: SampleStore) -> Result<Exposition, EncodeError>
+    requires { AllByRecursion (IsSample Counter) samples.samples }
+{
     let name = String::from_str(alloc, "c")?;
     let help = String::from_str(alloc, "a \"b\" \\ \n.")?;
-    let samples = vec![in alloc; total(alloc)?]?;
     let family = make::family(name, MetricType::Counter, help, None, samples);
     Ok(make::exposition(vec![in alloc; family]?))
+}
+
+// One sample, whose two labels are common ones.
+fn counter(alloc: Global) -> Result<Exposition, EncodeError> {
+    let mut common = Vec::new(alloc);
+    common.push(label(alloc, "a", "x\"\\\ny")?)?;
+    common.push(label(alloc, "b", "")?)?;
+    family(alloc, total(alloc, common, Vec::new(alloc))?)
+}
+
+// The same, but the second label is the sample's own.
+fn counter_with_own(alloc: Global) -> Result<Exposition, EncodeError> {
+    let mut common = Vec::new(alloc);
+    common.push(label(alloc, "a", "x\"\\\ny")?)?;
+    let mut own = Vec::new(alloc);
+    own.push(label(alloc, "b", "")?)?;
+    family(alloc, total(alloc, common, own)?)
 }
 
 #[test]
@@ -95,6 +117,9 @@ fn writes_documents(rt: HostRuntime) -> Result<(), Fail> {
     assert!(rt; bytes.as_slice() == b"# EOF\n".as_slice());
     bytes.clear();
     encode_exposition(alloc, &mut bytes, &counter(alloc)?)?;
+    assert!(rt; bytes.as_slice() == DOCUMENT);
+    bytes.clear();
+    encode_exposition(alloc, &mut bytes, &counter_with_own(alloc)?)?;
     assert!(rt; bytes.as_slice() == DOCUMENT);
     let mut slow = Stopping::new(alloc, 1000, 1, true);
     encode_exposition(alloc, &mut slow, &counter(alloc)?)?;
@@ -118,7 +143,62 @@ fn stops_at_the_writers_end(rt: HostRuntime) -> Result<(), Fail> {
 fn compares_by_parts(rt: HostRuntime) -> Result<(), Fail> {
     let alloc = rt.alloc();
     assert!(rt; counter(alloc)? == counter(alloc)?);
+    assert!(rt; counter(alloc)? == counter_with_own(alloc)?);
     assert!(rt; counter(alloc)? != make::exposition(Vec::new(alloc)));
     assert!(rt; Value::Whole(1) != Value::Millis(1));
+    Ok(())
+}
+
+// Counts the bytes and the lines that it takes, and keeps none.
+#[derive(Drop)]
+struct Counting {
+    bytes: usize,
+    lines: usize,
+}
+
+impl Write for Counting {
+    fn write(&mut self, buf: &[u8]) -> io::Result<usize> {
+        for byte in buf {
+            if *byte == b'\n' {
+                self.lines = self.lines.saturating_add(1);
+            }
+        }
+        self.bytes = self.bytes.saturating_add(buf.len());
+        Ok(buf.len())
+    }
+
+    fn flush(&mut self) -> io::Result<()> {
+        Ok(())
+    }
+}
+
+// So many totals, in points of two samples each that share a label.
+fn totals(alloc: Global, count: u32) -> Result<SampleStore, EncodeError>
+    ensures { IfOk result (λ store. AllByRecursion (IsSample Counter) store.samples) }
+{
+    let mut store = SampleStore::new(alloc, Arc::new(alloc, Vec::new(alloc))?);
+    for i in 0..count {
+        if i % 2 == 0 {
+            store.end_point();
+        }
+        store.push(
+            SampleKind::Total,
+            Vec::new(alloc),
+            Value::Whole(i128::from(i)),
+            None,
+            None,
+        )?;
+    }
+    Ok(store)
+}
+
+#[test]
+fn two_growths(rt: HostRuntime) -> Result<(), Fail> {
+    let alloc = rt.alloc();
+    let exposition = family(alloc, totals(alloc, 1000)?)?;
+    let mut writer = Counting { bytes: 0, lines: 0 };
+    encode_exposition(alloc, &mut writer, &exposition)?;
+    assert!(rt; writer.lines == 1003);
+    assert!(rt; writer.bytes == 11_937);
     Ok(())
 }

@@ -1,6 +1,6 @@
 use Rattle.std.proofs.Common.{◌++◌, subst, sym, ap}
 use Rattle.fm_grammar.specs.WellFormed.{AreLabels}
-use Rattle.fm_text.specs.Samples.{labels_of, shared_labels}
+use Rattle.fm_text.specs.Samples.{labels_of}
 use Rattle.fm_encoder.specs.Gathered.{GatheredPoints}
 use Rattle.fm_encoder.specs.Points.{bound_label}
 use Rattle.fm_encoder.specs.Buckets.{HasBuckets}
@@ -11,7 +11,7 @@ use Rattle.fm_encoder.proofs.point.PointEncoder.push_bound.Goals as goal
 pub push_labeled-requires-clause-labels : goal.push_labeled-requires-clause-labels
 push_labeled-requires-clause-labels c =
     let inside = c.self.inside in
-    let before = shared_labels inside.common in
+    let before = inside.samples.common in
     let has = subst (λ (g : GatheredPoints). HasBuckets g.setting.metric_type) (sym c.self.view_is) c.requires.buckets in
     let is = rw (c.format-text.ensures) at c.in-Ok.ensures.ok in
     subst (λ (g : GatheredPoints). AreLabels (g.common ++ labels_of c.in-Ok.own.items)) c.self.view_is

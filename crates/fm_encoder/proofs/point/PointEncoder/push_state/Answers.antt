@@ -1,6 +1,6 @@
 use Rattle.std.proofs.Common.{◌++◌, subst, sym, ap, string_bytes, Contains}
 use Rattle.fm_grammar.specs.WellFormed.{AreLabels}
-use Rattle.fm_text.specs.Samples.{labels_of, shared_labels}
+use Rattle.fm_text.specs.Samples.{labels_of}
 use Rattle.fm_encoder.specs.Labels.{label_names}
 use Rattle.fm_encoder.specs.Gathered.{GatheredPoints}
 use Rattle.fm_encoder.proofs.NameLemmas.{AreLabels-named}
@@ -9,7 +9,7 @@ use Rattle.fm_encoder.proofs.point.PointEncoder.push_state.Goals as goal
 pub push_labeled-requires-clause-labels : goal.push_labeled-requires-clause-labels
 push_labeled-requires-clause-labels c =
     let inside = c.self.inside in
-    let before = shared_labels inside.common in
+    let before = inside.samples.common in
     let fresh = subst (λ (g : GatheredPoints). ¬ (Contains (label_names g.common) g.setting.name)) (sym c.self.view_is) c.requires.fresh in
     let is = rw (c.as_str.ensures.value) at c.in-Ok.ensures.ok in
     subst (λ (g : GatheredPoints). AreLabels (g.common ++ labels_of c.in-Ok.own.items)) c.self.view_is
