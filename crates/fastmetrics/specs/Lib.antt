@@ -19,6 +19,7 @@ pub use Rattle.fm_book.specs.Running
 pub use Rattle.fm_encoder.specs.Labels
 pub use Rattle.fm_encoder.specs.Points
 pub use Rattle.fm_encoder.specs.Gathered
+pub use Rattle.fm_encoder.specs.Buckets
 pub use Rattle.fm_encoder.specs.Hands
 pub use Rattle.fm_encoder.specs.Offers
 pub use Rattle.fm_registry.specs.HasBook
@@ -34,3 +35,5 @@ pub use Rattle.fm_handles.specs.StateSets
 pub use Rattle.fm_bucket.specs.BoundTests
 pub use Rattle.fm_bucket.specs.Bounds
 pub use Rattle.fm_histogram.specs.Histogram
+pub use Rattle.fm_histogram.specs.Shown
+pub use Rattle.fm_histogram.specs.Shared

@@ -1,7 +1,7 @@
 //! fastmetrics, an OpenMetrics client library: metrics that instrumented programs count and observe with, registries
 //! that hold them, and the text that a scraper such as Prometheus reads.
 //!
-//! - [`metrics`]: counters, gauges, unknowns, infos, state sets, tallies.
+//! - [`metrics`]: counters, gauges, histograms, unknowns, infos, state sets, tallies.
 //! - [`registry`]: registries of metrics, with their subsystems.
 //! - [`format`]: `format::text::encode` writes a registry's document.
 //! - [`encoder`]: what metrics, points and labels of your own implement.
@@ -28,8 +28,8 @@ pub mod metrics {
     }
 
     pub mod histogram {
-        //! What histograms show: counts of observed values by bounds.
-        pub use fm_histogram::HistogramSnapshot;
+        //! Histograms: counts of observed values by bounds.
+        pub use fm_histogram::{Histogram, HistogramSnapshot};
     }
 
     pub mod gauge_histogram {
