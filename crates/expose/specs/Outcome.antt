@@ -4,7 +4,12 @@ use Rattle.std.specs.Io.KnownBytes.{Keeps}
 use Rattle.fastmetrics.specs.Exposition.{Exposition}
 use Rattle.fastmetrics.specs.Encoded.{WritesAdmitted, BeginsAdmitted}
 use Rattle.expose.specs.declared.output.Fault.{Fault}
-use Rattle.expose.specs.declared.output.Fault.TheVariants.{UnknownScene}
+use Rattle.expose.specs.declared.output.Fault.TheVariants.{UnknownScene, Refused}
+
+-- the fault says that this layer refused, with this number
+abbrev pub IsRefusal : List ℕ → ℕ → Fault → Type 0
+IsRefusal by refusal UnknownScene = ⊥
+IsRefusal by refusal (Refused layer number) = (layer.now ≡ by) × (number ≡ refusal)
 
 -- the status for a fault
 abbrev pub status_of : Fault → ℕ

@@ -1,6 +1,7 @@
 //! `expose SCENE` prints the document of a scene.
 #![tactic(auto)]
 
+mod histogram;
 mod output;
 mod scene;
 mod states;
@@ -9,6 +10,7 @@ mod tally;
 mod tests;
 
 use fastmetrics::registry::Registry;
+use histogram::numbers_histogram;
 use output::{Fault, finish};
 use scene::{Scene, choose};
 use states::running_task;
@@ -27,6 +29,12 @@ fn main(rt: HostRuntime) -> ExitCode {
         Ok(Scene::Tally) => match jobs_counter(alloc) {
             Ok((name, help, jobs)) => registry
                 .register(alloc, name, help, jobs)
+                .map_err(Fault::of_registry),
+            Err(fault) => Err(fault),
+        },
+        Ok(Scene::Histogram) => match numbers_histogram(rt, alloc) {
+            Ok((name, help, numbers)) => registry
+                .register(alloc, name, help, numbers)
                 .map_err(Fault::of_registry),
             Err(fault) => Err(fault),
         },

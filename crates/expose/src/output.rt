@@ -1,13 +1,19 @@
 //! What the program prints, and its status.
-ghost use Rattle.std.specs.Prelude.{◌≡◌, IfOk, IfErr};
+ghost use Rattle.std.specs.Prelude.{◌≡◌, IfOk, IfErr, codes};
+ghost use Rattle.fm_raw.specs.Errors.{error_number as metric_number};
+ghost use Rattle.fm_bucket.specs.Errors.{error_number as bucket_number};
+ghost use Rattle.fm_book.specs.Errors.{error_number as registry_number};
+ghost use Rattle.fm_text.specs.Errors.{number_of as encode_number};
+ghost use Rattle.fm_text.specs.declared.error.EncodeError.{EncodeError};
 ghost use Rattle.fastmetrics.specs.HasBook.{HasBook};
 ghost use Rattle.fastmetrics.specs.Tree.{Reads};
 ghost use Rattle.fastmetrics.specs.Listing.{order};
 ghost use Rattle.fastmetrics.specs.Admits.{Admits};
-ghost use Rattle.expose.specs.Outcome.{status_of, PrintsDocument, Finishes};
+ghost use Rattle.expose.specs.Outcome.{IsRefusal, status_of, PrintsDocument, Finishes};
 
 use fastmetrics::format::text::encode;
 use fastmetrics::raw::MetricError;
+use fastmetrics::raw::bucket::BucketError;
 use fastmetrics::registry::{Registry, RegistryError};
 use std::alloc::Global;
 use std::io::Write;
@@ -23,12 +29,26 @@ pub enum Fault {
 
 impl Fault {
     /// The words, a box or a text found no memory.
-    pub fn no_memory() -> Fault {
+    pub fn no_memory() -> Fault
+        ensures { IsRefusal (codes "registry") 5 result }
+    {
         Fault::of_registry(RegistryError::Memory)
     }
 
+    /// A call that makes bounds refused.
+    pub fn of_bucket(error: BucketError) -> Fault
+        ensures { IsRefusal (codes "bucket") (bucket_number error) result }
+    {
+        Fault::Refused {
+            layer: "bucket",
+            number: error.number(),
+        }
+    }
+
     /// A metric refused.
-    pub fn of_metric(error: MetricError) -> Fault {
+    pub fn of_metric(error: MetricError) -> Fault
+        ensures { IsRefusal (codes "metric") (metric_number error) result }
+    {
         Fault::Refused {
             layer: "metric",
             number: error.number(),
@@ -36,7 +56,9 @@ impl Fault {
     }
 
     /// A registry refused.
-    pub fn of_registry(error: RegistryError) -> Fault {
+    pub fn of_registry(error: RegistryError) -> Fault
+        ensures { IsRefusal (codes "registry") (registry_number error) result }
+    {
         Fault::Refused {
             layer: "registry",
             number: error.number(),
@@ -65,7 +87,7 @@ fn print_document<W: Write>(alloc: Global, out: &mut W, registry: &Registry) -> 
     requires { HasBook registry.now }
     ensures printed { PrintsDocument (λ e. (b : _) → Reads registry.now b → Admits (λ m. offers m) (λ m. stamps m) (λ m. may_be_empty m) (order b) e)
         (W.contents out.old) (W.contents out.new) result }
-    ensures refused { IfErr result (λ fault. status_of fault ≡ 1) }
+    ensures refused { IfErr result (λ fault. (error : EncodeError) × IsRefusal (codes "encode") (encode_number error) fault) }
 {
     match encode(alloc, out, registry) {
         Ok(()) => Ok(()),

@@ -9,6 +9,8 @@ pub enum Scene {
     Empty,
     /// A counted sum.
     Tally,
+    /// A histogram of whole numbers.
+    Histogram,
     /// A state set.
     States,
 }
@@ -20,6 +22,7 @@ pub fn choose(words: &[String]) -> Option<Scene>
     match words {
         [word] if word.as_str() == "empty" => Some(Scene::Empty),
         [word] if word.as_str() == "tally" => Some(Scene::Tally),
+        [word] if word.as_str() == "histogram" => Some(Scene::Histogram),
         [word] if word.as_str() == "states" => Some(Scene::States),
         _ => None,
     }

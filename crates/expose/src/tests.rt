@@ -1,9 +1,11 @@
 //! What the program prints for each scene, and for faults.
+use crate::histogram::numbers_histogram;
 use crate::output::{Fault, finish};
 use crate::scene::{Scene, choose};
 use crate::states::running_task;
 use crate::tally::jobs_counter;
 use fastmetrics::raw::MetricError;
+use fastmetrics::raw::bucket::BucketError;
 use fastmetrics::registry::{Registry, RegistryError};
 use std::test::Fail;
 
@@ -13,6 +15,7 @@ fn words_name_scenes(rt: HostRuntime) -> Result<(), Fail> {
     for (word, scene) in [
         ("empty", Some(Scene::Empty)),
         ("tally", Some(Scene::Tally)),
+        ("histogram", Some(Scene::Histogram)),
         ("states", Some(Scene::States)),
         ("", None),
         ("Tally", None),
@@ -38,6 +41,11 @@ fn faults_are_said(rt: HostRuntime) -> Result<(), Fail> {
             Fault::of_registry(RegistryError::Memory),
             1,
             "fault: registry 5\n",
+        ),
+        (
+            Fault::of_bucket(BucketError::ZeroCount),
+            1,
+            "fault: bucket 2\n",
         ),
         (
             Fault::of_metric(MetricError::UnknownState),
@@ -82,6 +90,24 @@ fn tally_scene(rt: HostRuntime) -> Result<(), Fail> {
     assert_eq!(rt;
         out.as_slice(),
         "# TYPE jobs counter\n# HELP jobs Jobs done\njobs_total 10100\n# EOF\n".as_bytes()
+    );
+    Ok(())
+}
+
+#[test]
+fn histogram_scene(rt: HostRuntime) -> Result<(), Fail> {
+    let alloc = rt.alloc();
+    let mut registry = Registry::default();
+    let Ok((name, help, numbers)) = numbers_histogram(rt, alloc) else {
+        return Err(Fail::new("no histogram"));
+    };
+    registry.register(alloc, name, help, numbers)?;
+    let mut out = Vec::new(alloc);
+    let mut errors = Vec::new(alloc);
+    assert_eq!(rt; finish(alloc, Ok(registry), &mut out, &mut errors), 0);
+    assert_eq!(rt;
+        out.as_slice(),
+        "# TYPE my_histogram histogram\n# HELP my_histogram My histogram help\nmy_histogram_bucket{le=\"1.0\"} 1\nmy_histogram_bucket{le=\"2.0\"} 2\nmy_histogram_bucket{le=\"4.0\"} 4\nmy_histogram_bucket{le=\"8.0\"} 8\nmy_histogram_bucket{le=\"16.0\"} 16\nmy_histogram_bucket{le=\"+Inf\"} 100\nmy_histogram_count 100\nmy_histogram_sum 5050.0\n# EOF\n".as_bytes()
     );
     Ok(())
 }
