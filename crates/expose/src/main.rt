@@ -3,10 +3,12 @@
 
 mod output;
 mod scene;
+#[cfg(test)]
+mod tests;
 
 use fastmetrics::registry::Registry;
 use output::{Fault, finish};
-use scene::{Scene, choose, jobs_counter};
+use scene::{Scene, choose, jobs_counter, numbers_histogram};
 use std::alloc::Global;
 use std::env;
 use std::env::Env;
@@ -20,6 +22,13 @@ fn main(rt: HostRuntime) -> ExitCode {
         Ok(Scene::Empty) => Ok(registry),
         Ok(Scene::Tally) => match jobs_counter(alloc) {
             Ok((name, help, jobs)) => match registry.register(alloc, name, help, jobs) {
+                Ok(()) => Ok(registry),
+                Err(error) => Err(Fault::of_registry(error)),
+            },
+            Err(fault) => Err(fault),
+        },
+        Ok(Scene::Histogram) => match numbers_histogram(rt, alloc) {
+            Ok((name, help, numbers)) => match registry.register(alloc, name, help, numbers) {
                 Ok(()) => Ok(registry),
                 Err(error) => Err(Fault::of_registry(error)),
             },

@@ -7,6 +7,8 @@ ghost use Rattle.fastmetrics.specs.Admits.{Admits};
 ghost use Rattle.expose.specs.Outcome.{status_of, PrintsDocument, Finishes};
 
 use fastmetrics::format::text::encode;
+use fastmetrics::raw::MetricError;
+use fastmetrics::raw::bucket::BucketError;
 use fastmetrics::registry::{Registry, RegistryError};
 use std::alloc::Global;
 use std::io::Write;
@@ -24,6 +26,22 @@ impl Fault {
     /// The words, a box or a text found no memory.
     pub fn no_memory() -> Fault {
         Fault::of_registry(RegistryError::Memory)
+    }
+
+    /// A call that makes bounds refused.
+    pub fn of_bucket(error: BucketError) -> Fault {
+        Fault::Refused {
+            layer: "bucket",
+            number: error.number(),
+        }
+    }
+
+    /// A metric refused.
+    pub fn of_metric(error: MetricError) -> Fault {
+        Fault::Refused {
+            layer: "metric",
+            number: error.number(),
+        }
     }
 
     /// A registry refused.
