@@ -9,6 +9,37 @@ use fastmetrics::raw::bucket::BucketError;
 use fastmetrics::registry::{Registry, RegistryError};
 use std::test::Fail;
 
+const JOBS: &str = "\
+# TYPE jobs counter
+# HELP jobs Jobs done
+jobs_total 10100
+# EOF
+";
+
+const NUMBERS: &str = "\
+# TYPE my_histogram histogram
+# HELP my_histogram My histogram help
+my_histogram_bucket{le=\"1.0\"} 1
+my_histogram_bucket{le=\"2.0\"} 2
+my_histogram_bucket{le=\"4.0\"} 4
+my_histogram_bucket{le=\"8.0\"} 8
+my_histogram_bucket{le=\"16.0\"} 16
+my_histogram_bucket{le=\"+Inf\"} 100
+my_histogram_count 100
+my_histogram_sum 5050.0
+# EOF
+";
+
+const TASK: &str = "\
+# TYPE my_stateset stateset
+# HELP my_stateset My stateset help
+my_stateset{my_stateset=\"pending\"} 0
+my_stateset{my_stateset=\"running\"} 1
+my_stateset{my_stateset=\"completed\"} 0
+my_stateset{my_stateset=\"failed\"} 0
+# EOF
+";
+
 #[test]
 fn words_name_scenes(rt: HostRuntime) -> Result<(), Fail> {
     let alloc = rt.alloc();
@@ -87,10 +118,7 @@ fn tally_scene(rt: HostRuntime) -> Result<(), Fail> {
     let mut out = Vec::new(alloc);
     let mut errors = Vec::new(alloc);
     assert_eq!(rt; finish(alloc, Ok(registry), &mut out, &mut errors), 0);
-    assert_eq!(rt;
-        out.as_slice(),
-        "# TYPE jobs counter\n# HELP jobs Jobs done\njobs_total 10100\n# EOF\n".as_bytes()
-    );
+    assert_eq!(rt; out.as_slice(), JOBS.as_bytes());
     Ok(())
 }
 
@@ -105,10 +133,7 @@ fn histogram_scene(rt: HostRuntime) -> Result<(), Fail> {
     let mut out = Vec::new(alloc);
     let mut errors = Vec::new(alloc);
     assert_eq!(rt; finish(alloc, Ok(registry), &mut out, &mut errors), 0);
-    assert_eq!(rt;
-        out.as_slice(),
-        "# TYPE my_histogram histogram\n# HELP my_histogram My histogram help\nmy_histogram_bucket{le=\"1.0\"} 1\nmy_histogram_bucket{le=\"2.0\"} 2\nmy_histogram_bucket{le=\"4.0\"} 4\nmy_histogram_bucket{le=\"8.0\"} 8\nmy_histogram_bucket{le=\"16.0\"} 16\nmy_histogram_bucket{le=\"+Inf\"} 100\nmy_histogram_count 100\nmy_histogram_sum 5050.0\n# EOF\n".as_bytes()
-    );
+    assert_eq!(rt; out.as_slice(), NUMBERS.as_bytes());
     Ok(())
 }
 
@@ -123,9 +148,6 @@ fn states_scene(rt: HostRuntime) -> Result<(), Fail> {
     let mut out = Vec::new(alloc);
     let mut errors = Vec::new(alloc);
     assert_eq!(rt; finish(alloc, Ok(registry), &mut out, &mut errors), 0);
-    assert_eq!(rt;
-        out.as_slice(),
-        "# TYPE my_stateset stateset\n# HELP my_stateset My stateset help\nmy_stateset{my_stateset=\"pending\"} 0\nmy_stateset{my_stateset=\"running\"} 1\nmy_stateset{my_stateset=\"completed\"} 0\nmy_stateset{my_stateset=\"failed\"} 0\n# EOF\n".as_bytes()
-    );
+    assert_eq!(rt; out.as_slice(), TASK.as_bytes());
     Ok(())
 }
