@@ -94,11 +94,7 @@ fn two_threads_observe_in_one_histogram(rt: HostRuntime) -> Result<(), Fail> {
     let bounds = [whole(1), whole(2), whole(5)];
     let sizes = Histogram::new(rt, alloc, bounds.iter().copied())?;
     let clone = sizes.clone()?;
-    let (first, second) = thread::join(
-        &rt,
-        || observe_hundred(&sizes),
-        || observe_hundred(&clone),
-    );
+    let (first, second) = thread::join(&rt, || observe_hundred(&sizes), || observe_hundred(&clone));
     first?;
     second?;
     let own = sizes.with_snapshot(|all| counts(alloc, all.buckets()))?;
