@@ -12,6 +12,7 @@ pub mod label_set;
 mod label_set_wrapper;
 pub mod label_value;
 mod label_wrapper;
+mod law;
 pub mod metric;
 mod names;
 mod own;
@@ -25,6 +26,7 @@ pub use fm_text::EncodeError;
 pub use label::{EncodeLabel, EncodeLabelName, EncodeLabelValue, LabelEncoder, LabelSetEncoder};
 pub use label_set::{EncodeLabelSet, LabelSlice};
 pub use label_value::LabelStr;
+pub use law::counts_add_up;
 pub use metric::{EncodeMetric, MetricEncoder};
 pub use point::{EncodePoint, PointEncoder};
 pub use value::{

@@ -107,7 +107,7 @@ fn two_threads_observe_in_one_histogram(rt: HostRuntime) -> Result<(), Fail> {
 // Observes the whole numbers from 1 to 100.
 fn observe_hundred<H: Wait>(sizes: &Histogram<H>) -> Result<(), MetricError> {
     for n in 1..101 {
-        sizes.observe(Fixed::from_millionths(n * ONE))?;
+        sizes.observe(whole(n))?;
     }
     Ok(())
 }
