@@ -6,3 +6,4 @@ pub mod LabelSetLemmas
 pub mod MemberLemmas
 pub mod FaultLemmas
 pub mod BucketLemmas
+pub mod OwnLabels
