@@ -2,6 +2,8 @@
 #![tactic(auto)]
 
 #[cfg(test)]
+mod calls;
+#[cfg(test)]
 mod constants;
 #[cfg(test)]
 mod documents;
@@ -21,5 +23,7 @@ mod registering;
 mod support;
 #[cfg(test)]
 mod tallies;
+#[cfg(test)]
+mod trees;
 #[cfg(test)]
 mod writers;
