@@ -1,6 +1,7 @@
 //! Documents of counters, from a registration to the text.
 
-use crate::support::document_of;
+use crate::own_metric::{Queue, Waiting};
+use crate::support::{document_alone, document_of};
 use fastmetrics::metrics::counter::ConstCounter;
 use fastmetrics::metrics::tally::Book;
 use fastmetrics::registry::{Registry, RegistryError};
@@ -93,6 +94,27 @@ fn repeated_registration(rt: HostRuntime) -> Result<(), Fail> {
     assert_eq!(rt;
         document.as_str(),
         "# TYPE a counter\n# HELP a first\na_total 1\n# EOF\n"
+    );
+    Ok(())
+}
+
+#[test]
+fn waiting_requests(rt: HostRuntime) -> Result<(), Fail> {
+    let alloc = rt.alloc();
+    let queue = Queue {
+        name: String::from_str(alloc, "mail \"out\"")?,
+        priority: 3,
+    };
+    let waiting = Box::new(
+        alloc,
+        Waiting {
+            queue,
+            requests: 12,
+        },
+    )?;
+    assert_eq!(rt;
+        document_alone(alloc, "waiting_requests", None, waiting)?.as_str(),
+        "# TYPE waiting_requests gauge\n# HELP waiting_requests H\nwaiting_requests{queue=\"mail \\\"out\\\"\",priority=\"3\"} 12\n# EOF\n"
     );
     Ok(())
 }

@@ -21,6 +21,7 @@ mod liars;
 mod members;
 #[cfg(test)]
 mod memory;
+pub mod own_metric;
 #[cfg(test)]
 mod parts;
 #[cfg(test)]
