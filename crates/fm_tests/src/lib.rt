@@ -24,6 +24,8 @@ mod support;
 #[cfg(test)]
 mod tallies;
 #[cfg(test)]
+mod tree;
+#[cfg(test)]
 mod trees;
 #[cfg(test)]
 mod writers;
