@@ -2,26 +2,13 @@
 
 use crate::members::OneMember;
 use crate::parts::{HalfAndTrue, Word};
-use crate::support::document_alone;
-use fastmetrics::encoder::EncodeMetric;
+use crate::support::lines_of;
 use fastmetrics::metrics::gauge::ConstGauge;
 use fastmetrics::raw::MetricType;
 use std::alloc::Global;
 use std::collections::{BTreeMap, LinkedList, VecDeque};
 use std::test::Fail;
 use std::time::Duration;
-
-// The sample lines and the last line of a gauge `t`.
-fn lines_of(alloc: Global, metric: Box<dyn EncodeMetric>) -> Result<String, Fail> {
-    let document = document_alone(alloc, "t", None, metric)?;
-    match document
-        .as_str()
-        .strip_prefix("# TYPE t gauge\n# HELP t H\n")
-    {
-        Some(lines) => Ok(String::from_str(alloc, lines)?),
-        None => Err(Fail::new("another head")),
-    }
-}
 
 #[test]
 fn maps_with_timestamps(rt: HostRuntime) -> Result<(), Fail> {
@@ -89,6 +76,17 @@ fn containers(rt: HostRuntime) -> Result<(), Fail> {
     let none: [(String, u64); 0] = [];
     let metric = Box::new(alloc, OneMember::gauge(none, ConstGauge::new(5i64)))?;
     assert_eq!(rt; lines_of(alloc, metric)?.as_str(), "t 5\n# EOF\n");
+    Ok(())
+}
+
+#[test]
+fn millionths_and_truth_values(rt: HostRuntime) -> Result<(), Fail> {
+    let alloc = rt.alloc();
+    let metric = Box::new(alloc, OneMember::gauge(HalfAndTrue, ConstGauge::new(5i64)))?;
+    assert_eq!(rt;
+        lines_of(alloc, metric)?.as_str(),
+        "t{x=\"0.5\",y=\"true\"} 5\n# EOF\n"
+    );
     Ok(())
 }
 

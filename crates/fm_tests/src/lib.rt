@@ -10,15 +10,25 @@ mod documents;
 #[cfg(test)]
 mod expositions;
 #[cfg(test)]
+mod handles;
+#[cfg(test)]
+mod label_numbers;
+#[cfg(test)]
 mod labels;
 #[cfg(test)]
+mod liars;
+#[cfg(test)]
 mod members;
+#[cfg(test)]
+mod memory;
 #[cfg(test)]
 mod parts;
 #[cfg(test)]
 mod refusals;
 #[cfg(test)]
 mod registering;
+#[cfg(test)]
+mod states;
 #[cfg(test)]
 mod support;
 #[cfg(test)]

@@ -92,6 +92,18 @@ pub(crate) fn document_alone(
     Ok(document)
 }
 
+/// The sample lines and the last line of a gauge `t`.
+pub(crate) fn lines_of(alloc: Global, metric: Box<dyn EncodeMetric>) -> Result<String, Fail> {
+    let document = document_alone(alloc, "t", None, metric)?;
+    match document
+        .as_str()
+        .strip_prefix("# TYPE t gauge\n# HELP t H\n")
+    {
+        Some(lines) => Ok(String::from_str(alloc, lines)?),
+        None => Err(Fail::new("another head")),
+    }
+}
+
 /// Why a metric alone, under the name `t`, is refused. A refusal writes nothing.
 pub(crate) fn refusal(alloc: Global, metric: Box<dyn EncodeMetric>) -> Result<EncodeError, Fail> {
     match encoded(alloc, "t", None, metric)? {
