@@ -289,19 +289,33 @@ fn collected(
     }
 }
 
+// Makes these calls, or the spare ones. Where the answers find no memory, the document is as it was.
+fn run_calls(
+    alloc: Global,
+    patience: &mut Patience,
+    registry: &mut Registry,
+    calls: Vec<RegistryCall>,
+    spare: Vec<RegistryCall>,
+) -> Result<Vec<Result<(), RegistryError>>, Fail>
+    requires { HasBook registry.old }
+    ensures { HasBook registry.new }
+{
+    if let Ok(answers) = registry.run(alloc, calls) {
+        return Ok(answers);
+    }
+    patience.bear()?;
+    expect_document(alloc, registry, NOTHING)?;
+    let answers = registry.run(alloc, spare)?;
+    Ok(answers)
+}
+
 // Makes six calls, collects, and writes what was collected.
 fn run_and_write(alloc: Global, refusals: u32) -> Result<(), Fail> {
     let mut patience = Patience { refusals };
     let mut registry = patient_root(alloc, &mut patience, &[])?;
     let calls = patient_calls(alloc, &mut patience)?;
-    let answers = match registry.run(alloc, calls) {
-        Ok(answers) => answers,
-        Err(_) => {
-            patience.bear()?;
-            expect_document(alloc, &registry, NOTHING)?;
-            registry.run(alloc, six_calls(alloc)?)?
-        }
-    };
+    let spare = patient_calls(alloc, &mut patience)?;
+    let answers = run_calls(alloc, &mut patience, &mut registry, calls, spare)?;
     let document = document_after(&answers, &mut patience)?;
     let exposition = collected(alloc, &registry, &mut patience)?;
     let mut writer = roomy_writer(alloc, &mut patience)?;
