@@ -191,22 +191,3 @@ fn one_name_of_two_types(rt: HostRuntime) -> Result<(), Fail> {
     );
     Ok(())
 }
-
-#[test]
-fn one_name_with_two_units(rt: HostRuntime) -> Result<(), Fail> {
-    let alloc = rt.alloc();
-    let mut registry = Registry::default();
-    let (name, help) = (String::from_str(alloc, "g")?, String::from_str(alloc, "H")?);
-    let metric = Box::new(alloc, ConstGauge::new(1i64))?;
-    registry.register_with_unit(alloc, name, help, Unit::Seconds, metric)?;
-    let (name, help) = (String::from_str(alloc, "g")?, String::from_str(alloc, "H")?);
-    let seconds = Unit::from(String::from_str(alloc, "seconds")?);
-    let metric = Box::new(alloc, ConstGauge::new(2i64))?;
-    registry.register_with_unit(alloc, name, help, seconds, metric)?;
-    assert_eq!(rt;
-        document_of(alloc, &registry)?.as_str(),
-        "# TYPE g_seconds gauge\n# HELP g_seconds H\n# UNIT g_seconds seconds\ng_seconds 1\n\
-         # TYPE g_seconds gauge\n# HELP g_seconds H\n# UNIT g_seconds seconds\ng_seconds 2\n# EOF\n"
-    );
-    Ok(())
-}

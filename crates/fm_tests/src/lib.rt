@@ -10,13 +10,9 @@ mod documents;
 #[cfg(test)]
 mod expositions;
 #[cfg(test)]
-mod handles;
-#[cfg(test)]
 mod label_numbers;
 #[cfg(test)]
 mod labels;
-#[cfg(test)]
-mod liars;
 #[cfg(test)]
 mod members;
 #[cfg(test)]
@@ -28,8 +24,6 @@ mod parts;
 mod refusals;
 #[cfg(test)]
 mod registering;
-#[cfg(test)]
-mod states;
 #[cfg(test)]
 mod support;
 #[cfg(test)]
