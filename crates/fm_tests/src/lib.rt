@@ -24,8 +24,7 @@ mod parts;
 mod refusals;
 #[cfg(test)]
 mod registering;
-#[cfg(test)]
-mod support;
+pub mod support;
 #[cfg(test)]
 mod tallies;
 #[cfg(test)]

@@ -11,15 +11,15 @@ use std::test::Fail;
 
 /// A writer that takes at most `step` bytes a call and `room` bytes in all. Then it answers an error of this kind, or 0.
 #[derive(Drop)]
-pub(crate) struct Stopping {
-    pub(crate) bytes: Vec<u8>,
+pub struct Stopping {
+    pub bytes: Vec<u8>,
     room: usize,
     step: usize,
     end: Option<ErrorKind>,
 }
 
 impl Stopping {
-    pub(crate) fn new(alloc: Global, room: usize, step: usize, end: Option<ErrorKind>) -> Stopping {
+    pub fn new(alloc: Global, room: usize, step: usize, end: Option<ErrorKind>) -> Stopping {
         Stopping {
             bytes: Vec::new(alloc),
             room,
@@ -48,7 +48,7 @@ impl Write for Stopping {
 }
 
 /// The text that these bytes are.
-pub(crate) fn text_of(bytes: Vec<u8>) -> Result<String, Fail> {
+pub fn text_of(bytes: Vec<u8>) -> Result<String, Fail> {
     match String::from_utf8(bytes) {
         Ok(text) => Ok(text),
         Err(_) => Err(Fail::new("no text")),
@@ -56,7 +56,7 @@ pub(crate) fn text_of(bytes: Vec<u8>) -> Result<String, Fail> {
 }
 
 /// The document of a registry.
-pub(crate) fn document_of(alloc: Global, registry: &Registry) -> Result<String, Fail>
+pub fn document_of(alloc: Global, registry: &Registry) -> Result<String, Fail>
     requires { HasBook registry.now }
 {
     let mut bytes = Vec::new(alloc);
@@ -65,7 +65,7 @@ pub(crate) fn document_of(alloc: Global, registry: &Registry) -> Result<String, 
 }
 
 /// What encoding a metric under this name and the help `H` answers, and what it writes.
-pub(crate) fn encoded(
+pub fn encoded(
     alloc: Global,
     name: &str,
     unit: Option<Unit>,
@@ -81,7 +81,7 @@ pub(crate) fn encoded(
 }
 
 /// The document of a metric alone, under this name and the help `H`.
-pub(crate) fn document_alone(
+pub fn document_alone(
     alloc: Global,
     name: &str,
     unit: Option<Unit>,
@@ -93,7 +93,7 @@ pub(crate) fn document_alone(
 }
 
 /// The sample lines and the last line of a gauge `t`.
-pub(crate) fn lines_of(alloc: Global, metric: Box<dyn EncodeMetric>) -> Result<String, Fail> {
+pub fn lines_of(alloc: Global, metric: Box<dyn EncodeMetric>) -> Result<String, Fail> {
     let document = document_alone(alloc, "t", None, metric)?;
     match document
         .as_str()
@@ -105,7 +105,7 @@ pub(crate) fn lines_of(alloc: Global, metric: Box<dyn EncodeMetric>) -> Result<S
 }
 
 /// Why a metric alone, under the name `t`, is refused. A refusal writes nothing.
-pub(crate) fn refusal(alloc: Global, metric: Box<dyn EncodeMetric>) -> Result<EncodeError, Fail> {
+pub fn refusal(alloc: Global, metric: Box<dyn EncodeMetric>) -> Result<EncodeError, Fail> {
     match encoded(alloc, "t", None, metric)? {
         (Err(error), document) if document.is_empty() => Ok(error),
         (Err(_), _) => Err(Fail::new("a refusal wrote something")),

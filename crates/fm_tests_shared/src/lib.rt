@@ -1,0 +1,5 @@
+//! Tests of metrics that threads share: counters, gauges, states, histograms and families, with values from outside.
+#![tactic(auto)]
+
+#[cfg(test)]
+mod handles;
