@@ -113,6 +113,8 @@ impl<N: CounterValue> Clone for Counter<N> {
 }
 
 impl<N: CounterValue> TypedMetric for Counter<N> {
+    ghost TYPE = { CounterType };
+
     const TYPE: MetricType = MetricType::Counter;
 }
 

@@ -93,6 +93,8 @@ impl<N: GaugeValue> Clone for Gauge<N> {
 }
 
 impl<N: GaugeValue> TypedMetric for Gauge<N> {
+    ghost TYPE = { GaugeType };
+
     const TYPE: MetricType = MetricType::Gauge;
 }
 

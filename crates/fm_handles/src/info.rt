@@ -32,6 +32,8 @@ impl<LS> Info<LS> {
 }
 
 impl<LS> TypedMetric for Info<LS> {
+    ghost TYPE = { InfoType };
+
     const TYPE: MetricType = MetricType::Info;
 }
 

@@ -168,6 +168,8 @@ impl<T: StateSetValue> Clone for StateSet<T> {
 }
 
 impl<T: StateSetValue + 'static> TypedMetric for StateSet<T> {
+    ghost TYPE = { StateSetType };
+
     const TYPE: MetricType = MetricType::StateSet;
 }
 
@@ -250,6 +252,8 @@ impl<T: StateSetValue + 'static> ConstStateSet<T> {
 }
 
 impl<T: StateSetValue + 'static> TypedMetric for ConstStateSet<T> {
+    ghost TYPE = { StateSetType };
+
     const TYPE: MetricType = MetricType::StateSet;
 }
 

@@ -35,6 +35,8 @@ impl<T: UnknownValue> Unknown<T> {
 }
 
 impl<T: UnknownValue> TypedMetric for Unknown<T> {
+    ghost TYPE = { UnknownType };
+
     const TYPE: MetricType = MetricType::Unknown;
 }
 

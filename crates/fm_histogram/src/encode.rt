@@ -49,6 +49,8 @@ pub(crate) fn encode_snapshot(
 }
 
 impl TypedMetric for HistogramSnapshot {
+    ghost TYPE = { HistogramType };
+
     const TYPE: MetricType = MetricType::Histogram;
 }
 

@@ -145,6 +145,8 @@ impl<H: Wait + Clone> Clone for Histogram<H> {
 }
 
 impl<H: Wait> TypedMetric for Histogram<H> {
+    ghost TYPE = { HistogramType };
+
     const TYPE: MetricType = MetricType::Histogram;
 }
 

@@ -69,6 +69,8 @@ impl<N: Number> Default for ConstCounter<N> {
 }
 
 impl<N> TypedMetric for ConstCounter<N> {
+    ghost TYPE = { Counter };
+
     const TYPE: MetricType = MetricType::Counter;
 }
 

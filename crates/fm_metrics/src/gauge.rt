@@ -45,6 +45,8 @@ impl<N: Number> Default for ConstGauge<N> {
 }
 
 impl<N> TypedMetric for ConstGauge<N> {
+    ghost TYPE = { Gauge };
+
     const TYPE: MetricType = MetricType::Gauge;
 }
 

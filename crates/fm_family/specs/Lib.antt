@@ -1,0 +1,3 @@
+pub use Rattle.fm_encoder.specs.Hands
+pub mod Members
+pub mod MemberLends

@@ -1,0 +1,44 @@
+-- The members of a family: a list of pairs of a label set and a metric, of which no two have equal label sets.
+use Rattle.std.specs.Prelude.{◌≡◌, ℕ, Bool, true, List, [], ◌∷◌, ◌++◌, take, Result, Ok, Err, MatchResult, ◌⊎◌, MatchOption, Some, IsOkAnd, slice_get}
+use denote.Ref.{Bor}
+use Rattle.std.specs.List.{IsDistinct}
+use Rattle.std.specs.Map.{lookup, keys_of, values_of}
+use Rattle.fm_raw.specs.declared.error.MetricError.{MetricError}
+use Rattle.fm_raw.specs.declared.error.MetricError.TheVariants.{Memory}
+use Rattle.fm_encoder.specs.Labels.{HandedLabel}
+use Rattle.fm_encoder.specs.Points.{Point, Member}
+use Rattle.fm_encoder.specs.Hands.{OffersOf}
+
+-- each clone of a label set equals it
+abbrev pub ClonesEqual : {L : Type 0} → (L → L → Type 0) → (L → L → Bool) → Type 0
+ClonesEqual {L} is_clone eq = (x y : L) → is_clone x y → eq x y ≡ true
+
+-- a look-up of a label set, which adds a pair for one that is absent: a metric that is there is answered as `tells` says,
+-- and the list stays; else a pair with a metric that the factory promises was added at the end and is answered,
+-- or the list is as it was, and the refusal is of memory or one that the factory promises
+abbrev pub GetsOrAdds : {L M A : Type 0} → (L → L → Bool) → (Result M MetricError → Type 0) → L → List (L × M) → List (L × M) → (A → M → Type 0) → Result A MetricError → Type 0
+GetsOrAdds {L} {M} eq promises labels old new tells answer = MatchOption (lookup (eq labels) old)
+    (MatchResult answer
+    (λ a. (k : L) × (m : M) × (eq labels k ≡ true) × promises (Ok m) × (new ≡ old ++ (k, m) ∷ []) × tells a m)
+    (λ e. (new ≡ old) × ((e ≡ Memory) ⊎ promises (Err e))))
+    (λ m. (new ≡ old) × IsOkAnd answer (λ a. tells a m))
+
+-- the place holds the metric
+abbrev pub HoldsMetric : {L M : Type 0} → List (L × M) → ℕ → M → Type 0
+HoldsMetric es place m = slice_get (values_of es) place ≡ Some m
+
+-- the reference shows the metric
+abbrev pub ShowsMetric : {M : Type 0} → Bor M → M → Type 0
+ShowsMetric r m = r.now ≡ m
+
+-- the members of the pairs at the beginning of a list
+abbrev pub OffersFirst : {L M : Type 0} → (L → List HandedLabel) → (M → List Point → Type 0) → List (L × M) → List Member → Type 0
+OffersFirst labels Points pairs members = (n : ℕ) × OffersOf labels Points (take n pairs) members
+
+-- the members of some pairs with pairwise different label sets
+abbrev pub OffersDifferent : {L M : Type 0} → (L → L → Bool) → (L → List HandedLabel) → (M → List Point → Type 0) → List Member → Type 0
+OffersDifferent {L} {M} eq labels Points members = (pairs : List (L × M)) × IsDistinct eq (keys_of pairs) × OffersOf labels Points pairs members
+
+-- the labels or the metric may answer an error of their own
+abbrev pub MayFault : {L M : Type 0} → (L → Type 0) → (M → Type 0) → L × M → Type 0
+MayFault labels metric pair = labels pair.0 ⊎ metric pair.1

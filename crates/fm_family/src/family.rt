@@ -1,0 +1,179 @@
+//! Families that threads share.
+ghost use Rattle.std.specs.Prelude.{◌≡◌, ◌⊎◌, List, Err, IfOk, IfErr, IfSome, ⊤};
+ghost use Rattle.std.specs.Arc.{arc_value};
+ghost use Rattle.std.specs.Fn.{FnOnceReturnsAt};
+ghost use Rattle.fm_raw.specs.declared.error.MetricError.TheVariants.{Memory};
+ghost use Rattle.fm_family.specs.Members.{ClonesEqual, OffersDifferent, MayFault};
+
+use crate::factory::{DefaultFactory, MetricFactory};
+use crate::members::FamilyCore;
+use fm_atomic::TryDefault;
+use fm_encoder::{EncodeLabelSet, EncodeMetric, EncodePoint, MetricEncoder};
+use fm_raw::{MetricError, MetricType, TypedMetric};
+use fm_text::EncodeError;
+use std::alloc::{AllocError, Global};
+use std::hash::{BuildHasher, Hash};
+use std::sync::{Arc, RwLock, Wait};
+use std::time::Duration;
+
+// What the clones of a family share.
+#[derive(Drop)]
+struct Shared<LS: Eq + Hash, M, MF, S: BuildHasher> {
+    core: RwLock<FamilyCore<LS, M, S>>,
+    factory: MF,
+}
+
+/// Metrics of one type by label set, which its clones share under a lock. The factory `MF` makes a metric when its label set is
+/// first used. The members print in this order.
+///
+/// A call waits while another thread makes a metric, and one that makes a metric waits for all others. A closure that is
+/// lent a metric must not enter the same family. For the hasher `S` see `FamilyCore`.
+#[derive(Drop)]
+pub struct Family<LS: Eq + Hash, M, MF, S: BuildHasher, H: Wait> {
+    shared: Arc<Shared<LS, M, MF, S>, Global>,
+    wait: H,
+}
+
+impl<LS: Eq + Hash + Drop, M: Drop, MF: Drop, S: BuildHasher + Default + Drop, H: Wait + Drop>
+    Family<LS, M, MF, S, H> {
+    /// The family without members that makes metrics by this factory, with the hasher to begin with. It may find no memory.
+    pub fn new(wait: H, alloc: Global, factory: MF) -> Result<Self, MetricError>
+        ensures kept { IfOk result (λ f. (arc_value f.shared).factory ≡ factory) }
+        ensures memory { IfErr result (λ e. e ≡ Memory) }
+    {
+        Family::with_hasher(wait, alloc, factory, S::default())
+    }
+}
+
+impl<LS: Eq + Hash + Drop, M: Drop, MF: Drop, S: BuildHasher + Drop, H: Wait + Drop> Family<
+    LS,
+    M,
+    MF,
+    S,
+    H,
+> {
+    /// The family without members that makes metrics by this factory, with this hasher. It may find no memory.
+    pub fn with_hasher(wait: H, alloc: Global, factory: MF, hasher: S) -> Result<Self, MetricError>
+        ensures kept { IfOk result (λ f. (arc_value f.shared).factory ≡ factory) }
+        ensures memory { IfErr result (λ e. e ≡ Memory) }
+    {
+        let core = RwLock::new(FamilyCore::with_hasher(alloc, hasher));
+        let shared = Arc::new(alloc, Shared { core, factory })?;
+        Ok(Family { shared, wait })
+    }
+
+    /// Lends the metric of these labels to `f`, where there is one, and answers what `f` does. It takes no memory.
+    pub fn with<R, F: FnOnce(&M) -> R>(&self, labels: &LS, f: F) -> Option<R>
+        requires { F.IsAlwaysCallable f }
+        ensures { IfSome result (λ r. (metric : M) × FnOnceReturnsAt F.FnOnce f metric r) }
+    {
+        let core = self.shared.core.read(&self.wait);
+        match core.get(labels) {
+            Some(metric) => Some(f(metric)),
+            None => None,
+        }
+    }
+}
+
+impl<
+    LS: Clone + Eq + Hash + Drop,
+    M: Drop,
+    MF: MetricFactory<M> + Drop,
+    S: BuildHasher + Drop,
+    H: Wait + Drop,
+> Family<LS, M, MF, S, H> {
+    /// Lends the metric of these labels to `f`, and answers what `f` does. Where there is none, the factory makes one, which stands
+    /// behind the others.
+    ///
+    /// The factory is called only where there is none; its refusal is handed on. It may find no memory then. After a refusal the
+    /// members are those that were there. Clones of label sets have to equal them. Where the metric is there, the call
+    /// takes no memory and shares the lock with its like.
+    pub fn with_or_new<R, F: FnOnce(&M) -> R>(&self, labels: &LS, f: F) -> Result<R, MetricError>
+        requires ready { MF.is_ready (arc_value self.now.shared).factory }
+        requires callable { F.IsAlwaysCallable f }
+        requires clones { ClonesEqual LS.is_clone LS.eq }
+        ensures called { IfOk result (λ r. (metric : M) × FnOnceReturnsAt F.FnOnce f metric r) }
+        ensures refused { IfErr result (λ e. (e ≡ Memory) ⊎ MF.promises (arc_value self.now.shared).factory (Err e)) }
+    {
+        let shared = &*self.shared;
+        let core = shared.core.read(&self.wait);
+        if let Some(metric) = core.get(labels) {
+            return Ok(f(metric));
+        }
+        drop(core);
+        let mut core = shared.core.write(&self.wait);
+        let place = core.place_or_new(labels, &shared.factory)?;
+        Ok(f(core.at(place)))
+    }
+}
+
+/// The family without members that makes metrics to begin with.
+impl<
+    LS: Eq + Hash + Drop,
+    M: TryDefault<H> + Drop,
+    S: BuildHasher + Default + Drop,
+    H: Wait + Clone + Drop,
+> TryDefault<H> for Family<LS, M, DefaultFactory<M, H>, S, H> {
+    fn try_default(wait: H, alloc: Global) -> Result<Self, MetricError> {
+        let factory = DefaultFactory::new(wait.clone()?, alloc);
+        Family::with_hasher(wait, alloc, factory, S::default())
+    }
+}
+
+/// The same family. The clone may find no memory.
+impl<LS: Eq + Hash + Drop, M: Drop, MF: Drop, S: BuildHasher + Drop, H: Wait + Clone> Clone
+    for Family<LS, M, MF, S, H> {
+    ghost is_clone = { λ f g. arc_value g.shared ≡ arc_value f.shared };
+
+    fn clone(&self) -> Result<Self, AllocError> {
+        let shared = self.shared.clone()?;
+        let wait = self.wait.clone()?;
+        Ok(Family { shared, wait })
+    }
+}
+
+/// The type of its members.
+impl<LS: Eq + Hash, M: TypedMetric, MF, S: BuildHasher, H: Wait> TypedMetric
+    for Family<LS, M, MF, S, H> {
+    ghost TYPE = { M.TYPE };
+
+    const TYPE: MetricType = M::TYPE;
+
+    const WITH_TIMESTAMP: bool = M::WITH_TIMESTAMP;
+}
+
+/// Some label sets that differ from each other, each with what some metric of the members' type offers. A family without members is
+/// empty.
+impl<
+    LS: EncodeLabelSet + Eq + Hash + Send + Sync + Drop,
+    M: EncodePoint + TypedMetric + Send + Sync + Drop,
+    MF: Send + Sync + Drop,
+    S: BuildHasher + Send + Sync + Drop,
+    H: Wait + Send + Sync + Drop,
+> EncodeMetric for Family<LS, M, MF, S, H> {
+    ghost types = { λ _ t. t ≡ M.TYPE };
+
+    ghost may_be_empty = { λ _. ⊤ };
+
+    ghost offers = { λ _. OffersDifferent LS.eq LS.labels M.points };
+
+    ghost may_fault = { λ _. (pair : LS × M) × MayFault LS.may_fault M.may_fault pair };
+
+    fn encode(&self, encoder: &mut MetricEncoder) -> Result<(), EncodeError> {
+        let core = self.shared.core.read(&self.wait);
+        core.encode_members(encoder)
+    }
+
+    fn metric_type(&self) -> MetricType {
+        M::TYPE
+    }
+
+    fn timestamp(&self) -> Option<Duration> {
+        None
+    }
+
+    fn is_empty(&self) -> bool {
+        let core = self.shared.core.read(&self.wait);
+        core.is_empty()
+    }
+}

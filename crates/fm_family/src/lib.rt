@@ -1,0 +1,12 @@
+//! Families: metrics of one type by label set, made when they are first used.
+#![tactic(auto)]
+
+pub mod factory;
+pub mod family;
+pub mod members;
+#[cfg(test)]
+mod tests;
+
+pub use factory::{DefaultFactory, MetricFactory};
+pub use family::Family;
+pub use members::FamilyCore;

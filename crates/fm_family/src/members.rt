@@ -1,0 +1,138 @@
+//! The members of a family: metrics by label set, in the order of their first use.
+ghost use Rattle.std.specs.Prelude.{◌≡◌, ◌<◌, ◌↔◌, ◌++◌, IfOk, IsTrue, Some, None, Ok, Any, List, option_copied, [], length, slice_get, IsSome, IsOk};
+ghost use Rattle.std.specs.Borrow.{sem};
+ghost use Rattle.indexmap.specs.IndexMap.{get, values, IsUnique};
+ghost use Rattle.fm_encoder.specs.Points.{Member, MembersClean, members_samples};
+ghost use Rattle.fm_encoder.specs.Hands.{HandsMembers, OffersOf};
+ghost use Rattle.fm_family.specs.MemberLends.{ends_with_member};
+ghost use Rattle.fm_family.specs.Members.{ClonesEqual, GetsOrAdds, HoldsMetric, OffersFirst, MayFault};
+
+use crate::factory::MetricFactory;
+use fm_encoder::{EncodeLabelSet, EncodePoint, MetricEncoder};
+use fm_raw::MetricError;
+use fm_text::EncodeError;
+use indexmap::IndexMap;
+use std::alloc::Global;
+use std::hash::{BuildHasher, Hash};
+
+/// Metrics with pairwise different label sets, in the order in which they came.
+///
+/// `S` makes the hashers of label sets. Take one that starts from a fixed state, such as `BuildHasherDefault<FoldHasher>`, where
+/// the program alone makes the label sets; it is the faster. Take `RandomState` where strangers choose label values, for they
+/// could choose many that one fixed hasher takes to the same place.
+#[derive(Drop)]
+pub struct FamilyCore<LS: Eq + Hash, M, S: BuildHasher> {
+    members: IndexMap<LS, M, S>,
+}
+
+impl<LS: Eq + Hash, M, S: BuildHasher + Default> FamilyCore<LS, M, S> {
+    /// No metrics yet, with the hasher to begin with. It takes no memory.
+    pub fn new(alloc: Global) -> FamilyCore<LS, M, S>
+        ensures { result.members.entries ≡ [] }
+    {
+        FamilyCore::with_hasher(alloc, S::default())
+    }
+}
+
+impl<LS: Eq + Hash, M, S: BuildHasher> FamilyCore<LS, M, S> {
+    /// No metrics yet, with this hasher. It takes no memory.
+    pub fn with_hasher(alloc: Global, hasher: S) -> FamilyCore<LS, M, S>
+        ensures { result.members.entries ≡ [] }
+    {
+        FamilyCore {
+            members: IndexMap::with_hasher(alloc, hasher),
+        }
+    }
+
+    /// How many metrics there are. No two of their label sets are equal.
+    pub fn len(&self) -> usize
+        ensures count { result ≡ length self.now.members.entries }
+        ensures different { IsUnique LS.eq self.now.members }
+    {
+        self.members.len()
+    }
+
+    /// Whether there is no metric yet.
+    pub fn is_empty(&self) -> bool
+        ensures { IsTrue result ↔ (self.now.members.entries ≡ []) }
+    {
+        self.members.is_empty()
+    }
+
+    /// The metric of these labels, where there is one.
+    pub fn get(&self, labels: &LS) -> Option<&M>
+        ensures { option_copied result ≡ get LS.eq self.now.members labels.now }
+    {
+        self.members.get(labels)
+    }
+
+    // The metric at a place in the list.
+    pub(crate) fn at(&self, place: usize) -> &M
+        requires { place < length self.now.members.entries }
+        ensures { slice_get (values self.now.members) place ≡ Some result.now }
+    {
+        &self.members[place]
+    }
+}
+
+impl<LS: Clone + Eq + Hash + Drop, M: Drop, S: BuildHasher> FamilyCore<LS, M, S> {
+    // The place of the metric of these labels, which the factory makes where there is none.
+    pub(crate) fn place_or_new<MF: MetricFactory<M>>(
+        &mut self,
+        labels: &LS,
+        factory: &MF,
+    ) -> Result<usize, MetricError>
+        requires ready { get LS.eq self.old.members labels.now ≡ None → MF.is_ready factory.now }
+        requires clones { ClonesEqual LS.is_clone LS.eq }
+        ensures gets { GetsOrAdds LS.eq (MF.promises factory.now) labels.now self.old.members.entries self.new.members.entries (HoldsMetric self.new.members.entries) result }
+        ensures within { IfOk result (λ i. i < length self.new.members.entries) }
+        ensures different { IsUnique LS.eq self.new.members }
+    {
+        if let Some(place) = self.members.get_index_of(labels) {
+            return Ok(place);
+        }
+        let metric = factory.new_metric()?;
+        let place = self.members.len();
+        let key = labels.clone()?;
+        self.members.insert(key, metric)?;
+        Ok(place)
+    }
+
+    /// The metric of these labels. Where there is none, the factory makes one, which stands behind the others.
+    ///
+    /// The factory is called only where there is none; its refusal is handed on. It may find no memory then. After a refusal the
+    /// metrics are those that were there. Clones of label sets have to equal them.
+    pub fn get_or_new<MF: MetricFactory<M>>(
+        &mut self,
+        labels: &LS,
+        factory: &MF,
+    ) -> Result<&M, MetricError>
+        requires ready { get LS.eq self.old.members labels.now ≡ None → MF.is_ready factory.now }
+        requires clones { ClonesEqual LS.is_clone LS.eq }
+        ensures* gets { sem 𝓛 (ends_with_member LS.row M.row S.row S.Hasher.row LS.Hash S.BuildHasher S.Hasher.Hasher self.entry labels.now (MF.promises factory.now) result) }
+        ensures there { IsSome (get LS.eq self.old.members labels.now) → IsOk result }
+    {
+        match self.place_or_new(labels, factory) {
+            Ok(place) => Ok(self.at(place)),
+            Err(refusal) => Err(refusal),
+        }
+    }
+}
+
+impl<LS: EncodeLabelSet + Eq + Hash, M: EncodePoint, S: BuildHasher> FamilyCore<LS, M, S> {
+    /// Offers each metric's points under its labels, in order, up to the first that is refused. It waits where a metric stands
+    /// under a lock.
+    pub fn encode_members(&self, encoder: &mut MetricEncoder) -> Result<(), EncodeError>
+        ensures offered { HandsMembers (OffersFirst LS.labels M.points self.now.members.entries)
+            (Any (MayFault LS.may_fault M.may_fault) self.now.members.entries) encoder.old encoder.new result }
+        ensures all { encoder.old.refused ≡ None → encoder.new.refused ≡ None → result ≡ Ok tt
+            → (ms : List Member) × OffersOf LS.labels M.points self.now.members.entries ms × MembersClean encoder.old.context ms
+            × (encoder.new.samples ≡ encoder.old.samples ++ members_samples encoder.old.context ms) }
+        ensures different { IsUnique LS.eq self.now.members }
+    {
+        for member in &self.members {
+            encoder.encode(member.0, member.1)?;
+        }
+        Ok(())
+    }
+}
