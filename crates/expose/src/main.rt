@@ -1,6 +1,7 @@
 //! `expose SCENE` prints the document of a scene.
 #![tactic(auto)]
 
+mod calls;
 mod histogram;
 mod output;
 mod scene;
@@ -8,7 +9,9 @@ mod states;
 mod tally;
 #[cfg(test)]
 mod tests;
+mod tree;
 
+use calls::{all_accepted, one_metric};
 use fastmetrics::registry::Registry;
 use histogram::numbers_histogram;
 use output::{Fault, finish};
@@ -20,35 +23,44 @@ use std::env::Env;
 use std::io::ErrorKind;
 use std::process::ExitCode;
 use tally::jobs_counter;
+use tree::{application, application_metrics, production};
 
 fn main(rt: HostRuntime) -> ExitCode {
     let alloc = rt.alloc();
-    let mut registry = Registry::default();
-    let made = match scene_of_words(&rt) {
-        Ok(Scene::Empty) => Ok(()),
+    let scene = scene_of_words(&rt);
+    let calls = match scene {
+        Ok(Scene::Empty) => Ok(Vec::new(alloc)),
         Ok(Scene::Tally) => match jobs_counter(alloc) {
-            Ok((name, help, jobs)) => registry
-                .register(alloc, name, help, jobs)
-                .map_err(Fault::of_registry),
+            Ok((name, help, jobs)) => one_metric(alloc, name, help, jobs),
             Err(fault) => Err(fault),
         },
         Ok(Scene::Histogram) => match numbers_histogram(rt, alloc) {
-            Ok((name, help, numbers)) => registry
-                .register(alloc, name, help, numbers)
-                .map_err(Fault::of_registry),
+            Ok((name, help, numbers)) => one_metric(alloc, name, help, numbers),
             Err(fault) => Err(fault),
         },
         Ok(Scene::States) => match running_task(alloc) {
-            Ok((name, help, task)) => registry
-                .register(alloc, name, help, task)
-                .map_err(Fault::of_registry),
+            Ok((name, help, task)) => one_metric(alloc, name, help, task),
+            Err(fault) => Err(fault),
+        },
+        Ok(Scene::Tree) => match application_metrics(rt, rt, alloc) {
+            Ok((requests, by_kind, queries)) => application(alloc, requests, by_kind, queries),
             Err(fault) => Err(fault),
         },
         Err(fault) => Err(fault),
     };
-    let made = match made {
-        Ok(()) => Ok(registry),
-        Err(fault) => Err(fault),
+    let root = match scene {
+        Ok(Scene::Tree) => production(alloc),
+        _ => Ok(Registry::builder()),
+    };
+    let made = match (root, calls) {
+        (Ok(root), Ok(calls)) => match root.build() {
+            Ok(mut registry) => match all_accepted(registry.run(alloc, calls)) {
+                Ok(()) => Ok(registry),
+                Err(fault) => Err(fault),
+            },
+            Err(error) => Err(Fault::of_registry(error)),
+        },
+        (Err(fault), _) | (_, Err(fault)) => Err(fault),
     };
     let status = finish(alloc, made, &mut rt.stdout(), &mut rt.stderr());
     ExitCode::from(status)

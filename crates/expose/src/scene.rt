@@ -13,6 +13,8 @@ pub enum Scene {
     Histogram,
     /// A state set.
     States,
+    /// A tree of metrics.
+    Tree,
 }
 
 /// The scene that just one word names.
@@ -24,6 +26,7 @@ pub fn choose(words: &[String]) -> Option<Scene>
         [word] if word.as_str() == "tally" => Some(Scene::Tally),
         [word] if word.as_str() == "histogram" => Some(Scene::Histogram),
         [word] if word.as_str() == "states" => Some(Scene::States),
+        [word] if word.as_str() == "tree" => Some(Scene::Tree),
         _ => None,
     }
 }

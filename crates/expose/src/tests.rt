@@ -1,9 +1,11 @@
 //! What the program prints for each scene, and for faults.
+use crate::calls::all_accepted;
 use crate::histogram::numbers_histogram;
 use crate::output::{Fault, finish};
 use crate::scene::{Scene, choose};
 use crate::states::running_task;
 use crate::tally::jobs_counter;
+use crate::tree::{application, application_metrics, production};
 use fastmetrics::raw::MetricError;
 use fastmetrics::raw::bucket::BucketError;
 use fastmetrics::registry::{Registry, RegistryError};
@@ -40,6 +42,19 @@ my_stateset{my_stateset=\"failed\"} 0
 # EOF
 ";
 
+const APPLICATION: &str = "\
+# TYPE myapp_requests counter
+# HELP myapp_requests Total requests processed
+myapp_requests_total{env=\"prod\"} 1
+# TYPE myapp_http_requests counter
+# HELP myapp_http_requests Total HTTP requests
+myapp_http_requests_total{env=\"prod\",method=\"Get\",status=\"200\"} 1
+# TYPE myapp_database_mysql_queries counter
+# HELP myapp_database_mysql_queries Total MySQL queries
+myapp_database_mysql_queries_total{env=\"prod\",engine=\"innodb\"} 7
+# EOF
+";
+
 #[test]
 fn words_name_scenes(rt: HostRuntime) -> Result<(), Fail> {
     let alloc = rt.alloc();
@@ -48,6 +63,7 @@ fn words_name_scenes(rt: HostRuntime) -> Result<(), Fail> {
         ("tally", Some(Scene::Tally)),
         ("histogram", Some(Scene::Histogram)),
         ("states", Some(Scene::States)),
+        ("tree", Some(Scene::Tree)),
         ("", None),
         ("Tally", None),
         ("tally ", None),
@@ -149,5 +165,38 @@ fn states_scene(rt: HostRuntime) -> Result<(), Fail> {
     let mut errors = Vec::new(alloc);
     assert_eq!(rt; finish(alloc, Ok(registry), &mut out, &mut errors), 0);
     assert_eq!(rt; out.as_slice(), TASK.as_bytes());
+    Ok(())
+}
+
+#[test]
+fn tree_scene(rt: HostRuntime) -> Result<(), Fail> {
+    let alloc = rt.alloc();
+    let (Ok(root), Ok((requests, by_kind, queries))) =
+        (production(alloc), application_metrics(rt, rt, alloc))
+    else {
+        return Err(Fail::new("no application"));
+    };
+    let Ok(calls) = application(alloc, requests, by_kind, queries) else {
+        return Err(Fail::new("no calls"));
+    };
+    let mut registry = root.build()?;
+    assert_eq!(rt; all_accepted(registry.run(alloc, calls)), Ok(()));
+    let mut out = Vec::new(alloc);
+    let mut errors = Vec::new(alloc);
+    assert_eq!(rt; finish(alloc, Ok(registry), &mut out, &mut errors), 0);
+    assert_eq!(rt; out.as_slice(), APPLICATION.as_bytes());
+    Ok(())
+}
+
+#[test]
+fn refused_calls_are_said(rt: HostRuntime) -> Result<(), Fail> {
+    let mut replies = Vec::new(rt.alloc());
+    replies.push(Ok(()))?;
+    replies.push(Err(RegistryError::Memory))?;
+    assert_eq!(rt; all_accepted(Ok(replies)), Err(Fault::no_memory()));
+    assert_eq!(rt;
+        all_accepted(Err(RegistryError::Memory)),
+        Err(Fault::no_memory())
+    );
     Ok(())
 }

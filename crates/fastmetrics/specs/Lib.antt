@@ -37,3 +37,4 @@ pub use Rattle.fm_bucket.specs.Bounds
 pub use Rattle.fm_histogram.specs.Histogram
 pub use Rattle.fm_histogram.specs.Shown
 pub use Rattle.fm_histogram.specs.Shared
+pub use Rattle.fm_family.specs.Members

@@ -1,7 +1,7 @@
 //! fastmetrics, an OpenMetrics client library: metrics that instrumented programs count and observe with, registries
 //! that hold them, and the text that a scraper such as Prometheus reads.
 //!
-//! - [`metrics`]: counters, gauges, histograms, unknowns, infos, state sets, tallies.
+//! - [`metrics`]: counters, gauges, histograms, unknowns, infos, state sets, families of them, tallies.
 //! - [`registry`]: registries of metrics, with their subsystems.
 //! - [`format`]: `format::text::encode` writes a registry's document.
 //! - [`encoder`]: what metrics, points and labels of your own implement.
@@ -25,6 +25,11 @@ pub mod metrics {
         //! Gauges: numbers that rise and fall.
         pub use fm_handles::gauge::Gauge;
         pub use fm_metrics::gauge::ConstGauge;
+    }
+
+    pub mod family {
+        //! Families: metrics of one type by label set.
+        pub use fm_family::{DefaultFactory, Family, FamilyCore, MetricFactory};
     }
 
     pub mod histogram {
