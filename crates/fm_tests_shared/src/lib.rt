@@ -3,3 +3,6 @@
 
 #[cfg(test)]
 mod handles;
+#[cfg(test)]
+mod histograms;
+pub mod own_buckets;
