@@ -5,4 +5,6 @@
 mod handles;
 #[cfg(test)]
 mod histograms;
+#[cfg(test)]
+mod memory;
 pub mod own_buckets;
