@@ -1,5 +1,6 @@
 #!/usr/bin/env bash
-# Refuses the requests for memory of the stories in crates/fm_tests/src/memory.rt, one request a run.
+# Refuses the requests for memory of the stories in src/memory.rt of crates/fm_tests and crates/fm_tests_shared, one request
+# a run.
 #
 #   scripts/refuse_allocations.sh [FROM [TO]]
 #
@@ -10,26 +11,35 @@ set -u
 
 from=${1:-1}
 to=${2:-1000}
-cd "$(dirname "$0")/../crates/fm_tests" || exit 2
+crates=$(cd "$(dirname "$0")/../crates" && pwd) || exit 2
+
+# Runs the stories of a crate, one request after the other.
+refuse() {
+    local crate=$1 request story said line met
+    shift
+    cd "$crates/$crate" || exit 2
+    for ((request = from; request <= to; request++)); do
+        said=$(rt try --test --fail-alloc "$request" -- memory:: 2>&1)
+        line="$crate $request:"
+        met=0
+        for story in "$@"; do
+            if ! grep -q "^test memory::${story}_after_a_refusal \.\.\. ok" <<<"$said"; then
+                line+=" $story FAILED"
+                failed=1
+            elif grep -q "^test memory::${story}_without_refusals \.\.\. ok" <<<"$said"; then
+                line+=" $story ok, nothing refused"
+            else
+                line+=" $story ok"
+                met=1
+            fi
+        done
+        echo "$line"
+        [[ $line == *FAILED* ]] && printf '%s\n' "$said"
+        [[ $met == 0 && $line != *FAILED* ]] && break
+    done
+}
 
 failed=0
-for ((request = from; request <= to; request++)); do
-    said=$(rt try --test --fail-alloc "$request" -- memory:: 2>&1)
-    line="$request:"
-    met=0
-    for story in encodes runs; do
-        if ! grep -q "^test memory::${story}_after_a_refusal \.\.\. ok" <<<"$said"; then
-            line+=" $story FAILED"
-            failed=1
-        elif grep -q "^test memory::${story}_without_refusals \.\.\. ok" <<<"$said"; then
-            line+=" $story ok, nothing refused"
-        else
-            line+=" $story ok"
-            met=1
-        fi
-    done
-    echo "$line"
-    [[ $line == *FAILED* ]] && printf '%s\n' "$said"
-    [[ $met == 0 && $line != *FAILED* ]] && break
-done
+refuse fm_tests encodes runs
+refuse fm_tests_shared histograms snapshots defaults
 exit "$failed"

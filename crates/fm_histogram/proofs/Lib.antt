@@ -4,3 +4,4 @@ pub mod MergeLemmas
 pub mod EmptyLemmas
 pub mod BoundLemmas
 pub mod ShownLemmas
+pub mod TakenLemmas

@@ -1,5 +1,5 @@
 -- The histogram of a list of values: how many of them lie in each interval between bounds, how many there are, and their sum.
-use Rattle.std.specs.Prelude.{ℕ, ◌+◌, Bool, true, not, ◌&&◌, ◌||◌, ◌≡◌, ℤ, pos, neg_ℤ, ◌+ℤ◌, ◌≤ℤ◌, ◌*◌, ◌^◌, List, [], ◌∷◌, Option, Some, None, length, count_by, filter, map, Contains, ◌↔◌, int_lt, suc, if◌then◌else◌}
+use Rattle.std.specs.Prelude.{ℕ, ◌+◌, Bool, true, not, ◌&&◌, ◌||◌, ◌≡◌, ℤ, pos, neg_ℤ, ◌+ℤ◌, ◌≤ℤ◌, ◌<◌, ◌*◌, ◌^◌, List, [], ◌∷◌, Option, Some, None, length, count_by, filter, map, All, Contains, ◌↔◌, int_lt, suc, if◌then◌else◌}
 use Rattle.fm_bucket.specs.BoundTests.{lies_below}
 use Rattle.fm_bucket.specs.declared.bound.Bound.{Bound}
 use Rattle.fm_bucket.specs.declared.bound.Bound.TheVariants.{Finite, Inf}
@@ -58,11 +58,16 @@ takes_all x = true
 abbrev pub IsHistogram : (ℤ → Bool) → List ℤ → List ℤ → Histogram → Type 0
 IsHistogram taken bounds xs s = IsCounts bounds (filter taken xs) s
 
--- it counts some values by bounds that rise
-abbrev pub CountsSome : Histogram → Type 0
-CountsSome s = (bounds : List ℤ) × (values : List ℤ) × IsCounts bounds values s
+-- it counts some values by bounds that rise: fewer than 2^64 values, which are all taken, as the bounds are
+pub record CountsTaken (taken : ℤ → Bool) (s : Histogram) : Type 0 where
+  pub bounds : List ℤ
+  pub values : List ℤ
+  pub is : IsCounts bounds values s
+  pub bounds_taken : All (λ x. taken x ≡ true) bounds
+  pub values_taken : All (λ x. taken x ≡ true) values
+  pub few : s.count < 2 ^ 64
 
--- what each snapshot is: the histogram of some values of 64 bits
+-- what counts are: the histogram of some values of 64 bits
 pub record IsOfSome (s : Histogram) : Type 0 where
   pub bounds : List ℤ
   pub values : List ℤ

@@ -2,7 +2,7 @@
 ghost use Rattle.std.specs.Prelude.{◌≡◌, ℕ, ℤ, pos, true, ◌+◌, ◌^◌, ◌<◌, ◌≤◌, ◌↔◌, List, [], ◌∷◌, ◌++◌, None, Err, IfOk, IfErr, OnOk, OnErr, length, ◌⊎◌, ◌≢◌, IsTrue, slice_index_or, slice_set};
 ghost use Rattle.fm_raw.specs.declared.error.MetricError.TheVariants.{Memory, CountFull, UnequalBounds};
 ghost use Rattle.fm_bucket.specs.declared.bound.Bucket.{Bucket as OneBucket};
-ghost use Rattle.fm_histogram.specs.Histogram.{IsCounts, CountsSome, rises, upper_bounds, one_more, merged, merged_buckets};
+ghost use Rattle.fm_histogram.specs.Histogram.{IsCounts, rises, upper_bounds, one_more, merged, merged_buckets};
 
 use crate::place::place_of;
 use fm_bucket::{Bound, Bucket};
@@ -48,13 +48,6 @@ impl Counts {
         })
     }
 
-    // Counts are those of some values.
-    pub(crate) fn counts_some(&self)
-        ensures { CountsSome self.now }
-    {
-        let _ = &self.buckets;
-    }
-
     pub(crate) fn allocator(&self) -> Global {
         *self.buckets.allocator()
     }
@@ -83,6 +76,7 @@ impl Counts {
         ensures full { (result ≡ Err CountFull) ↔ (self.old.count + 1 ≡ 2 ^ 64) }
         ensures only_full { IfErr result (λ e. e ≡ CountFull) }
         ensures count { OnOk result (self.new.count ≡ self.old.count + 1) }
+        ensures few { OnOk result (self.new.count < 2 ^ 64) }
         ensures kept { OnErr result (self.new ≡ self.old) }
     {
         let Some(count) = self.count.checked_add(1) else {
@@ -98,6 +92,8 @@ impl Counts {
     // Adds what the other counts, where it has the same bounds.
     pub(crate) fn merge(&mut self, other: &Counts) -> Result<(), MetricError>
         ensures merged { OnOk result (self.new ≡ merged self.old other.now) }
+        ensures same { OnOk result (upper_bounds self.old.buckets ≡ upper_bounds other.now.buckets) }
+        ensures few { OnOk result (self.new.count < 2 ^ 64) }
         ensures unequal { (result ≡ Err UnequalBounds) ↔ (upper_bounds self.old.buckets ≢ upper_bounds other.now.buckets) }
         ensures full { (result ≡ Err CountFull) ↔ ((upper_bounds self.old.buckets ≡ upper_bounds other.now.buckets) × (2 ^ 64 ≤ self.old.count + other.now.count)) }
         ensures only { IfErr result (λ e. (e ≡ UnequalBounds) ⊎ (e ≡ CountFull)) }

@@ -7,7 +7,7 @@ ghost use Rattle.std.specs.Fn.{FnOnceReturnsAt};
 ghost use Rattle.fm_grammar.specs.declared.MetricType.TheVariants.{Histogram as HistogramType};
 ghost use Rattle.fm_raw.specs.declared.error.MetricError.TheVariants.{Memory, CountFull};
 ghost use Rattle.fm_encoder.specs.Points.{millis};
-ghost use Rattle.fm_histogram.specs.Histogram.{Histogram as Counted, CountsSome, IsHistogram, is_taken};
+ghost use Rattle.fm_histogram.specs.Histogram.{Histogram as Counted, CountsTaken, IsHistogram, is_taken};
 ghost use Rattle.fm_bucket.specs.Bounds.{default_bounds};
 ghost use Rattle.fm_histogram.specs.Shown.{point_of, member_of};
 ghost use Rattle.fm_histogram.specs.Shared.{created_of};
@@ -150,14 +150,14 @@ impl<H: Wait> TypedMetric for Histogram<H> {
     const TYPE: MetricType = MetricType::Histogram;
 }
 
-/// What was counted so far: some histogram.
+/// What was counted so far: the histogram of some values, none of which is negative, by bounds of which none is.
 impl<H: Wait> EncodePoint for Histogram<H> {
-    ghost points = { λ h ps. (s : Counted) × CountsSome s × (ps ≡ point_of s (option_map millis (created_of h)) ∷ []) };
+    ghost points = { λ h ps. (s : Counted) × CountsTaken is_taken s × (ps ≡ point_of s (option_map millis (created_of h)) ∷ []) };
 
     fn encode(&self, points: &mut PointEncoder) -> Result<(), EncodeError> {
         let guard = self.locked.snapshot.lock(&self.wait);
         let snapshot: &HistogramSnapshot = &guard;
-        snapshot.counts_some();
+        snapshot.counts_taken();
         encode_snapshot(snapshot, self.locked.created, points)
     }
 }
@@ -165,7 +165,7 @@ impl<H: Wait> EncodePoint for Histogram<H> {
 impl<H: Wait + Send + Sync + Drop> EncodeMetric for Histogram<H> {
     ghost types = { λ _ t. t ≡ HistogramType };
 
-    ghost offers = { λ h ms. (s : Counted) × CountsSome s × (ms ≡ member_of s (option_map millis (created_of h)) ∷ []) };
+    ghost offers = { λ h ms. (s : Counted) × CountsTaken is_taken s × (ms ≡ member_of s (option_map millis (created_of h)) ∷ []) };
 
     fn encode(&self, encoder: &mut MetricEncoder) -> Result<(), EncodeError> {
         encoder.encode(&(), self)

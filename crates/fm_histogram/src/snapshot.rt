@@ -3,7 +3,7 @@ ghost use Rattle.std.specs.Prelude.{◌≡◌, ℤ, ◌+◌, ◌^◌, ◌≤◌,
 ghost use Rattle.std.specs.Iterator.{IsFinite, Drains};
 ghost use Rattle.fm_raw.specs.declared.error.MetricError.TheVariants.{Memory, CountFull, UnequalBounds};
 ghost use Rattle.fm_bucket.specs.Bounds.{default_bounds};
-ghost use Rattle.fm_histogram.specs.Histogram.{IsHistogram, CountsSome, IsBoundsOf, is_taken, takes_all, upper_bounds, merged};
+ghost use Rattle.fm_histogram.specs.Histogram.{IsHistogram, CountsTaken, IsBoundsOf, is_taken, takes_all, upper_bounds, merged};
 
 use crate::counts::Counts;
 use crate::rising::rising_bounds;
@@ -20,11 +20,13 @@ pub struct HistogramSnapshot {
 }
 
 impl Model for HistogramSnapshot {
-    ghost use Rattle.fm_histogram.specs.Histogram.{Histogram};
+    ghost use Rattle.fm_histogram.specs.Histogram.{Histogram, CountsTaken, is_taken};
 
     ghost Value = { Histogram };
 
     ghost view = { λ s. s.counts };
+
+    ghost invariant = { λ s. CountsTaken is_taken s.counts };
 }
 
 impl HistogramSnapshot {
@@ -74,11 +76,11 @@ impl HistogramSnapshot {
         FixedSum::from_millionths(self.counts.sum())
     }
 
-    // Each snapshot counts some values.
-    pub(crate) fn counts_some(&self)
-        ensures { CountsSome self.now }
+    // Each snapshot counts some values, none of them negative.
+    pub(crate) fn counts_taken(&self)
+        ensures { CountsTaken is_taken self.now }
     {
-        self.counts.counts_some();
+        let _ = &self.counts;
     }
 
     pub(crate) fn allocator(&self) -> Global {
@@ -122,11 +124,13 @@ pub struct GaugeHistogramSnapshot {
 }
 
 impl Model for GaugeHistogramSnapshot {
-    ghost use Rattle.fm_histogram.specs.Histogram.{Histogram};
+    ghost use Rattle.fm_histogram.specs.Histogram.{Histogram, CountsTaken, takes_all};
 
     ghost Value = { Histogram };
 
     ghost view = { λ s. s.counts };
+
+    ghost invariant = { λ s. CountsTaken takes_all s.counts };
 }
 
 impl GaugeHistogramSnapshot {

@@ -5,7 +5,7 @@
 ghost use Rattle.std.specs.Prelude.{IfOk};
 ghost use Rattle.fm_registry.specs.HasBook.{HasBook};
 
-use crate::support::document_of;
+use crate::support::{Patience, document_of};
 use crate::trees::{build_below, gauge, have_numbers, labels, register_below, six_calls};
 use fastmetrics::encoder::EncodeMetric;
 use fastmetrics::format::text::{EncodeError, Exposition, collect, encode, encode_exposition};
@@ -27,23 +27,6 @@ const ALL: &[u8] =
     b"before\n# TYPE myapp_up_bytes gauge\n# HELP myapp_up_bytes H\n# UNIT myapp_up_bytes bytes\n\
     myapp_up_bytes{env=\"prod\"} 1\n# TYPE myapp_db_size gauge\n# HELP myapp_db_size H\n\
     myapp_db_size{env=\"prod\",k=\"v\"} 7\n# EOF\n";
-
-// How many refusals a story still bears.
-#[derive(Drop)]
-struct Patience {
-    refusals: u32,
-}
-
-impl Patience {
-    // Bears a refusal.
-    fn bear(&mut self) -> Result<(), Fail> {
-        if self.refusals == 0 {
-            return Err(Fail::new("refused"));
-        }
-        self.refusals -= 1;
-        Ok(())
-    }
-}
 
 // The document is this one.
 fn expect_document(alloc: Global, registry: &Registry, document: &str) -> Result<(), Fail>
@@ -207,7 +190,7 @@ fn roomy_writer(alloc: Global, patience: &mut Patience) -> Result<Vec<u8>, Fail>
 
 // Builds a tree and encodes it.
 fn build_and_encode(alloc: Global, refusals: u32) -> Result<(), Fail> {
-    let mut patience = Patience { refusals };
+    let mut patience = Patience::new(refusals);
     let registry = built(alloc, &mut patience)?;
     let mut writer = roomy_writer(alloc, &mut patience)?;
     if let Err(error) = encode(alloc, &mut writer, &registry) {
@@ -311,7 +294,7 @@ fn run_calls(
 
 // Makes six calls, collects, and writes what was collected.
 fn run_and_write(alloc: Global, refusals: u32) -> Result<(), Fail> {
-    let mut patience = Patience { refusals };
+    let mut patience = Patience::new(refusals);
     let mut registry = patient_root(alloc, &mut patience, &[])?;
     let calls = patient_calls(alloc, &mut patience)?;
     let spare = patient_calls(alloc, &mut patience)?;

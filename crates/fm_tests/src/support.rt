@@ -1,4 +1,4 @@
-//! What the tests share: writers that stop, and documents of registries.
+//! What the tests share: writers that stop, patience with refused memory, and documents of registries.
 ghost use Rattle.fm_registry.specs.HasBook.{HasBook};
 
 use fastmetrics::encoder::EncodeMetric;
@@ -43,6 +43,27 @@ impl Write for Stopping {
     }
 
     fn flush(&mut self) -> io::Result<()> {
+        Ok(())
+    }
+}
+
+/// How many refusals of memory a story still bears.
+#[derive(Drop)]
+pub struct Patience {
+    refusals: u32,
+}
+
+impl Patience {
+    pub fn new(refusals: u32) -> Patience {
+        Patience { refusals }
+    }
+
+    /// Bears a refusal.
+    pub fn bear(&mut self) -> Result<(), Fail> {
+        if self.refusals == 0 {
+            return Err(Fail::new("refused"));
+        }
+        self.refusals -= 1;
         Ok(())
     }
 }

@@ -3,3 +3,8 @@
 
 #[cfg(test)]
 mod handles;
+#[cfg(test)]
+mod histograms;
+#[cfg(test)]
+mod memory;
+pub mod own_buckets;
