@@ -17,7 +17,7 @@ for ((request = from; request <= to; request++)); do
     said=$(rt try --test --fail-alloc "$request" -- memory:: 2>&1)
     line="$request:"
     met=0
-    for story in encodes runs; do
+    for story in encodes runs writes; do
         if ! grep -q "^test memory::${story}_after_a_refusal \.\.\. ok" <<<"$said"; then
             line+=" $story FAILED"
             failed=1

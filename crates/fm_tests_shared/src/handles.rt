@@ -1,9 +1,9 @@
 //! Counters and gauges that clones and threads share, by their values and by their documents.
 
+use fm_tests::support::document_alone;
 use fastmetrics::metrics::counter::Counter;
 use fastmetrics::metrics::gauge::Gauge;
 use fastmetrics::raw::{Fixed, MetricError, TryDefault};
-use fm_tests::support::document_alone;
 use std::test::Fail;
 use std::thread;
 
