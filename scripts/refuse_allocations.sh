@@ -1,5 +1,5 @@
 #!/usr/bin/env bash
-# Refuses the requests for memory of the stories in crates/fm_tests/src/memory.rt, one request a run.
+# Refuses the requests for memory of the stories in crates/fm_tests/src/memory.rt and below, one request a run.
 #
 #   scripts/refuse_allocations.sh [FROM [TO]]
 #
@@ -17,7 +17,7 @@ for ((request = from; request <= to; request++)); do
     said=$(rt try --test --fail-alloc "$request" -- memory:: 2>&1)
     line="$request:"
     met=0
-    for story in encodes runs writes; do
+    for story in encodes runs writes lines::prints; do
         if ! grep -q "^test memory::${story}_after_a_refusal \.\.\. ok" <<<"$said"; then
             line+=" $story FAILED"
             failed=1

@@ -15,6 +15,8 @@ use fastmetrics::registry::{Registry, RegistryCall, RegistryError};
 use std::alloc::{AllocError, Global};
 use std::test::Fail;
 
+mod lines;
+
 const BEFORE: &[u8] = b"before\n";
 
 const NOTHING: &str = "# EOF\n";
