@@ -1,6 +1,6 @@
 #!/usr/bin/env bash
-# Refuses the requests for memory of the stories in src/memory.rt of crates/fm_tests and crates/fm_tests_shared, one request
-# a run.
+# Refuses the requests for memory of the stories in src/memory.rt and below, of crates/fm_tests and crates/fm_tests_shared, one
+# request a run.
 #
 #   scripts/refuse_allocations.sh [FROM [TO]]
 #
@@ -40,6 +40,6 @@ refuse() {
 }
 
 failed=0
-refuse fm_tests encodes runs
+refuse fm_tests encodes runs writes lines::prints
 refuse fm_tests_shared histograms snapshots defaults
 exit "$failed"

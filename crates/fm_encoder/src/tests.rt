@@ -1,7 +1,9 @@
-//! Labels whose texts are lent or owned.
+//! Labels whose texts are lent or owned, and the order of a name's tests.
 use crate::label::LabelSetEncoder;
 use crate::label_set::EncodeLabelSet;
+use crate::label_value::LabelStr;
 use fm_grammar::MetricType;
+use fm_text::EncodeError;
 use std::borrow::CowStr;
 use std::test::Fail;
 
@@ -29,5 +31,22 @@ fn lent_and_owned_texts(rt: HostRuntime) -> Result<(), Fail> {
         (labels[1].0.as_str(), labels[1].1.as_str()),
         ("code", "200")
     );
+    Ok(())
+}
+
+#[test]
+fn reserved_before_duplicate(rt: HostRuntime) -> Result<(), Fail> {
+    let alloc = rt.alloc();
+    for (metric_type, error) in [
+        (MetricType::Histogram, EncodeError::ReservedLabel),
+        (MetricType::GaugeHistogram, EncodeError::ReservedLabel),
+        (MetricType::Gauge, EncodeError::DuplicateLabel),
+    ] {
+        let name = String::from_str(alloc, "le")?;
+        let value = String::from_str(alloc, "1")?;
+        let before = vec![in alloc; (name, value)]?;
+        let mut encoder = LabelSetEncoder::behind(alloc, metric_type, before);
+        assert_eq!(rt; encoder.encode(&(LabelStr("le"), 1u64)), Err(error));
+    }
     Ok(())
 }

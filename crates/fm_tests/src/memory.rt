@@ -10,10 +10,12 @@ use crate::trees::{build_below, gauge, have_numbers, labels, register_below, six
 use fastmetrics::encoder::EncodeMetric;
 use fastmetrics::format::text::{EncodeError, Exposition, collect, encode, encode_exposition};
 use fastmetrics::metrics::gauge::ConstGauge;
-use fastmetrics::raw::Unit;
+use fastmetrics::raw::{Fixed, FixedSum, MetricError, Unit};
 use fastmetrics::registry::{Registry, RegistryCall, RegistryError};
 use std::alloc::{AllocError, Global};
 use std::test::Fail;
+
+mod lines;
 
 const BEFORE: &[u8] = b"before\n";
 
@@ -323,4 +325,55 @@ fn runs_without_refusals(rt: HostRuntime) -> Result<(), Fail> {
 #[test]
 fn runs_after_a_refusal(rt: HostRuntime) -> Result<(), Fail> {
     run_and_write(rt.alloc(), 1)
+}
+
+// A text of one letter.
+fn patient_letter(alloc: Global, patience: &mut Patience) -> Result<String, Fail> {
+    match String::from_str(alloc, "x") {
+        Ok(text) => Ok(text),
+        Err(_) => {
+            patience.bear()?;
+            Ok(String::from_str(alloc, "x")?)
+        }
+    }
+}
+
+// Bears a refusal that left the letter alone.
+fn bear_unwritten(patience: &mut Patience, error: MetricError, text: &String) -> Result<(), Fail> {
+    patience.bear()?;
+    if error != MetricError::Memory || text.as_str() != "x" {
+        return Err(Fail::new("a refusal changed the text"));
+    }
+    Ok(())
+}
+
+// Appends one and a half to a letter, as both types of numbers.
+fn write_numbers(alloc: Global, refusals: u32) -> Result<(), Fail> {
+    let mut patience = Patience { refusals };
+    let number = Fixed::from_millionths(1500000);
+    let mut text = patient_letter(alloc, &mut patience)?;
+    if let Err(error) = number.write_text(&mut text) {
+        bear_unwritten(&mut patience, error, &text)?;
+        number.write_text(&mut text)?;
+    }
+    let sum = FixedSum::from_millionths(1500000);
+    let mut other = patient_letter(alloc, &mut patience)?;
+    if let Err(error) = sum.write_text(&mut other) {
+        bear_unwritten(&mut patience, error, &other)?;
+        sum.write_text(&mut other)?;
+    }
+    if text.as_str() != "x1.5" || other.as_str() != "x1.5" {
+        return Err(Fail::new("another text"));
+    }
+    Ok(())
+}
+
+#[test]
+fn writes_without_refusals(rt: HostRuntime) -> Result<(), Fail> {
+    write_numbers(rt.alloc(), 0)
+}
+
+#[test]
+fn writes_after_a_refusal(rt: HostRuntime) -> Result<(), Fail> {
+    write_numbers(rt.alloc(), 1)
 }

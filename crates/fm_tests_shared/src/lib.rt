@@ -6,5 +6,7 @@ mod handles;
 #[cfg(test)]
 mod histograms;
 #[cfg(test)]
+mod liars;
+#[cfg(test)]
 mod memory;
 pub mod own_buckets;
