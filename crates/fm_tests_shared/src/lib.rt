@@ -3,3 +3,5 @@
 
 #[cfg(test)]
 mod handles;
+#[cfg(test)]
+mod states;
