@@ -4,4 +4,6 @@
 #[cfg(test)]
 mod handles;
 #[cfg(test)]
+mod refused_handles;
+#[cfg(test)]
 mod states;

@@ -1,5 +1,5 @@
 //! State sets, information and metrics of no known type, from a registration to the text.
-ghost use Rattle.std.specs.Prelude.{[], ◌∷◌, codes, replicate};
+ghost use Rattle.std.specs.Prelude.{◌≡◌, [], ◌∷◌, codes, replicate};
 ghost use Rattle.fm_encoder.specs.Labels.{NamePiece, ValuePiece};
 ghost use Rattle.fm_tests_shared.specs.declared.states.Job.TheVariants.{Pending, Running, Completed, Failed};
 
@@ -42,6 +42,14 @@ impl StateSetValue for Job {
             Job::Completed => "completed",
             Job::Failed => "failed",
         }
+    }
+}
+
+impl Default for Job {
+    ghost is_default = { λ job. job ≡ Pending };
+
+    fn default() -> Job {
+        Job::Pending
     }
 }
 
@@ -153,9 +161,7 @@ impl EncodeLabelSet for Version {
 #[test]
 fn information(rt: HostRuntime) -> Result<(), Fail> {
     let alloc = rt.alloc();
-    let version = Version {
-        text: "a\"b\\c\nd",
-    };
+    let version = Version { text: "a\"b\\c\nd" };
     let info = Box::new(alloc, Info::new(version))?;
     assert_eq!(rt;
         document_alone(alloc, "release_version", None, info)?.as_str(),
@@ -220,7 +226,10 @@ fn types_without_units(rt: HostRuntime) -> Result<(), Fail> {
     ] {
         let name = String::from_str(alloc, "ok")?;
         let answer = answer_with_unit(alloc, "ok", metric)?;
-        assert_eq!(rt; answer, Err(RegistryError::MustHaveAnEmptyUnitString { name }));
+        assert_eq!(rt;
+            answer,
+            Err(RegistryError::MustHaveAnEmptyUnitString { name })
+        );
     }
     Ok(())
 }
@@ -231,7 +240,10 @@ fn units_of_gauges(rt: HostRuntime) -> Result<(), Fail> {
     let level = Box::new(alloc, Gauge::<i64>::new(alloc, 1)?)?;
     let unit = String::from_str(alloc, "X")?;
     let answer = answer_with_unit(alloc, "ok", level)?;
-    assert_eq!(rt; answer, Err(RegistryError::OtherUnitFormatMustBeLowercase { unit }));
+    assert_eq!(rt;
+        answer,
+        Err(RegistryError::OtherUnitFormatMustBeLowercase { unit })
+    );
     let level = Box::new(alloc, Gauge::<i64>::new(alloc, 1)?)?;
     let unit = Some(Unit::Other(String::from_str(alloc, "1a")?));
     assert_eq!(rt;
