@@ -1,9 +1,10 @@
-//! Counters and gauges that clones and threads share, by their values and by their documents.
+//! Counters and gauges that clones and threads share, by their values and by their documents, and the words that hold them.
 
 use fastmetrics::metrics::counter::Counter;
 use fastmetrics::metrics::gauge::Gauge;
-use fastmetrics::raw::{Fixed, MetricError, TryDefault};
+use fastmetrics::raw::{Atomic, Fixed, MetricError, Number, TryDefault};
 use fm_tests::support::document_alone;
+use std::sync::atomic::{AtomicI32, AtomicI64, AtomicIsize, AtomicU32, AtomicU64, AtomicUsize};
 use std::test::Fail;
 use std::thread;
 use std::time::Duration;
@@ -178,4 +179,25 @@ fn times_of_creation(rt: HostRuntime) -> Result<(), Fail> {
         assert_eq!(rt; document_alone(alloc, "c", None, metric)?.as_str(), want);
     }
     Ok(())
+}
+
+// Whether a word keeps the greater of its value and another, and answers the value before.
+fn keeps_the_greater<N: Number, W: Atomic<N>>(less: N, greater: N) -> bool {
+    let word = W::default();
+    word.set(less);
+    let before = word.raise(greater);
+    let kept = word.raise(less);
+    before == less && kept == greater && word.get() == greater
+}
+
+#[test]
+fn words_keep_the_greater_value(rt: HostRuntime) {
+    assert!(rt; keeps_the_greater::<i32, AtomicI32>(-5, 7));
+    assert!(rt; keeps_the_greater::<i64, AtomicI64>(-5, 7));
+    assert!(rt; keeps_the_greater::<isize, AtomicIsize>(-5, 7));
+    assert!(rt; keeps_the_greater::<u32, AtomicU32>(5, 7));
+    assert!(rt; keeps_the_greater::<u64, AtomicU64>(5, 7));
+    assert!(rt; keeps_the_greater::<usize, AtomicUsize>(5, 7));
+    let (less, greater) = (Fixed::from_millionths(-5), Fixed::ONE);
+    assert!(rt; keeps_the_greater::<Fixed, AtomicI64>(less, greater));
 }
