@@ -1,1 +1,2 @@
 pub mod OwnBuckets
+pub mod Replies

@@ -2,6 +2,8 @@
 #![tactic(auto)]
 
 #[cfg(test)]
+mod families;
+#[cfg(test)]
 mod handles;
 #[cfg(test)]
 mod histograms;
@@ -10,3 +12,8 @@ mod liars;
 #[cfg(test)]
 mod memory;
 pub mod own_buckets;
+#[cfg(test)]
+mod refused_handles;
+pub mod replies;
+#[cfg(test)]
+mod states;

@@ -1,0 +1,14 @@
+-- A last label whose value may be left out.
+use Rattle.std.proofs.Common.{◌⊎◌, inl, inr, List, [], ◌∷◌, Option, None, Some, MatchOption, Result}
+use Rattle.fm_text.specs.declared.error.EncodeError.{EncodeError}
+use Rattle.fm_encoder.specs.Labels.{HandedLabel}
+use Rattle.fm_encoder.specs.Gathered.{GatheredLabels}
+use Rattle.fm_encoder.specs.Hands.{HandsLabels}
+use Rattle.fm_encoder.proofs.LabelsLemmas.{HandsLabels-weaker}
+
+never : {X : Type 0} (o : Option X) → MatchOption o ⊥ (λ _. ⊥) → ⊥
+never None h = h
+never (Some x) h = h
+
+pub optional_label : {X : Type 0} {x : HandedLabel} (o : Option X) (old new : GatheredLabels) (r : Result (Unit {0}) EncodeError) → HandsLabels (x ∷ []) (⊥ ⊎ MatchOption o ⊥ (λ _. ⊥)) old new r → HandsLabels (x ∷ []) ⊥ old new r
+optional_label o old new r a = HandsLabels-weaker old new r (λ h. elim h [ inl x ↦ x | inr x ↦ never o x ]) a

@@ -1,0 +1,159 @@
+//! Families by their documents: members, labels that are left out, histograms, clones and threads.
+use crate::replies::{Method, Outcome, Reply};
+use fastmetrics::metrics::counter::Counter;
+use fastmetrics::metrics::family::{DefaultFactory, Family};
+use fastmetrics::metrics::histogram::Histogram;
+use fastmetrics::raw::bucket::exponential_buckets;
+use fastmetrics::raw::{Fixed, MetricError, TryDefault};
+use fm_tests::support::document_alone;
+use std::alloc::Global;
+use std::hash::{BuildHasherDefault, FoldHasher};
+use std::sync::Wait;
+use std::test::Fail;
+use std::thread;
+
+type Hasher = BuildHasherDefault<FoldHasher>;
+
+type Counters<LS, H> = Family<LS, Counter, DefaultFactory<Counter, H>, Hasher, H>;
+
+fn reply(method: Method, status: u16, error: Option<bool>) -> Reply {
+    Reply {
+        method,
+        status,
+        error,
+    }
+}
+
+// Counts one reply.
+fn count<H: Wait + Clone + Drop>(
+    replies: &Counters<Reply, H>,
+    reply: Reply,
+) -> Result<u64, MetricError> {
+    replies.with_or_new(&reply, |count| count.inc())
+}
+
+#[test]
+fn no_members(rt: HostRuntime) -> Result<(), Fail> {
+    let alloc = rt.alloc();
+    let replies = Counters::<Reply, HostRuntime>::try_default(rt, alloc)?;
+    assert_eq!(rt;
+        document_alone(alloc, "f", None, Box::new(alloc, replies)?)?.as_str(),
+        "# EOF\n"
+    );
+    Ok(())
+}
+
+#[test]
+fn three_members(rt: HostRuntime) -> Result<(), Fail> {
+    let alloc = rt.alloc();
+    let replies = Counters::<Reply, HostRuntime>::try_default(rt, alloc)?;
+    let clone = replies.clone()?;
+    count(&replies, reply(Method::Get, 200, None))?;
+    count(&clone, reply(Method::Get, 404, Some(true)))?;
+    count(&replies, reply(Method::Put, 200, None))?;
+    assert_eq!(rt;
+        document_alone(alloc, "http_requests", None, Box::new(alloc, replies)?)?.as_str(),
+        "# TYPE http_requests counter\n# HELP http_requests H\n\
+         http_requests_total{method=\"GET\",status=\"200\"} 1\n\
+         http_requests_total{method=\"GET\",status=\"404\",error=\"true\"} 1\n\
+         http_requests_total{method=\"PUT\",status=\"200\"} 1\n# EOF\n"
+    );
+    Ok(())
+}
+
+#[test]
+fn members_that_counted_nothing(rt: HostRuntime) -> Result<(), Fail> {
+    let alloc = rt.alloc();
+    let outcomes = Counters::<Outcome, HostRuntime>::try_default(rt, alloc)?;
+    let outcome = Outcome { error: Some(false) };
+    assert_eq!(rt; outcomes.with_or_new(&outcome, |count| count.total())?, 0);
+    assert_eq!(rt;
+        document_alone(alloc, "f", None, Box::new(alloc, outcomes)?)?.as_str(),
+        "# TYPE f counter\n# HELP f H\nf_total{error=\"false\"} 0\n# EOF\n"
+    );
+    Ok(())
+}
+
+#[test]
+fn labels_that_are_left_out(rt: HostRuntime) -> Result<(), Fail> {
+    let alloc = rt.alloc();
+    let outcomes = Counters::<Outcome, HostRuntime>::try_default(rt, alloc)?;
+    outcomes.with_or_new(&Outcome { error: None }, |count| count.inc())?;
+    assert_eq!(rt;
+        document_alone(alloc, "f", None, Box::new(alloc, outcomes)?)?.as_str(),
+        "# TYPE f counter\n# HELP f H\nf_total 1\n# EOF\n"
+    );
+    Ok(())
+}
+
+#[test]
+fn one_metric_a_label_set(rt: HostRuntime) -> Result<(), Fail> {
+    let alloc = rt.alloc();
+    let replies = Counters::<Reply, HostRuntime>::try_default(rt, alloc)?;
+    let found = reply(Method::Get, 200, None);
+    let lost = reply(Method::Get, 404, None);
+    count(&replies, found)?;
+    count(&replies, lost)?;
+    assert_eq!(rt; count(&replies, found)?, 1);
+    assert_eq!(rt; replies.with(&found, |count| count.total()), Some(2));
+    assert_eq!(rt; replies.with(&lost, |count| count.total()), Some(1));
+    assert_eq!(rt;
+        replies.with(&reply(Method::Put, 404, None), |count| count.total()),
+        None
+    );
+    Ok(())
+}
+
+#[test]
+fn histograms_by_labels(rt: HostRuntime) -> Result<(), Fail> {
+    let alloc = rt.alloc();
+    let factory = move || -> Result<Histogram<HostRuntime>, MetricError> {
+        match exponential_buckets(Fixed::from_millionths(5_000), 2, 10) {
+            Ok(bounds) => Histogram::new(rt, alloc, bounds),
+            Err(_) => Err(MetricError::CountFull),
+        }
+    };
+    let seconds =
+        Family::<Outcome, Histogram<HostRuntime>, _, Hasher, HostRuntime>::new(rt, alloc, factory)?;
+    let outcome = Outcome { error: None };
+    let tenth = Fixed::from_millionths(100_000);
+    seconds.with_or_new(&outcome, |seconds| seconds.observe(tenth))??;
+    assert_eq!(rt;
+        document_alone(alloc, "h", None, Box::new(alloc, seconds)?)?.as_str(),
+        "# TYPE h histogram\n# HELP h H\n\
+         h_bucket{le=\"0.005\"} 0\nh_bucket{le=\"0.01\"} 0\nh_bucket{le=\"0.02\"} 0\n\
+         h_bucket{le=\"0.04\"} 0\nh_bucket{le=\"0.08\"} 0\nh_bucket{le=\"0.16\"} 1\n\
+         h_bucket{le=\"0.32\"} 1\nh_bucket{le=\"0.64\"} 1\nh_bucket{le=\"1.28\"} 1\n\
+         h_bucket{le=\"2.56\"} 1\nh_bucket{le=\"+Inf\"} 1\nh_count 1\nh_sum 0.1\n# EOF\n"
+    );
+    Ok(())
+}
+
+// Counts a hundred replies of each of two kinds.
+fn count_hundreds<H: Wait + Clone + Drop>(replies: &Counters<Reply, H>) -> Result<(), MetricError> {
+    for _ in 0..100u8 {
+        count(replies, reply(Method::Get, 200, None))?;
+        count(replies, reply(Method::Put, 200, None))?;
+    }
+    Ok(())
+}
+
+#[test]
+fn four_threads_lose_nothing(rt: HostRuntime) -> Result<(), Fail> {
+    let alloc = rt.alloc();
+    let replies = Counters::<Reply, HostRuntime>::try_default(rt, alloc)?;
+    let ((first, second), (third, fourth)) = thread::join(
+        &rt,
+        || thread::join(&rt, || count_hundreds(&replies), || count_hundreds(&replies)),
+        || thread::join(&rt, || count_hundreds(&replies), || count_hundreds(&replies)),
+    );
+    first?;
+    second?;
+    third?;
+    fourth?;
+    let get = reply(Method::Get, 200, None);
+    let put = reply(Method::Put, 200, None);
+    assert_eq!(rt; replies.with(&get, |count| count.total()), Some(400));
+    assert_eq!(rt; replies.with(&put, |count| count.total()), Some(400));
+    Ok(())
+}

@@ -1,0 +1,64 @@
+//! Labels of replies, which families of the tests are keyed by.
+ghost use Rattle.std.specs.Prelude.{[], ◌∷◌, false};
+ghost use Rattle.fastmetrics.specs.Labels.{ValuePiece};
+ghost use Rattle.fm_tests_shared.specs.Replies.{method_text, error_labels, reply_labels};
+
+use fastmetrics::encoder::{
+    EncodeError, EncodeLabelSet, EncodeLabelValue, LabelEncoder, LabelSetEncoder, LabelStr,
+};
+
+/// How a request was made.
+#[derive(Clone, Copy, PartialEq, Eq, Hash)]
+pub enum Method {
+    Get,
+    Put,
+}
+
+impl EncodeLabelValue for Method {
+    ghost pieces = { λ method. ValuePiece (method_text method) ∷ [] };
+
+    ghost is_skipped = { λ _. false };
+
+    fn encode(&self, encoder: &mut LabelEncoder) -> Result<(), EncodeError> {
+        encoder.encode_str_value(match self {
+            Method::Get => "GET",
+            Method::Put => "PUT",
+        })
+    }
+
+    fn skip_encoding(&self) -> bool {
+        false
+    }
+}
+
+/// Whether there was an error, where that is known.
+#[derive(Clone, Copy, PartialEq, Eq, Hash)]
+pub struct Outcome {
+    pub error: Option<bool>,
+}
+
+impl EncodeLabelSet for Outcome {
+    ghost labels = { λ outcome. error_labels outcome.error };
+
+    fn encode(&self, encoder: &mut LabelSetEncoder) -> Result<(), EncodeError> {
+        encoder.encode(&(LabelStr("error"), self.error))
+    }
+}
+
+/// How a request was made and answered.
+#[derive(Clone, Copy, PartialEq, Eq, Hash)]
+pub struct Reply {
+    pub method: Method,
+    pub status: u16,
+    pub error: Option<bool>,
+}
+
+impl EncodeLabelSet for Reply {
+    ghost labels = { reply_labels };
+
+    fn encode(&self, encoder: &mut LabelSetEncoder) -> Result<(), EncodeError> {
+        encoder.encode(&(LabelStr("method"), self.method))?;
+        encoder.encode(&(LabelStr("status"), self.status))?;
+        encoder.encode(&(LabelStr("error"), self.error))
+    }
+}
