@@ -1,7 +1,7 @@
 //! Documents of constant metrics: numbers, times of creation and units.
 ghost use Rattle.fm_registry.specs.HasBook.{HasBook};
 
-use crate::support::{document_alone, document_of};
+use crate::support::{document_alone, document_of, lines_of};
 use crate::trees::gauge;
 use fastmetrics::encoder::EncodeMetric;
 use fastmetrics::metrics::counter::ConstCounter;
@@ -156,6 +156,31 @@ fn numbers_of_gauges(rt: HostRuntime) -> Result<(), Fail> {
             .as_str()
             .ends_with(" H\nt 18446744073709551615\n# EOF\n")
     );
+    Ok(())
+}
+
+#[test]
+fn other_ends_of_gauges(rt: HostRuntime) -> Result<(), Fail> {
+    let alloc = rt.alloc();
+    let greatest = Box::new(alloc, ConstGauge::new(i32::MAX))?;
+    assert_eq!(rt;
+        lines_of(alloc, greatest)?.as_str(),
+        "t 2147483647\n# EOF\n"
+    );
+    let least = Box::new(alloc, ConstGauge::new(i64::MIN))?;
+    assert_eq!(rt;
+        lines_of(alloc, least)?.as_str(),
+        "t -9223372036854775808\n# EOF\n"
+    );
+    let greatest = Box::new(alloc, ConstGauge::new(isize::MAX))?;
+    assert_eq!(rt;
+        lines_of(alloc, greatest)?.as_str(),
+        "t 9223372036854775807\n# EOF\n"
+    );
+    let least = Box::new(alloc, ConstGauge::new(u32::MIN))?;
+    assert_eq!(rt; lines_of(alloc, least)?.as_str(), "t 0\n# EOF\n");
+    let least = Box::new(alloc, ConstGauge::new(u64::MIN))?;
+    assert_eq!(rt; lines_of(alloc, least)?.as_str(), "t 0\n# EOF\n");
     Ok(())
 }
 
