@@ -208,7 +208,7 @@ fn answer_with_unit(
 }
 
 #[test]
-fn types_without_units(rt: HostRuntime) -> Result<(), Fail> {
+fn names_before_units(rt: HostRuntime) -> Result<(), Fail> {
     let alloc = rt.alloc();
     for metric in [
         Box::new(alloc, Info::new(()))? as Box<dyn EncodeMetric>,
@@ -219,6 +219,12 @@ fn types_without_units(rt: HostRuntime) -> Result<(), Fail> {
         let answer = answer_with_unit(alloc, "Bad", metric)?;
         assert_eq!(rt; answer, Err(RegistryError::InvalidNameFormat { name }));
     }
+    Ok(())
+}
+
+#[test]
+fn types_without_units(rt: HostRuntime) -> Result<(), Fail> {
+    let alloc = rt.alloc();
     for metric in [
         Box::new(alloc, Info::new(()))? as Box<dyn EncodeMetric>,
         Box::new(alloc, StateSet::new(alloc, Job::Failed)?)?,
