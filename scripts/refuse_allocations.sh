@@ -41,5 +41,6 @@ refuse() {
 
 failed=0
 refuse fm_tests encodes runs writes lines::prints
-refuse fm_tests_shared histograms snapshots defaults
+refuse fm_tests_shared handles::counts handles::measures handles::changes histograms::histograms \
+    histograms::snapshots histograms::defaults families::members families::families
 exit "$failed"

@@ -5,6 +5,8 @@ use Rattle.fastmetrics.specs.Labels.{HandedLabel, NamePiece, ValuePiece}
 use Rattle.fm_tests_shared.specs.declared.replies.Method.{Method}
 use Rattle.fm_tests_shared.specs.declared.replies.Method.TheVariants.{Get, Put}
 use Rattle.fm_tests_shared.specs.declared.replies.Reply.{Reply}
+use Rattle.fm_tests_shared.specs.declared.replies.Path.{Path}
+use Rattle.std.specs.String.{string_bytes}
 
 abbrev pub method_text : Method → List ℕ
 method_text Get = codes "GET"
@@ -20,3 +22,6 @@ abbrev pub reply_labels : Reply → List HandedLabel
 reply_labels reply =
     (NamePiece (codes "method") ∷ ValuePiece (method_text reply.method) ∷ [])
     ∷ (NamePiece (codes "status") ∷ ValuePiece (decimal reply.status) ∷ []) ∷ error_labels reply.error
+
+abbrev pub path_labels : Path → List HandedLabel
+path_labels path = (NamePiece (codes "path") ∷ ValuePiece (string_bytes path.path) ∷ []) ∷ []

@@ -12,8 +12,6 @@ mod liars;
 #[cfg(test)]
 mod memory;
 pub mod own_buckets;
-#[cfg(test)]
-mod refused_handles;
 pub mod replies;
 #[cfg(test)]
 mod states;

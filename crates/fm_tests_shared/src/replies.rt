@@ -1,7 +1,7 @@
 //! Labels of replies, which families of the tests are keyed by.
 ghost use Rattle.std.specs.Prelude.{[], ◌∷◌, false};
 ghost use Rattle.fastmetrics.specs.Labels.{ValuePiece};
-ghost use Rattle.fm_tests_shared.specs.Replies.{method_text, error_labels, reply_labels};
+ghost use Rattle.fm_tests_shared.specs.Replies.{method_text, error_labels, reply_labels, path_labels};
 
 use fastmetrics::encoder::{
     EncodeError, EncodeLabelSet, EncodeLabelValue, LabelEncoder, LabelSetEncoder, LabelStr,
@@ -60,5 +60,19 @@ impl EncodeLabelSet for Reply {
         encoder.encode(&(LabelStr("method"), self.method))?;
         encoder.encode(&(LabelStr("status"), self.status))?;
         encoder.encode(&(LabelStr("error"), self.error))
+    }
+}
+
+/// Which path was asked for.
+#[derive(Clone, PartialEq, Eq, Hash, Drop)]
+pub struct Path {
+    pub path: String,
+}
+
+impl EncodeLabelSet for Path {
+    ghost labels = { path_labels };
+
+    fn encode(&self, encoder: &mut LabelSetEncoder) -> Result<(), EncodeError> {
+        encoder.encode(&(LabelStr("path"), &self.path))
     }
 }
