@@ -171,9 +171,10 @@ fn states_scene(rt: HostRuntime) -> Result<(), Fail> {
 #[test]
 fn tree_scene(rt: HostRuntime) -> Result<(), Fail> {
     let alloc = rt.alloc();
-    let (Ok(root), Ok((requests, by_kind, queries))) =
-        (production(alloc), application_metrics(rt, rt, alloc))
-    else {
+    let (Ok(root), Ok((requests, by_kind, queries))) = (
+        production(alloc),
+        application_metrics(rt, rt, alloc),
+    ) else {
         return Err(Fail::new("no application"));
     };
     let Ok(calls) = application(alloc, requests, by_kind, queries) else {

@@ -110,11 +110,7 @@ pub fn application_metrics<H: Wait + Clone + Drop>(
 }
 
 // One label of its own memory.
-fn one_label(
-    alloc: Global,
-    name: &str,
-    value: &str,
-) -> Result<Vec<(String, String)>, AllocError> {
+fn one_label(alloc: Global, name: &str, value: &str) -> Result<Vec<(String, String)>, AllocError> {
     let mut labels = Vec::new(alloc);
     labels.push((
         String::from_str(alloc, name)?,

@@ -13,8 +13,13 @@ use fastmetrics::registry::Registry;
 use request::{Method, Request};
 use std::hash::{BuildHasherDefault, FoldHasher};
 
-type Requests<H> =
-    Family<Request, Counter, DefaultFactory<Counter, H>, BuildHasherDefault<FoldHasher>, H>;
+type Requests<H> = Family<
+    Request,
+    Counter,
+    DefaultFactory<Counter, H>,
+    BuildHasherDefault<FoldHasher>,
+    H,
+>;
 
 fn main(rt: HostRuntime) -> anyhow::Result<()> {
     let alloc = rt.alloc();
@@ -27,17 +32,33 @@ fn main(rt: HostRuntime) -> anyhow::Result<()> {
 
     let connections = Counter::<u64>::try_default(rt, alloc)?;
     let metric = Box::new(alloc, connections.clone()?)?;
-    registry.register(alloc, text("connections")?, text("Connections that were opened")?, metric)?;
+    registry.register(
+        alloc,
+        text("connections")?,
+        text("Connections that were opened")?,
+        metric,
+    )?;
 
     let requests = Requests::try_default(rt, alloc)?;
     let metric = Box::new(alloc, requests.clone()?)?;
-    registry.register(alloc, text("requests")?, text("Requests by method and status")?, metric)?;
+    registry.register(
+        alloc,
+        text("requests")?,
+        text("Requests by method and status")?,
+        metric,
+    )?;
 
     let bounds = exponential_buckets(Fixed::from_millionths(5_000), 4, 5)?;
     let duration = Histogram::new(rt, alloc, bounds)?;
     let metric = Box::new(alloc, duration.clone()?)?;
     let unit = Unit::Seconds;
-    registry.register_with_unit(alloc, text("duration")?, text("Time to answer")?, unit, metric)?;
+    registry.register_with_unit(
+        alloc,
+        text("duration")?,
+        text("Time to answer")?,
+        unit,
+        metric,
+    )?;
 
     connections.inc();
     let request = Request {

@@ -34,8 +34,13 @@ pub struct Family<LS: Eq + Hash, M, MF, S: BuildHasher, H: Wait> {
     wait: H,
 }
 
-impl<LS: Eq + Hash + Drop, M: Drop, MF: Drop, S: BuildHasher + Default + Drop, H: Wait + Drop>
-    Family<LS, M, MF, S, H> {
+impl<
+    LS: Eq + Hash + Drop,
+    M: Drop,
+    MF: Drop,
+    S: BuildHasher + Default + Drop,
+    H: Wait + Drop,
+> Family<LS, M, MF, S, H> {
     /// The family without members that makes metrics by this factory, with the hasher to begin with. It may find no memory.
     pub fn new(wait: H, alloc: Global, factory: MF) -> Result<Self, MetricError>
         ensures kept { IfOk result (λ f. (arc_value f.shared).factory ≡ factory) }

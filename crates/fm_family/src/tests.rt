@@ -56,9 +56,16 @@ fn factory_once(rt: HostRuntime) -> Result<(), Fail> {
 #[test]
 fn refused_members_are_not_there(rt: HostRuntime) -> Result<(), Fail> {
     let factory = || -> Result<u64, MetricError> { Err(MetricError::CountFull) };
-    let family =
-        Family::<u32, u64, _, Hasher, HostRuntime>::with_hasher(rt, rt.alloc(), factory, Hasher::new())?;
-    assert_eq!(rt; family.with_or_new(&200, |made| *made), Err(MetricError::CountFull));
+    let family = Family::<u32, u64, _, Hasher, HostRuntime>::with_hasher(
+        rt,
+        rt.alloc(),
+        factory,
+        Hasher::new(),
+    )?;
+    assert_eq!(rt;
+        family.with_or_new(&200, |made| *made),
+        Err(MetricError::CountFull)
+    );
     assert_eq!(rt; family.with(&200, |made| *made), None);
     Ok(())
 }
