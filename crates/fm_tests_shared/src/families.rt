@@ -113,8 +113,9 @@ fn histograms_by_labels(rt: HostRuntime) -> Result<(), Fail> {
             Err(_) => Err(MetricError::CountFull),
         }
     };
-    let seconds =
-        Family::<Outcome, Histogram<HostRuntime>, _, Hasher, HostRuntime>::new(rt, alloc, factory)?;
+    let seconds = Family::<Outcome, Histogram<HostRuntime>, _, Hasher, HostRuntime>::new(
+        rt, alloc, factory,
+    )?;
     let outcome = Outcome { error: None };
     let tenth = Fixed::from_millionths(100_000);
     seconds.with_or_new(&outcome, |seconds| seconds.observe(tenth))??;
@@ -144,8 +145,16 @@ fn four_threads_lose_nothing(rt: HostRuntime) -> Result<(), Fail> {
     let replies = Counters::<Reply, HostRuntime>::try_default(rt, alloc)?;
     let ((first, second), (third, fourth)) = thread::join(
         &rt,
-        || thread::join(&rt, || count_hundreds(&replies), || count_hundreds(&replies)),
-        || thread::join(&rt, || count_hundreds(&replies), || count_hundreds(&replies)),
+        || thread::join(
+            &rt,
+            || count_hundreds(&replies),
+            || count_hundreds(&replies),
+        ),
+        || thread::join(
+            &rt,
+            || count_hundreds(&replies),
+            || count_hundreds(&replies),
+        ),
     );
     first?;
     second?;
