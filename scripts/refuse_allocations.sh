@@ -39,8 +39,23 @@ refuse() {
     done
 }
 
+# Counts how often writing a document of 1,000 lines asks for memory: the requests of the story less those before the writing.
+growths() {
+    local request said before=0 all=0
+    cd "$crates/fm_tests" || exit 2
+    for ((request = from; request <= to; request++)); do
+        said=$(rt try --test --fail-alloc "$request" -- memory::lines:: 2>&1)
+        grep -q "^test memory::lines::collects_without_refusals \.\.\. ok" <<<"$said" || before=$request
+        grep -q "^test memory::lines::prints_without_refusals \.\.\. ok" <<<"$said" && break
+        all=$request
+    done
+    echo "writing 1,000 lines asks for memory $((all - before)) times"
+    [[ $((all - before)) == 2 ]] || failed=1
+}
+
 failed=0
 refuse fm_tests encodes runs writes lines::prints
 refuse fm_tests_shared handles::counts handles::measures handles::changes histograms::histograms \
     histograms::snapshots histograms::defaults families::members families::families
+growths
 exit "$failed"

@@ -42,7 +42,7 @@ fn main(rt: HostRuntime) -> ExitCode {
             Ok((name, help, task)) => one_metric(alloc, name, help, task),
             Err(fault) => Err(fault),
         },
-        Ok(Scene::Tree) => match application_metrics(rt, rt, alloc) {
+        Ok(Scene::Tree) => match application_metrics(rt, alloc) {
             Ok((requests, by_kind, queries)) => application(alloc, requests, by_kind, queries),
             Err(fault) => Err(fault),
         },

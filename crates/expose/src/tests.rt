@@ -173,7 +173,7 @@ fn tree_scene(rt: HostRuntime) -> Result<(), Fail> {
     let alloc = rt.alloc();
     let (Ok(root), Ok((requests, by_kind, queries))) = (
         production(alloc),
-        application_metrics(rt, rt, alloc),
+        application_metrics(rt, alloc),
     ) else {
         return Err(Fail::new("no application"));
     };

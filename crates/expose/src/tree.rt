@@ -98,13 +98,12 @@ fn seven_queries(alloc: Global) -> Result<Box<ConstCounter<u64>>, Fault> {
 
 /// The metrics of an application that was asked once, and asked its database seven times: its requests, the same by kind, and
 /// the queries. It may wait for the lock of the family.
-pub fn application_metrics<H: Wait + Clone + Drop>(
+pub fn application_metrics<H: Wait + Copy + Drop>(
     wait: H,
-    again: H,
     alloc: Global,
 ) -> Result<(Box<Counter>, Box<Requests<H>>, Box<ConstCounter<u64>>), Fault> {
     let requests = one_request(wait, alloc)?;
-    let by_kind = one_request_by_kind(again, alloc)?;
+    let by_kind = one_request_by_kind(wait, alloc)?;
     let queries = seven_queries(alloc)?;
     Ok((requests, by_kind, queries))
 }

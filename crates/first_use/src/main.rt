@@ -23,42 +23,29 @@ type Requests<H> = Family<
 
 fn main(rt: HostRuntime) -> anyhow::Result<()> {
     let alloc = rt.alloc();
-    let text = |text: &str| String::from_str(alloc, text);
+    let owned = |text: &str| String::from_str(alloc, text);
 
     let mut registry = Registry::builder()
-        .with_namespace(text("myapp")?)?
-        .with_const_labels(vec![in alloc; (text("env")?, text("prod")?)]?)?
+        .with_namespace(owned("myapp")?)?
+        .with_const_labels(vec![in alloc; (owned("env")?, owned("prod")?)]?)?
         .build()?;
 
     let connections = Counter::<u64>::try_default(rt, alloc)?;
-    let metric = Box::new(alloc, connections.clone()?)?;
-    registry.register(
-        alloc,
-        text("connections")?,
-        text("Connections that were opened")?,
-        metric,
-    )?;
+    let (name, help) = (
+        owned("connections")?,
+        owned("Connections that were opened")?,
+    );
+    registry.register(alloc, name, help, Box::new(alloc, connections.clone()?)?)?;
 
     let requests = Requests::try_default(rt, alloc)?;
-    let metric = Box::new(alloc, requests.clone()?)?;
-    registry.register(
-        alloc,
-        text("requests")?,
-        text("Requests by method and status")?,
-        metric,
-    )?;
+    let (name, help) = (owned("requests")?, owned("Requests by method and status")?);
+    registry.register(alloc, name, help, Box::new(alloc, requests.clone()?)?)?;
 
     let bounds = exponential_buckets(Fixed::from_millionths(5_000), 4, 5)?;
     let duration = Histogram::new(rt, alloc, bounds)?;
+    let (name, help) = (owned("duration")?, owned("Time to answer")?);
     let metric = Box::new(alloc, duration.clone()?)?;
-    let unit = Unit::Seconds;
-    registry.register_with_unit(
-        alloc,
-        text("duration")?,
-        text("Time to answer")?,
-        unit,
-        metric,
-    )?;
+    registry.register_with_unit(alloc, name, help, Unit::Seconds, metric)?;
 
     connections.inc();
     let request = Request {

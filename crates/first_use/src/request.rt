@@ -10,7 +10,9 @@ use fastmetrics::encoder::{
 /// How a request was made.
 #[derive(Clone, Copy, PartialEq, Eq, Hash)]
 pub enum Method {
+    /// It reads.
     Get,
+    /// It writes.
     Put,
 }
 
@@ -34,7 +36,9 @@ impl EncodeLabelValue for Method {
 /// How a request was made and answered.
 #[derive(Clone, Copy, PartialEq, Eq, Hash)]
 pub struct Request {
+    /// How it was made.
     pub method: Method,
+    /// The number of the answer's status.
     pub status: u16,
 }
 

@@ -95,6 +95,36 @@ fn steps_between(rt: HostRuntime) -> Result<(), Fail> {
 }
 
 #[test]
+fn whole_steps(rt: HostRuntime) -> Result<(), Fail> {
+    let alloc = rt.alloc();
+    let Ok(bounds) = linear_buckets(Fixed::ZERO, Fixed::ONE, 5) else {
+        return Err(Fail::new("refused"));
+    };
+    let bounds = bounds.map(Fixed::millionths).collect::<Vec<i64>>(alloc)?;
+    assert_eq!(rt;
+        bounds.as_slice(),
+        [0, ONE, 2 * ONE, 3 * ONE, 4 * ONE].as_slice()
+    );
+    let Ok(bounds) = exponential_buckets_range(Fixed::ONE, fixed(19683 * ONE), 10) else {
+        return Err(Fail::new("refused"));
+    };
+    let bounds = bounds
+        .map(|bound| bound.millionths() / ONE)
+        .collect::<Vec<i64>>(alloc)?;
+    assert_eq!(rt;
+        bounds.as_slice(),
+        [1, 3, 9, 27, 81, 243, 729, 2187, 6561, 19683].as_slice()
+    );
+    let Ok(mut bounds) = exponential_buckets_range(Fixed::ONE, fixed(4 * ONE), 1) else {
+        return Err(Fail::new("refused"));
+    };
+    assert_eq!(rt; (bounds.next(), bounds.next()), (Some(Fixed::ONE), None));
+    let error = exponential_buckets_range(Fixed::ONE, fixed(5 * ONE), 3).err();
+    assert_eq!(rt; error, Some(BucketError::NoWholeFactor));
+    Ok(())
+}
+
+#[test]
 fn bounds_and_counts(rt: HostRuntime) -> Result<(), Fail> {
     let mut buffer = FixedBuffer::new();
     let [first, .., last] = DEFAULT_BUCKETS;

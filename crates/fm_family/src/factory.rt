@@ -46,7 +46,7 @@ pub struct DefaultFactory<M, H: Wait> {
 }
 
 impl<M: TryDefault<H>, H: Wait + Clone> DefaultFactory<M, H> {
-    /// The factory of the metrics to begin with. It takes no memory.
+    /// The factory that makes metrics by `try_default`. It takes no memory.
     pub fn new(wait: H, alloc: Global) -> DefaultFactory<M, H> {
         DefaultFactory {
             wait,

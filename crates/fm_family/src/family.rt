@@ -1,5 +1,5 @@
 //! Families that threads share.
-ghost use Rattle.std.specs.Prelude.{◌≡◌, ◌⊎◌, List, Err, IfOk, IfErr, IfSome, ⊤};
+ghost use Rattle.std.specs.Prelude.{◌≡◌, ◌⊎◌, Err, IfOk, IfErr, IfSome, ⊤};
 ghost use Rattle.std.specs.Arc.{arc_value};
 ghost use Rattle.std.specs.Fn.{FnOnceReturnsAt};
 ghost use Rattle.fm_raw.specs.declared.error.MetricError.TheVariants.{Memory};
@@ -26,8 +26,8 @@ struct Shared<LS: Eq + Hash, M, MF, S: BuildHasher> {
 /// Metrics of one type by label set, which its clones share under a lock. The factory `MF` makes a metric when its label set is
 /// first used. The members print in this order.
 ///
-/// A call waits while another thread makes a metric, and one that makes a metric waits for all others. A closure that is
-/// lent a metric must not enter the same family. For the hasher `S` see `FamilyCore`.
+/// A call waits while another thread makes a metric, and one that makes a metric waits for all others. Neither a closure that is
+/// lent a metric nor the factory may enter the same family: it would wait for ever. For the hasher `S` see `FamilyCore`.
 #[derive(Drop)]
 pub struct Family<LS: Eq + Hash, M, MF, S: BuildHasher, H: Wait> {
     shared: Arc<Shared<LS, M, MF, S>, Global>,
@@ -41,7 +41,7 @@ impl<
     S: BuildHasher + Default + Drop,
     H: Wait + Drop,
 > Family<LS, M, MF, S, H> {
-    /// The family without members that makes metrics by this factory, with the hasher to begin with. It may find no memory.
+    /// The family without members that makes metrics by this factory, with the default hasher. It may find no memory.
     pub fn new(wait: H, alloc: Global, factory: MF) -> Result<Self, MetricError>
         ensures kept { IfOk result (λ f. (arc_value f.shared).factory ≡ factory) }
         ensures memory { IfErr result (λ e. e ≡ Memory) }
@@ -92,7 +92,7 @@ impl<
     ///
     /// The factory is called only where there is none; its refusal is handed on. It may find no memory then. After a refusal the
     /// members are those that were there. Clones of label sets have to equal them. Where the metric is there, the call
-    /// takes no memory and shares the lock with its like.
+    /// takes no memory, and the lock for reading alone.
     pub fn with_or_new<R, F: FnOnce(&M) -> R>(&self, labels: &LS, f: F) -> Result<R, MetricError>
         requires ready { MF.is_ready (arc_value self.now.shared).factory }
         requires callable { F.IsAlwaysCallable f }
@@ -112,7 +112,7 @@ impl<
     }
 }
 
-/// The family without members that makes metrics to begin with.
+/// The family without members whose metrics are made by `try_default`.
 impl<
     LS: Eq + Hash + Drop,
     M: TryDefault<H> + Drop,

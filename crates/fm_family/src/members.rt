@@ -26,7 +26,7 @@ pub struct FamilyCore<LS: Eq + Hash, M, S: BuildHasher> {
 }
 
 impl<LS: Eq + Hash, M, S: BuildHasher + Default> FamilyCore<LS, M, S> {
-    /// No metrics yet, with the hasher to begin with. It takes no memory.
+    /// No metrics yet, with the default hasher. It takes no memory.
     pub fn new(alloc: Global) -> FamilyCore<LS, M, S>
         ensures { result.members.entries ≡ [] }
     {

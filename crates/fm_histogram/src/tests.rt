@@ -57,6 +57,48 @@ fn counts_by_bounds(rt: HostRuntime) -> Result<(), Fail> {
 }
 
 #[test]
+fn counts_of_a_hundred(rt: HostRuntime) -> Result<(), Fail> {
+    let alloc = rt.alloc();
+    let bounds = [whole(1), whole(2), whole(4), whole(8), whole(16)];
+    let mut all = HistogramSnapshot::new(alloc, bounds.iter().copied())?;
+    for n in 1..101 {
+        all.observe(whole(n))?;
+    }
+    assert_eq!(rt;
+        counts(alloc, all.buckets())?.as_slice(),
+        [1, 1, 2, 4, 8, 84].as_slice()
+    );
+    Ok(())
+}
+
+// The snapshot of these values by the bounds 1 and 2.
+fn observed(alloc: Global, values: &[Fixed]) -> Result<HistogramSnapshot, MetricError> {
+    let bounds = [whole(1), whole(2)];
+    let mut all = HistogramSnapshot::new(alloc, bounds.iter().copied())?;
+    for value in values {
+        all.observe(*value)?;
+    }
+    Ok(all)
+}
+
+#[test]
+fn merges_in_either_order(rt: HostRuntime) -> Result<(), Fail> {
+    let alloc = rt.alloc();
+    let three = [whole(1), whole(2), whole(3)];
+    let twos = [whole(2), whole(2)];
+    for (first, second) in [(three.as_slice(), twos.as_slice()), (&twos, &three)] {
+        let mut all = observed(alloc, first)?;
+        all.merge(&observed(alloc, second)?)?;
+        assert_eq!(rt;
+            counts(alloc, all.buckets())?.as_slice(),
+            [1, 3, 1].as_slice()
+        );
+        assert_eq!(rt; (all.count(), all.sum()), (5, FixedSum::from(whole(10))));
+    }
+    Ok(())
+}
+
+#[test]
 fn counts_stop_at_the_greatest(rt: HostRuntime) -> Result<(), Fail> {
     let mut all = HistogramSnapshot::new(rt.alloc(), [].iter().copied())?;
     all.observe(whole(1))?;

@@ -106,6 +106,31 @@ fn numbers_of_counters(rt: HostRuntime) -> Result<(), Fail> {
     Ok(())
 }
 
+// Whether the document of a counter ends with this number.
+fn has_total(alloc: Global, counter: Box<dyn EncodeMetric>, number: &str) -> Result<bool, Fail> {
+    let document = document_alone(alloc, "t", None, counter)?;
+    Ok(
+        document
+            .as_str()
+            .strip_prefix("# TYPE t counter\n# HELP t H\nt_total ")
+            .and_then(|line| line.strip_suffix("\n# EOF\n"))
+            == Some(number),
+    )
+}
+
+#[test]
+fn other_ends_of_counters(rt: HostRuntime) -> Result<(), Fail> {
+    let alloc = rt.alloc();
+    assert!(rt; has_total(alloc, Box::new(alloc, ConstCounter::new(0u32))?, "0")?);
+    assert!(rt; has_total(alloc, Box::new(alloc, ConstCounter::new(0u64))?, "0")?);
+    assert!(rt; has_total(alloc, Box::new(alloc, ConstCounter::new(0usize))?, "0")?);
+    let least = ConstCounter::new(Fixed::from_millionths(i64::MIN));
+    assert!(rt; has_total(alloc, Box::new(alloc, least)?, "-9223372036854.775808")?);
+    let greatest = ConstCounter::new(Fixed::from_millionths(i64::MAX));
+    assert!(rt; has_total(alloc, Box::new(alloc, greatest)?, "9223372036854.775807")?);
+    Ok(())
+}
+
 #[test]
 fn numbers_of_gauges(rt: HostRuntime) -> Result<(), Fail> {
     let alloc = rt.alloc();

@@ -349,7 +349,7 @@ fn bear_unwritten(patience: &mut Patience, error: MetricError, text: &String) ->
 
 // Appends one and a half to a letter, as both types of numbers.
 fn write_numbers(alloc: Global, refusals: u32) -> Result<(), Fail> {
-    let mut patience = Patience { refusals };
+    let mut patience = Patience::new(refusals);
     let number = Fixed::from_millionths(1500000);
     let mut text = patient_letter(alloc, &mut patience)?;
     if let Err(error) = number.write_text(&mut text) {

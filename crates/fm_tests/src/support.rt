@@ -12,6 +12,7 @@ use std::test::Fail;
 /// A writer that takes at most `step` bytes a call and `room` bytes in all. Then it answers an error of this kind, or 0.
 #[derive(Drop)]
 pub struct Stopping {
+    /// What was taken so far.
     pub bytes: Vec<u8>,
     room: usize,
     step: usize,
@@ -19,6 +20,7 @@ pub struct Stopping {
 }
 
 impl Stopping {
+    /// A writer that took nothing yet.
     pub fn new(alloc: Global, room: usize, step: usize, end: Option<ErrorKind>) -> Stopping {
         Stopping {
             bytes: Vec::new(alloc),
@@ -54,6 +56,7 @@ pub struct Patience {
 }
 
 impl Patience {
+    /// Bears so many refusals.
     pub fn new(refusals: u32) -> Patience {
         Patience { refusals }
     }

@@ -5,8 +5,8 @@ use fastmetrics::metrics::family::{DefaultFactory, Family};
 use fastmetrics::metrics::histogram::Histogram;
 use fastmetrics::raw::bucket::exponential_buckets;
 use fastmetrics::raw::{Fixed, MetricError, TryDefault};
-use fm_tests::support::document_alone;
-use std::alloc::Global;
+use fastmetrics::registry::Registry;
+use fm_tests::support::{document_alone, document_of};
 use std::hash::{BuildHasherDefault, FoldHasher};
 use std::sync::Wait;
 use std::test::Fail;
@@ -82,6 +82,27 @@ fn labels_that_are_left_out(rt: HostRuntime) -> Result<(), Fail> {
     assert_eq!(rt;
         document_alone(alloc, "f", None, Box::new(alloc, outcomes)?)?.as_str(),
         "# TYPE f counter\n# HELP f H\nf_total 1\n# EOF\n"
+    );
+    Ok(())
+}
+
+#[test]
+fn labels_left_out_behind_constant_ones(rt: HostRuntime) -> Result<(), Fail> {
+    let alloc = rt.alloc();
+    let env = (
+        String::from_str(alloc, "env")?,
+        String::from_str(alloc, "prod")?,
+    );
+    let mut registry = Registry::builder()
+        .with_const_labels(vec![in alloc; env]?)?
+        .build()?;
+    let outcomes = Counters::<Outcome, HostRuntime>::try_default(rt, alloc)?;
+    outcomes.with_or_new(&Outcome { error: None }, |count| count.inc())?;
+    let (name, help) = (String::from_str(alloc, "f")?, String::from_str(alloc, "H")?);
+    registry.register(alloc, name, help, Box::new(alloc, outcomes)?)?;
+    assert_eq!(rt;
+        document_of(alloc, &registry)?.as_str(),
+        "# TYPE f counter\n# HELP f H\nf_total{env=\"prod\"} 1\n# EOF\n"
     );
     Ok(())
 }

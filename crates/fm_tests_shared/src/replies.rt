@@ -10,7 +10,9 @@ use fastmetrics::encoder::{
 /// How a request was made.
 #[derive(Clone, Copy, PartialEq, Eq, Hash)]
 pub enum Method {
+    /// It reads.
     Get,
+    /// It writes.
     Put,
 }
 
@@ -34,6 +36,7 @@ impl EncodeLabelValue for Method {
 /// Whether there was an error, where that is known.
 #[derive(Clone, Copy, PartialEq, Eq, Hash)]
 pub struct Outcome {
+    /// True where there was one.
     pub error: Option<bool>,
 }
 
@@ -48,8 +51,11 @@ impl EncodeLabelSet for Outcome {
 /// How a request was made and answered.
 #[derive(Clone, Copy, PartialEq, Eq, Hash)]
 pub struct Reply {
+    /// How it was made.
     pub method: Method,
+    /// The number of the answer's status.
     pub status: u16,
+    /// True where there was an error, where that is known.
     pub error: Option<bool>,
 }
 
@@ -66,6 +72,7 @@ impl EncodeLabelSet for Reply {
 /// Which path was asked for.
 #[derive(Clone, PartialEq, Eq, Hash, Drop)]
 pub struct Path {
+    /// The path.
     pub path: String,
 }
 

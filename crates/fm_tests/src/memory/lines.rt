@@ -92,7 +92,7 @@ fn is_document(bytes: &[u8]) -> bool {
 
 // Writes the document.
 fn print_lines(alloc: Global, refusals: u32) -> Result<(), Fail> {
-    let mut patience = Patience { refusals };
+    let mut patience = Patience::new(refusals);
     let exposition = collected_lines(alloc, &mut patience)?;
     let mut writer = spacious_writer(alloc, &mut patience)?;
     if let Err(error) = encode_exposition(alloc, &mut writer, &exposition) {
@@ -105,6 +105,16 @@ fn print_lines(alloc: Global, refusals: u32) -> Result<(), Fail> {
     if !is_document(writer.as_slice()) {
         return Err(Fail::new("another document"));
     }
+    Ok(())
+}
+
+// The exposition alone, whose requests the script takes away from those of the whole story: writing makes two.
+#[test]
+fn collects_without_refusals(rt: HostRuntime) -> Result<(), Fail> {
+    let mut patience = Patience::new(0);
+    let exposition = collected_lines(rt.alloc(), &mut patience)?;
+    let writer = spacious_writer(rt.alloc(), &mut patience)?;
+    assert_eq!(rt; (exposition.families().len(), writer.len()), (1, 7));
     Ok(())
 }
 

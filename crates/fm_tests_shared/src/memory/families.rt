@@ -39,7 +39,7 @@ fn add(
         }
         core.get_or_new(path, &|| Ok(value))?;
     }
-    if core.len() != count + 1 || core.get(path) != Some(&value) {
+    if core.len() <= count || core.get(path) != Some(&value) {
         return Err(Fail::new("another member"));
     }
     Ok(())
