@@ -1,4 +1,4 @@
-//! Handles in use by one thread and by two.
+//! Handles in use by one thread.
 ghost use Rattle.std.specs.Prelude.{[], ◌∷◌, codes};
 ghost use Rattle.fm_handles.specs.declared.tests.Light.TheVariants.{Red, Green};
 
@@ -8,7 +8,6 @@ use crate::state_set::{ConstStateSet, StateSet, StateSetValue};
 use fm_atomic::TryDefault;
 use fm_raw::{Fixed, MetricError};
 use std::test::Fail;
-use std::thread;
 use std::time::Duration;
 
 #[derive(Clone, Copy, PartialEq, Eq, Debug)]
@@ -34,39 +33,6 @@ impl StateSetValue for Light {
             Light::Green => "green",
         }
     }
-}
-
-#[test]
-fn two_threads_count_on_one_counter(rt: HostRuntime) -> Result<(), Fail> {
-    let hits = Counter::<u64>::try_default(rt, rt.alloc())?;
-    let clone = hits.clone()?;
-    let (_, _) = thread::join(
-        &rt,
-        || for _ in 0..1000u32 {
-            hits.inc();
-        },
-        || for _ in 0..1000u32 {
-            clone.inc();
-        },
-    );
-    assert_eq!(rt; hits.total(), 2000);
-    Ok(())
-}
-
-#[test]
-fn two_threads_count_on_one_gauge(rt: HostRuntime) -> Result<(), Fail> {
-    let level = Gauge::<i64>::try_default(rt, rt.alloc())?;
-    let (_, _) = thread::join(
-        &rt,
-        || for _ in 0..1000u32 {
-            level.inc();
-        },
-        || for _ in 0..1000u32 {
-            level.inc();
-        },
-    );
-    assert_eq!(rt; level.get(), 2000);
-    Ok(())
 }
 
 #[test]

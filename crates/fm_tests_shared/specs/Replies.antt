@@ -1,5 +1,5 @@
 -- The labels of replies, as they are handed over.
-use Rattle.std.specs.Prelude.{ℕ, Bool, true, false, List, [], ◌∷◌, ◌++◌, Option, codes, decimal, if◌then◌else◌}
+use Rattle.std.specs.Prelude.{ℕ, Bool, true, false, List, [], ◌∷◌, Option, codes, decimal, if◌then◌else◌}
 use Rattle.std.specs.Option.{option_map_or}
 use Rattle.fastmetrics.specs.Labels.{HandedLabel, NamePiece, ValuePiece}
 use Rattle.fm_tests_shared.specs.declared.replies.Method.{Method}

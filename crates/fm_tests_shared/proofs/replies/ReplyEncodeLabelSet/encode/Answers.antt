@@ -1,4 +1,3 @@
-use Rattle.std.proofs.Common.{sym, ◌∙◌, refl}
 use Rattle.std.proofs.lemmas.Result.{err_from_is_err_and}
 use Rattle.fm_encoder.proofs.LabelsLemmas.{HandsLabels-stopped}
 use Rattle.fm_encoder.proofs.OwnLabels.{next_label, last_label}
