@@ -1,4 +1,6 @@
 //! Words that hold a number and that threads change in single steps.
+ghost use Rattle.std.specs.Prelude.{⊤};
+
 use fm_raw::{Fixed, Number};
 use std::sync::atomic::Ordering::SeqCst;
 use std::sync::atomic::{AtomicI32, AtomicI64, AtomicIsize, AtomicU32, AtomicU64, AtomicUsize};
@@ -8,6 +10,9 @@ use std::sync::atomic::{AtomicI32, AtomicI64, AtomicIsize, AtomicU32, AtomicU64,
 /// Each call is one step in the one order of all such steps. Sums and differences wrap at the ends of the type. No call
 /// takes memory or waits. Of a value only the range is promised, since other threads may change it at any time.
 pub trait Atomic<N: Number>: Default + Send + Sync + Drop {
+    /// Holds of a word, a number that it was raised by, and what that raise answered.
+    ghost raises: { Self → N → N → Type 0 };
+
     /// Adds one whole, and answers the value before.
     fn inc(&self) -> N
         ensures { N.in_range result }
@@ -39,10 +44,13 @@ pub trait Atomic<N: Number>: Default + Send + Sync + Drop {
 
     /// Keeps the greater of the value and `v`, and answers the value before.
     fn raise(&self, v: N) -> N
-        ensures { N.in_range result };
+        ensures in_range { N.in_range result }
+        ensures raised { raises self.now v result };
 }
 
 impl Atomic<i32> for AtomicI32 {
+    ghost raises = { λ _ _ _. ⊤ };
+
     fn inc_by(&self, v: i32) -> i32 {
         self.fetch_add(v, SeqCst)
     }
@@ -65,6 +73,8 @@ impl Atomic<i32> for AtomicI32 {
 }
 
 impl Atomic<i64> for AtomicI64 {
+    ghost raises = { λ _ _ _. ⊤ };
+
     fn inc_by(&self, v: i64) -> i64 {
         self.fetch_add(v, SeqCst)
     }
@@ -87,6 +97,8 @@ impl Atomic<i64> for AtomicI64 {
 }
 
 impl Atomic<isize> for AtomicIsize {
+    ghost raises = { λ _ _ _. ⊤ };
+
     fn inc_by(&self, v: isize) -> isize {
         self.fetch_add(v, SeqCst)
     }
@@ -109,6 +121,8 @@ impl Atomic<isize> for AtomicIsize {
 }
 
 impl Atomic<u32> for AtomicU32 {
+    ghost raises = { λ _ _ _. ⊤ };
+
     fn inc_by(&self, v: u32) -> u32 {
         self.fetch_add(v, SeqCst)
     }
@@ -131,6 +145,8 @@ impl Atomic<u32> for AtomicU32 {
 }
 
 impl Atomic<u64> for AtomicU64 {
+    ghost raises = { λ _ _ _. ⊤ };
+
     fn inc_by(&self, v: u64) -> u64 {
         self.fetch_add(v, SeqCst)
     }
@@ -153,6 +169,8 @@ impl Atomic<u64> for AtomicU64 {
 }
 
 impl Atomic<usize> for AtomicUsize {
+    ghost raises = { λ _ _ _. ⊤ };
+
     fn inc_by(&self, v: usize) -> usize {
         self.fetch_add(v, SeqCst)
     }
@@ -176,6 +194,8 @@ impl Atomic<usize> for AtomicUsize {
 
 /// The word holds the number of millionths.
 impl Atomic<Fixed> for AtomicI64 {
+    ghost raises = { λ _ _ _. ⊤ };
+
     fn inc_by(&self, v: Fixed) -> Fixed {
         Fixed::from_millionths(self.fetch_add(v.millionths(), SeqCst))
     }

@@ -24,3 +24,7 @@ kept_state metric = metric.state
 -- the label set of an information
 abbrev pub label_set_of : {LS : Type 0} → Info LS → LS
 label_set_of info = info.labels
+
+-- the word that holds a counter's total, which its clones share
+abbrev pub total_of : {N W : Type 0} → Counter N W → W
+total_of counter = (arc_value counter.count).total

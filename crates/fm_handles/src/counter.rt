@@ -1,12 +1,12 @@
 //! Counters that threads share.
-ghost use Rattle.std.specs.Prelude.{◌≡◌, [], ◌∷◌, Some, None, IfOk, IfErr};
+ghost use Rattle.std.specs.Prelude.{◌≡◌, [], ◌∷◌, Some, None, IfOk, IfErr, MatchResult};
 ghost use Rattle.std.specs.Option.{option_map};
 ghost use Rattle.std.specs.Arc.{arc_value};
 ghost use Rattle.fm_grammar.specs.declared.MetricType.TheVariants.{Counter as CounterType};
 ghost use Rattle.fm_raw.specs.declared.error.MetricError.TheVariants.{Memory, NegativeIncrement, LessThanBefore};
 ghost use Rattle.fm_encoder.specs.Points.{CounterPoint, millis};
 ghost use Rattle.fm_handles.specs.Numbers.{IsBelow};
-ghost use Rattle.fm_handles.specs.Handles.{created_of};
+ghost use Rattle.fm_handles.specs.Handles.{created_of, total_of};
 
 use fm_atomic::{Atomic, CounterValue, TryDefault};
 use fm_encoder::{EncodeCounterValue, EncodeMetric, EncodePoint, MetricEncoder, PointEncoder};
@@ -66,7 +66,8 @@ impl<N: CounterValue> Counter<N> {
     /// Raises the total to `v` in one step. Where the step meets a greater total, that stays, and the call is refused as
     /// `LessThanBefore`.
     pub fn set(&self, v: N) -> Result<(), MetricError>
-        ensures { IfErr result (λ e. (e ≡ LessThanBefore) × ((before : N) × N.in_range before × IsBelow N.partial_cmp v before)) }
+        ensures raised { (before : N) × N.in_range before × N.Atomic.Atomic.raises (total_of self.now) v before
+            × MatchResult result (λ _. ¬ (IsBelow N.partial_cmp v before)) (λ e. (e ≡ LessThanBefore) × IsBelow N.partial_cmp v before) }
     {
         let before = self.count.total.raise(v);
         if v < before {
