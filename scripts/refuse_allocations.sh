@@ -1,5 +1,5 @@
 #!/usr/bin/env bash
-# Refuses the requests for memory of the stories in src/memory.rt and below, of crates/fm_tests and crates/fm_tests_shared, one
+# Refuses the requests for memory of the stories in src/memory.rt and below, of crates/fm_tests_memory and crates/fm_tests_memory_metrics, one
 # request a run.
 #
 #   scripts/refuse_allocations.sh [FROM [TO]]
@@ -42,7 +42,7 @@ refuse() {
 # Counts how often writing a document of 1,000 lines asks for memory: the requests of the story less those before the writing.
 growths() {
     local request said before=0 all=0
-    cd "$crates/fm_tests" || exit 2
+    cd "$crates/fm_tests_memory" || exit 2
     for ((request = from; request <= to; request++)); do
         said=$(rt try --test --fail-alloc "$request" -- memory::lines:: 2>&1)
         grep -q "^test memory::lines::collects_without_refusals \.\.\. ok" <<<"$said" || before=$request
@@ -54,8 +54,8 @@ growths() {
 }
 
 failed=0
-refuse fm_tests encodes runs writes lines::prints
-refuse fm_tests_shared handles::counts handles::measures handles::changes histograms::histograms \
+refuse fm_tests_memory encodes runs writes lines::prints
+refuse fm_tests_memory_metrics handles::counts handles::measures handles::changes histograms::histograms \
     histograms::snapshots histograms::defaults families::members families::families
 growths
 exit "$failed"

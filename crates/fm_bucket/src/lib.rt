@@ -6,8 +6,6 @@ pub mod error;
 pub mod exponential;
 pub mod linear;
 pub mod search;
-#[cfg(test)]
-mod tests;
 
 pub use bound::{BUCKET_LABEL, Bound, Bucket, default_buckets};
 pub use error::BucketError;

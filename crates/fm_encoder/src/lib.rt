@@ -17,8 +17,6 @@ pub mod metric;
 mod names;
 mod own;
 pub mod point;
-#[cfg(test)]
-mod tests;
 pub mod value;
 
 pub use exemplar::{EncodeExemplar, ExemplarEncoder};

@@ -5,8 +5,6 @@ mod metrics;
 mod run;
 mod subsystem_builder;
 mod subsystems;
-#[cfg(test)]
-mod tests;
 
 use crate::listing::{ListedMetric, list_metrics};
 pub use builder::RegistryBuilder;

@@ -1,0 +1,177 @@
+//! What tests of trees share: paths, lists of labels, calls, and what is done below a registry.
+ghost use Rattle.fm_registry.specs.HasBook.{HasBook};
+
+use fastmetrics::encoder::EncodeMetric;
+use fastmetrics::metrics::gauge::ConstGauge;
+use fastmetrics::registry::{Registry, RegistryCall, RegistryError};
+use std::alloc::{AllocError, Global};
+use std::test::Fail;
+
+/// Texts of their own memory, such as the names of a path.
+pub fn texts(alloc: Global, names: &[&str]) -> Result<Vec<String>, AllocError> {
+    let mut texts = Vec::new(alloc);
+    for name in names {
+        texts.push(String::from_str(alloc, name)?)?;
+    }
+    Ok(texts)
+}
+
+/// Labels of their own memory.
+pub fn labels(alloc: Global, pairs: &[(&str, &str)]) -> Result<Vec<(String, String)>, AllocError> {
+    let mut labels = Vec::new(alloc);
+    for (name, value) in pairs {
+        labels.push((
+            String::from_str(alloc, name)?,
+            String::from_str(alloc, value)?,
+        ))?;
+    }
+    Ok(labels)
+}
+
+/// Whether these are the labels, in this order.
+pub fn are_labels(labels: &[(String, String)], pairs: &[(&str, &str)]) -> bool {
+    labels.len() == pairs.len()
+        && labels.iter().zip(pairs).all(|(label, pair)| label.0.as_str() == pair.0
+            && label.1.as_str() == pair.1)
+}
+
+// The number of an answer's refusal, and 0 for `Ok`.
+fn number_of(answer: &Result<(), RegistryError>) -> u8 {
+    match answer {
+        Ok(()) => 0,
+        Err(error) => error.number(),
+    }
+}
+
+/// Whether these are the numbers of the answers' refusals, with 0 for `Ok`.
+pub fn have_numbers(answers: &[Result<(), RegistryError>], numbers: &[u8]) -> bool {
+    answers.len() == numbers.len()
+        && answers
+            .iter()
+            .zip(numbers)
+            .all(|(answer, number)| number_of(answer) == *number)
+}
+
+/// Whether the answer at this place is this refusal.
+pub fn is_refused(
+    answers: &[Result<(), RegistryError>],
+    place: usize,
+    refusal: &RegistryError,
+) -> bool {
+    match answers.get(place) {
+        Some(Err(error)) => *error == *refusal,
+        _ => false,
+    }
+}
+
+/// The call that registers a metric with the help `H` at the end of a path.
+pub fn metric_at<M: Drop>(
+    alloc: Global,
+    path: &[&str],
+    name: &str,
+    metric: M,
+) -> Result<RegistryCall<M>, AllocError> {
+    Ok(RegistryCall::Register {
+        path: texts(alloc, path)?,
+        name: String::from_str(alloc, name)?,
+        help: String::from_str(alloc, "H")?,
+        unit: None,
+        metric,
+    })
+}
+
+/// The call that makes a subsystem with these labels at the end of a path.
+pub fn subsystem_at<M: Drop>(
+    alloc: Global,
+    path: &[&str],
+    name: &str,
+    pairs: &[(&str, &str)],
+) -> Result<RegistryCall<M>, AllocError> {
+    Ok(RegistryCall::Subsystem {
+        path: texts(alloc, path)?,
+        name: String::from_str(alloc, name)?,
+        labels: labels(alloc, pairs)?,
+    })
+}
+
+/// Six calls: a metric below where nothing is, the subsystem, a metric there, the subsystem with an invalid label and with
+/// a valid one, and a metric of the same name.
+pub fn six_calls<M: Drop>(
+    alloc: Global,
+    below_nothing: M,
+    first: M,
+    again: M,
+) -> Result<Vec<RegistryCall<M>>, AllocError> {
+    let mut calls = Vec::new(alloc);
+    calls.push(metric_at(alloc, &["db"], "up", below_nothing)?)?;
+    calls.push(subsystem_at(alloc, &[], "db", &[])?)?;
+    calls.push(metric_at(alloc, &["db"], "up", first)?)?;
+    calls.push(subsystem_at(alloc, &[], "db", &[("1x", "v")])?)?;
+    calls.push(subsystem_at(alloc, &[], "db", &[("k", "v")])?)?;
+    calls.push(metric_at(alloc, &["db"], "up", again)?)?;
+    Ok(calls)
+}
+
+/// A gauge with this value.
+pub fn gauge(alloc: Global, value: i64) -> Result<Box<ConstGauge<i64>>, AllocError> {
+    Ok(Box::new(alloc, ConstGauge::new(value))?)
+}
+
+/// Registers a metric here, with the help `H`.
+pub fn register(
+    alloc: Global,
+    registry: &mut Registry,
+    name: &str,
+    metric: Box<dyn EncodeMetric>,
+) -> Result<(), RegistryError>
+    requires { HasBook registry.old }
+    ensures { HasBook registry.new }
+{
+    let (Ok(name), Ok(help)) = (String::from_str(alloc, name), String::from_str(alloc, "H")) else {
+        return Err(RegistryError::Memory);
+    };
+    registry.register(alloc, name, help, metric)
+}
+
+/// Registers a metric in a subsystem, which is made where it is not there.
+pub fn register_below(
+    alloc: Global,
+    registry: &mut Registry,
+    below: &str,
+    name: &str,
+    metric: Box<dyn EncodeMetric>,
+) -> Result<(), RegistryError>
+    requires { HasBook registry.old }
+    ensures { HasBook registry.new }
+{
+    let (Ok(below), Ok(name), Ok(help)) = (
+        String::from_str(alloc, below),
+        String::from_str(alloc, name),
+        String::from_str(alloc, "H"),
+    ) else {
+        return Err(RegistryError::Memory);
+    };
+    registry
+        .subsystem(alloc, below)?
+        .register(alloc, name, help, metric)
+}
+
+/// Sees that there is a subsystem, by its builder.
+pub fn build_below(
+    alloc: Global,
+    registry: &mut Registry,
+    below: &str,
+    pairs: &[(&str, &str)],
+) -> Result<(), RegistryError>
+    requires { HasBook registry.old }
+    ensures { HasBook registry.new }
+{
+    let (Ok(below), Ok(labels)) = (String::from_str(alloc, below), labels(alloc, pairs)) else {
+        return Err(RegistryError::Memory);
+    };
+    registry
+        .subsystem_builder(alloc, below)?
+        .with_const_labels(labels)?
+        .build()?;
+    Ok(())
+}

@@ -1,0 +1,314 @@
+//! Families by their documents: members, labels that are left out, histograms, clones and threads.
+use fastmetrics::encoder::EncodeMetric;
+use fastmetrics::metrics::counter::{ConstCounter, Counter};
+use fastmetrics::metrics::family::{DefaultFactory, Family};
+use fastmetrics::metrics::gauge::{ConstGauge, Gauge};
+use fastmetrics::metrics::histogram::Histogram;
+use fastmetrics::metrics::info::Info;
+use fastmetrics::metrics::state_set::{ConstStateSet, StateSet};
+use fastmetrics::metrics::unknown::Unknown;
+use fastmetrics::raw::bucket::exponential_buckets;
+use fastmetrics::raw::{Fixed, MetricError, TryDefault};
+use fastmetrics::registry::Registry;
+use fm_test_support::jobs::Job;
+use fm_test_support::replies::{Method, Outcome, Reply};
+use fm_test_support::support::{document_alone, document_of};
+use std::alloc::Global;
+use std::hash::{BuildHasherDefault, FoldHasher};
+use std::sync::Wait;
+use std::test::Fail;
+use std::thread;
+
+type Hasher = BuildHasherDefault<FoldHasher>;
+
+type Counters<LS, H> = Family<LS, Counter, DefaultFactory<Counter, H>, Hasher, H>;
+
+fn reply(method: Method, status: u16, error: Option<bool>) -> Reply {
+    Reply {
+        method,
+        status,
+        error,
+    }
+}
+
+// Counts one reply.
+fn count<H: Wait + Clone + Drop>(
+    replies: &Counters<Reply, H>,
+    reply: Reply,
+) -> Result<u64, MetricError> {
+    replies.with_or_new(&reply, |count| count.inc())
+}
+
+#[test]
+fn no_members(rt: HostRuntime) -> Result<(), Fail> {
+    let alloc = rt.alloc();
+    let replies = Counters::<Reply, HostRuntime>::try_default(rt, alloc)?;
+    assert_eq!(rt;
+        document_alone(alloc, "f", None, Box::new(alloc, replies)?)?.as_str(),
+        "# EOF\n"
+    );
+    Ok(())
+}
+
+#[test]
+fn three_members(rt: HostRuntime) -> Result<(), Fail> {
+    let alloc = rt.alloc();
+    let replies = Counters::<Reply, HostRuntime>::try_default(rt, alloc)?;
+    let clone = replies.clone()?;
+    count(&replies, reply(Method::Get, 200, None))?;
+    count(&clone, reply(Method::Get, 404, Some(true)))?;
+    count(&replies, reply(Method::Put, 200, None))?;
+    let mut registry = Registry::default();
+    let name = String::from_str(alloc, "http_requests")?;
+    let help = String::from_str(alloc, "Total HTTP requests")?;
+    registry.register(alloc, name, help, Box::new(alloc, replies)?)?;
+    assert_eq!(rt;
+        document_of(alloc, &registry)?.as_str(),
+        "# TYPE http_requests counter\n# HELP http_requests Total HTTP requests\n\
+         http_requests_total{method=\"GET\",status=\"200\"} 1\n\
+         http_requests_total{method=\"GET\",status=\"404\",error=\"true\"} 1\n\
+         http_requests_total{method=\"PUT\",status=\"200\"} 1\n# EOF\n"
+    );
+    Ok(())
+}
+
+#[test]
+fn members_that_counted_nothing(rt: HostRuntime) -> Result<(), Fail> {
+    let alloc = rt.alloc();
+    let outcomes = Counters::<Outcome, HostRuntime>::try_default(rt, alloc)?;
+    let outcome = Outcome { error: Some(false) };
+    assert_eq!(rt; outcomes.with_or_new(&outcome, |count| count.total())?, 0);
+    assert_eq!(rt;
+        document_alone(alloc, "f", None, Box::new(alloc, outcomes)?)?.as_str(),
+        "# TYPE f counter\n# HELP f H\nf_total{error=\"false\"} 0\n# EOF\n"
+    );
+    Ok(())
+}
+
+#[test]
+fn labels_that_are_left_out(rt: HostRuntime) -> Result<(), Fail> {
+    let alloc = rt.alloc();
+    let outcomes = Counters::<Outcome, HostRuntime>::try_default(rt, alloc)?;
+    outcomes.with_or_new(&Outcome { error: None }, |count| count.inc())?;
+    assert_eq!(rt;
+        document_alone(alloc, "f", None, Box::new(alloc, outcomes)?)?.as_str(),
+        "# TYPE f counter\n# HELP f H\nf_total 1\n# EOF\n"
+    );
+    Ok(())
+}
+
+#[test]
+fn labels_left_out_behind_constant_ones(rt: HostRuntime) -> Result<(), Fail> {
+    let alloc = rt.alloc();
+    let env = (
+        String::from_str(alloc, "env")?,
+        String::from_str(alloc, "prod")?,
+    );
+    let mut registry = Registry::builder()
+        .with_const_labels(vec![in alloc; env]?)?
+        .build()?;
+    let outcomes = Counters::<Outcome, HostRuntime>::try_default(rt, alloc)?;
+    outcomes.with_or_new(&Outcome { error: None }, |count| count.inc())?;
+    let (name, help) = (String::from_str(alloc, "f")?, String::from_str(alloc, "H")?);
+    registry.register(alloc, name, help, Box::new(alloc, outcomes)?)?;
+    assert_eq!(rt;
+        document_of(alloc, &registry)?.as_str(),
+        "# TYPE f counter\n# HELP f H\nf_total{env=\"prod\"} 1\n# EOF\n"
+    );
+    Ok(())
+}
+
+#[test]
+fn one_metric_a_label_set(rt: HostRuntime) -> Result<(), Fail> {
+    let alloc = rt.alloc();
+    let replies = Counters::<Reply, HostRuntime>::try_default(rt, alloc)?;
+    let found = reply(Method::Get, 200, None);
+    let lost = reply(Method::Get, 404, None);
+    count(&replies, found)?;
+    count(&replies, lost)?;
+    assert_eq!(rt; count(&replies, found)?, 1);
+    assert_eq!(rt; replies.with(&found, |count| count.total()), Some(2));
+    assert_eq!(rt; replies.with(&lost, |count| count.total()), Some(1));
+    assert_eq!(rt;
+        replies.with(&reply(Method::Put, 404, None), |count| count.total()),
+        None
+    );
+    Ok(())
+}
+
+#[test]
+fn histograms_by_labels(rt: HostRuntime) -> Result<(), Fail> {
+    let alloc = rt.alloc();
+    let factory = move || -> Result<Histogram<HostRuntime>, MetricError> {
+        match exponential_buckets(Fixed::from_millionths(5_000), 2, 10) {
+            Ok(bounds) => Histogram::new(rt, alloc, bounds),
+            Err(_) => Err(MetricError::CountFull),
+        }
+    };
+    let seconds = Family::<Outcome, Histogram<HostRuntime>, _, Hasher, HostRuntime>::new(
+        rt, alloc, factory,
+    )?;
+    let outcome = Outcome { error: None };
+    let tenth = Fixed::from_millionths(100_000);
+    seconds.with_or_new(&outcome, |seconds| seconds.observe(tenth))??;
+    assert_eq!(rt;
+        document_alone(alloc, "h", None, Box::new(alloc, seconds)?)?.as_str(),
+        "# TYPE h histogram\n# HELP h H\n\
+         h_bucket{le=\"0.005\"} 0\nh_bucket{le=\"0.01\"} 0\nh_bucket{le=\"0.02\"} 0\n\
+         h_bucket{le=\"0.04\"} 0\nh_bucket{le=\"0.08\"} 0\nh_bucket{le=\"0.16\"} 1\n\
+         h_bucket{le=\"0.32\"} 1\nh_bucket{le=\"0.64\"} 1\nh_bucket{le=\"1.28\"} 1\n\
+         h_bucket{le=\"2.56\"} 1\nh_bucket{le=\"+Inf\"} 1\nh_count 1\nh_sum 0.1\n# EOF\n"
+    );
+    Ok(())
+}
+
+// Counts a hundred replies of each of two kinds.
+fn count_hundreds<H: Wait + Clone + Drop>(replies: &Counters<Reply, H>) -> Result<(), MetricError> {
+    for _ in 0..100u8 {
+        count(replies, reply(Method::Get, 200, None))?;
+        count(replies, reply(Method::Put, 200, None))?;
+    }
+    Ok(())
+}
+
+#[test]
+fn four_threads_lose_nothing(rt: HostRuntime) -> Result<(), Fail> {
+    let alloc = rt.alloc();
+    let replies = Counters::<Reply, HostRuntime>::try_default(rt, alloc)?;
+    let ((first, second), (third, fourth)) = thread::join(
+        &rt,
+        || thread::join(
+            &rt,
+            || count_hundreds(&replies),
+            || count_hundreds(&replies),
+        ),
+        || thread::join(
+            &rt,
+            || count_hundreds(&replies),
+            || count_hundreds(&replies),
+        ),
+    );
+    first?;
+    second?;
+    third?;
+    fourth?;
+    let get = reply(Method::Get, 200, None);
+    let put = reply(Method::Put, 200, None);
+    assert_eq!(rt; replies.with(&get, |count| count.total()), Some(400));
+    assert_eq!(rt; replies.with(&put, |count| count.total()), Some(400));
+    Ok(())
+}
+
+// What a metric alone prints. A second time it prints the same.
+fn printed_twice(alloc: Global, metric: Box<dyn EncodeMetric>) -> Result<String, Fail> {
+    let mut registry = Registry::default();
+    let (name, help) = (String::from_str(alloc, "m")?, String::from_str(alloc, "H")?);
+    registry.register(alloc, name, help, metric)?;
+    let first = document_of(alloc, &registry)?;
+    if document_of(alloc, &registry)? != first {
+        return Err(Fail::new("writing changed the metric"));
+    }
+    Ok(first)
+}
+
+const FAILED: Outcome = Outcome { error: Some(true) };
+
+#[test]
+fn gauges_by_labels(rt: HostRuntime) -> Result<(), Fail> {
+    let alloc = rt.alloc();
+    let levels = Family::<Outcome, Gauge<i64>, _, Hasher, HostRuntime>::new(rt, alloc, move || {
+        Gauge::new(alloc, -7i64)
+    })?;
+    levels.with_or_new(&FAILED, |level| level.inc())?;
+    assert_eq!(rt;
+        printed_twice(alloc, Box::new(alloc, levels)?)?.as_str(),
+        "# TYPE m gauge\n# HELP m H\nm{error=\"true\"} -6\n# EOF\n"
+    );
+    Ok(())
+}
+
+#[test]
+fn counters_by_labels(rt: HostRuntime) -> Result<(), Fail> {
+    let alloc = rt.alloc();
+    let replies = Counters::<Outcome, HostRuntime>::try_default(rt, alloc)?;
+    replies.with_or_new(&FAILED, |count| count.inc())?;
+    assert_eq!(rt;
+        printed_twice(alloc, Box::new(alloc, replies)?)?.as_str(),
+        "# TYPE m counter\n# HELP m H\nm_total{error=\"true\"} 1\n# EOF\n"
+    );
+    Ok(())
+}
+
+#[test]
+fn state_sets_by_labels(rt: HostRuntime) -> Result<(), Fail> {
+    let alloc = rt.alloc();
+    let jobs = Family::<Outcome, StateSet<Job>, _, Hasher, HostRuntime>::new(rt, alloc, move || {
+        StateSet::new(alloc, Job::Pending)
+    })?;
+    jobs.with_or_new(&FAILED, |job| job.set(Job::Completed))??;
+    assert_eq!(rt;
+        printed_twice(alloc, Box::new(alloc, jobs)?)?.as_str(),
+        "# TYPE m stateset\n# HELP m H\n\
+         m{error=\"true\",m=\"pending\"} 0\nm{error=\"true\",m=\"running\"} 0\n\
+         m{error=\"true\",m=\"completed\"} 1\nm{error=\"true\",m=\"failed\"} 0\n# EOF\n"
+    );
+    let jobs = Family::<Outcome, ConstStateSet<Job>, _, Hasher, HostRuntime>::new(
+        rt,
+        alloc,
+        move || ConstStateSet::new(alloc, Job::Failed),
+    )?;
+    jobs.with_or_new(&FAILED, |_| ())?;
+    assert_eq!(rt;
+        printed_twice(alloc, Box::new(alloc, jobs)?)?.as_str(),
+        "# TYPE m stateset\n# HELP m H\n\
+         m{error=\"true\",m=\"pending\"} 0\nm{error=\"true\",m=\"running\"} 0\n\
+         m{error=\"true\",m=\"completed\"} 0\nm{error=\"true\",m=\"failed\"} 1\n# EOF\n"
+    );
+    Ok(())
+}
+
+#[test]
+fn values_without_a_type_by_labels(rt: HostRuntime) -> Result<(), Fail> {
+    let alloc = rt.alloc();
+    let infos = Family::<Outcome, Info<()>, _, Hasher, HostRuntime>::new(rt, alloc, || {
+        Ok(Info::new(()))
+    })?;
+    infos.with_or_new(&FAILED, |_| ())?;
+    assert_eq!(rt;
+        printed_twice(alloc, Box::new(alloc, infos)?)?.as_str(),
+        "# TYPE m info\n# HELP m H\nm_info{error=\"true\"} 1\n# EOF\n"
+    );
+    let unknowns = Family::<Outcome, Unknown<i64>, _, Hasher, HostRuntime>::new(rt, alloc, || {
+        Ok(Unknown::new(-5i64))
+    })?;
+    unknowns.with_or_new(&FAILED, |_| ())?;
+    assert_eq!(rt;
+        printed_twice(alloc, Box::new(alloc, unknowns)?)?.as_str(),
+        "# TYPE m unknown\n# HELP m H\nm{error=\"true\"} -5\n# EOF\n"
+    );
+    Ok(())
+}
+
+#[test]
+fn constants_by_labels(rt: HostRuntime) -> Result<(), Fail> {
+    let alloc = rt.alloc();
+    let levels = Family::<Outcome, ConstGauge<i64>, _, Hasher, HostRuntime>::new(rt, alloc, || {
+        Ok(ConstGauge::new(-5i64))
+    })?;
+    levels.with_or_new(&FAILED, |_| ())?;
+    assert_eq!(rt;
+        printed_twice(alloc, Box::new(alloc, levels)?)?.as_str(),
+        "# TYPE m gauge\n# HELP m H\nm{error=\"true\"} -5\n# EOF\n"
+    );
+    let counts = Family::<Outcome, ConstCounter<u64>, _, Hasher, HostRuntime>::new(
+        rt,
+        alloc,
+        || Ok(ConstCounter::new(7u64)),
+    )?;
+    counts.with_or_new(&FAILED, |_| ())?;
+    assert_eq!(rt;
+        printed_twice(alloc, Box::new(alloc, counts)?)?.as_str(),
+        "# TYPE m counter\n# HELP m H\nm_total{error=\"true\"} 7\n# EOF\n"
+    );
+    Ok(())
+}

@@ -1,0 +1,5 @@
+//! Tests of families by their documents.
+#![tactic(auto)]
+
+#[cfg(test)]
+mod families;

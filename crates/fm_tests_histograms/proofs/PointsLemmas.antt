@@ -1,0 +1,19 @@
+-- What is promised of points, under a weaker declaration of errors.
+use Rattle.std.proofs.Common.{inl, inr, List, Result}
+use Rattle.fm_text.specs.declared.error.EncodeError.{EncodeError}
+use Rattle.fm_encoder.specs.Points.{Point}
+use Rattle.fm_encoder.specs.Gathered.{GatheredPoints}
+use Rattle.fm_encoder.specs.Hands.{HandsPoints}
+
+pub HandsPoints-weaker : {A : List Point → Type 0} {F G : Type 0} (old new : GatheredPoints) (r : Result (Unit {0}) EncodeError) → (F → G) → HandsPoints A F old new r → HandsPoints A G old new r
+HandsPoints-weaker old new r weaker a = record {
+  place = a.place;
+  kept = a.kept;
+  handed = a.handed;
+  own = λ e n w. elim (a.own e n w) [ inl memory ↦ inl memory | inr fault ↦ inr (weaker fault) ];
+  refused = λ k o n. elim (a.refused k o n) [
+    | inl (inl memory) ↦ inl (inl memory)
+    | inl (inr fault) ↦ inl (inr (fault.0, weaker fault.1))
+    | inr more ↦ inr more
+  ];
+}

@@ -1,0 +1,130 @@
+//! A document of 1,000 sample lines with a common label, for which writing asks for memory twice and no more: once for
+//! a line, and once for the common labels.
+
+use super::{BEFORE, Patience, add_up, collected, patient_root};
+use fastmetrics::encoder::{EncodeError, EncodePoint, PointEncoder};
+use fastmetrics::format::text::{Exposition, encode_exposition};
+use fm_test_support::members::OneMember;
+use std::alloc::{AllocError, Global};
+use std::test::Fail;
+
+const HEAD: &[u8] =
+    b"before\n# TYPE myapp_up_bytes gauge\n# HELP myapp_up_bytes H\n# UNIT myapp_up_bytes bytes\n";
+
+const LINE: &[u8] = b"myapp_up_bytes{env=\"prod\"} 5\n";
+
+const END: &[u8] = b"# EOF\n";
+
+// A thousand points of one gauge.
+#[derive(Drop)]
+struct Thousand;
+
+impl EncodePoint for Thousand {
+    ghost points = { λ _ _. Unit {0} };
+
+    fn encode(&self, encoder: &mut PointEncoder) -> Result<(), EncodeError> {
+        for _ in 0..1000u32 {
+            encoder.encode_gauge(&5i64)?;
+        }
+        Ok(())
+    }
+}
+
+fn gauge_of_lines(alloc: Global) -> Result<Box<OneMember<(), Thousand>>, AllocError> {
+    let gauge = Box::new(alloc, OneMember::gauge((), Thousand))?;
+    Ok(gauge)
+}
+
+fn patient_gauge_of_lines(
+    alloc: Global,
+    patience: &mut Patience,
+) -> Result<Box<OneMember<(), Thousand>>, Fail> {
+    match gauge_of_lines(alloc) {
+        Ok(gauge) => Ok(gauge),
+        Err(_) => {
+            patience.bear()?;
+            Ok(gauge_of_lines(alloc)?)
+        }
+    }
+}
+
+// The exposition of a registry with that gauge.
+fn collected_lines(alloc: Global, patience: &mut Patience) -> Result<Exposition, Fail> {
+    let mut registry = patient_root(alloc, patience, &[("env", "prod")])?;
+    let metric = patient_gauge_of_lines(alloc, patience)?;
+    let spare = patient_gauge_of_lines(alloc, patience)?;
+    add_up(alloc, patience, &mut registry, metric, spare)?;
+    collected(alloc, &registry, patience)
+}
+
+// A writer with the line `before` that takes no memory for the document.
+fn spacious(alloc: Global) -> Result<Vec<u8>, AllocError> {
+    let mut writer = Vec::with_capacity(alloc, 40000)?;
+    writer.extend_from_slice(BEFORE)?;
+    Ok(writer)
+}
+
+fn spacious_writer(alloc: Global, patience: &mut Patience) -> Result<Vec<u8>, Fail> {
+    match spacious(alloc) {
+        Ok(writer) => Ok(writer),
+        Err(_) => {
+            patience.bear()?;
+            Ok(spacious(alloc)?)
+        }
+    }
+}
+
+// Whether these bytes are a thousand sample lines and the last line.
+fn are_lines(bytes: &[u8]) -> bool {
+    let mut rest = bytes;
+    for _ in 0..1000u32 {
+        if !rest.starts_with(LINE) {
+            return false;
+        }
+        rest = &rest[LINE.len()..];
+    }
+    rest == END
+}
+
+// Whether these bytes are the whole document.
+fn is_document(bytes: &[u8]) -> bool {
+    bytes.starts_with(HEAD) && are_lines(&bytes[HEAD.len()..])
+}
+
+// Writes the document.
+fn print_lines(alloc: Global, refusals: u32) -> Result<(), Fail> {
+    let mut patience = Patience::new(refusals);
+    let exposition = collected_lines(alloc, &mut patience)?;
+    let mut writer = spacious_writer(alloc, &mut patience)?;
+    if let Err(error) = encode_exposition(alloc, &mut writer, &exposition) {
+        patience.bear()?;
+        if error != EncodeError::Memory || writer.as_slice() != BEFORE {
+            return Err(Fail::new("want of memory wrote something"));
+        }
+        encode_exposition(alloc, &mut writer, &exposition)?;
+    }
+    if !is_document(writer.as_slice()) {
+        return Err(Fail::new("another document"));
+    }
+    Ok(())
+}
+
+// The exposition alone, whose requests the script takes away from those of the whole story: writing makes two.
+#[test]
+fn collects_without_refusals(rt: HostRuntime) -> Result<(), Fail> {
+    let mut patience = Patience::new(0);
+    let exposition = collected_lines(rt.alloc(), &mut patience)?;
+    let writer = spacious_writer(rt.alloc(), &mut patience)?;
+    assert_eq!(rt; (exposition.families().len(), writer.len()), (1, 7));
+    Ok(())
+}
+
+#[test]
+fn prints_without_refusals(rt: HostRuntime) -> Result<(), Fail> {
+    print_lines(rt.alloc(), 0)
+}
+
+#[test]
+fn prints_after_a_refusal(rt: HostRuntime) -> Result<(), Fail> {
+    print_lines(rt.alloc(), 1)
+}

@@ -1,0 +1,109 @@
+//! Metrics that are made, cloned, registered and written although a request for memory is refused.
+//!
+//! `scripts/refuse_allocations.sh` refuses one request of the process after the other. Each story is a pair of tests: one in
+//! which the refused call is made again, and one that fails at the first refusal, so that the script knows where to end.
+ghost use Rattle.fm_registry.specs.HasBook.{HasBook};
+
+use fastmetrics::encoder::EncodeMetric;
+use fastmetrics::format::text::{EncodeError, encode};
+use fastmetrics::raw::MetricError;
+use fastmetrics::registry::{Registry, RegistryError};
+use fm_test_support::support::Patience;
+use std::alloc::{AllocError, Global};
+use std::test::Fail;
+
+// What a call gives that is made again where it finds no memory.
+macro_rules! patiently {
+    ($patience:expr, $call:expr) => {
+        match $call {
+            Ok(made) => made,
+            Err(error) => {
+                bear(&mut $patience, MetricError::from(error))?;
+                $call?
+            }
+        }
+    };
+}
+
+mod families;
+mod handles;
+mod histograms;
+
+const BEFORE: &[u8] = b"before\n";
+
+// Bears a refusal for want of memory.
+fn bear(patience: &mut Patience, error: MetricError) -> Result<(), Fail> {
+    if error != MetricError::Memory {
+        return Err(Fail::new("another refusal"));
+    }
+    patience.bear()
+}
+
+// A clone in a box.
+fn boxed<M: Clone + Drop>(alloc: Global, metric: &M) -> Result<Box<M>, AllocError> {
+    Ok(Box::new(alloc, metric.clone()?)?)
+}
+
+// A writer with the line `before` that takes no memory for a short document.
+fn roomy(alloc: Global) -> Result<Vec<u8>, AllocError> {
+    let mut writer = Vec::with_capacity(alloc, 1000)?;
+    writer.extend_from_slice(BEFORE)?;
+    Ok(writer)
+}
+
+// What registering a metric as `m` answers.
+fn register_m(
+    alloc: Global,
+    registry: &mut Registry,
+    metric: Box<dyn EncodeMetric>,
+) -> Result<(), RegistryError>
+    requires { HasBook registry.old }
+    ensures { HasBook registry.new }
+{
+    let (Ok(name), Ok(help)) = (String::from_str(alloc, "m"), String::from_str(alloc, "H")) else {
+        return Err(RegistryError::Memory);
+    };
+    registry.register(alloc, name, help, metric)
+}
+
+// Registers this metric, or the spare one where that finds no memory.
+fn add_m(
+    alloc: Global,
+    patience: &mut Patience,
+    registry: &mut Registry,
+    metric: Box<dyn EncodeMetric>,
+    spare: Box<dyn EncodeMetric>,
+) -> Result<(), Fail>
+    requires { HasBook registry.old }
+    ensures { HasBook registry.new }
+{
+    if let Err(RegistryError::Memory) = register_m(alloc, registry, metric) {
+        patience.bear()?;
+        register_m(alloc, registry, spare)?;
+    }
+    Ok(())
+}
+
+// Sees that a metric alone, or the spare one, has this document.
+fn expect_document(
+    alloc: Global,
+    patience: &mut Patience,
+    metric: Box<dyn EncodeMetric>,
+    spare: Box<dyn EncodeMetric>,
+    document: &[u8],
+) -> Result<(), Fail> {
+    let mut registry = Registry::default();
+    add_m(alloc, patience, &mut registry, metric, spare)?;
+    let mut writer = patiently!(*patience, roomy(alloc));
+    if let Err(error) = encode(alloc, &mut writer, &registry) {
+        patience.bear()?;
+        if error != EncodeError::Memory || writer.as_slice() != BEFORE {
+            return Err(Fail::new("want of memory wrote something"));
+        }
+        encode(alloc, &mut writer, &registry)?;
+    }
+    if writer.as_slice() != document {
+        return Err(Fail::new("another document"));
+    }
+    Ok(())
+}

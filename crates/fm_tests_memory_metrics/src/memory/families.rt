@@ -1,0 +1,112 @@
+//! Families under refused memory: a refused member is not there.
+use super::{bear, boxed, expect_document};
+use fastmetrics::metrics::counter::Counter;
+use fastmetrics::metrics::family::{DefaultFactory, Family, FamilyCore};
+use fastmetrics::raw::{MetricError, TryDefault};
+use fm_test_support::replies::Path;
+use fm_test_support::support::Patience;
+use std::alloc::Global;
+use std::hash::{BuildHasherDefault, FoldHasher};
+use std::sync::Wait;
+use std::test::Fail;
+
+type Hasher = BuildHasherDefault<FoldHasher>;
+
+type Counters<H> = Family<Path, Counter, DefaultFactory<Counter, H>, Hasher, H>;
+
+const COUNTED: &[u8] =
+    b"before\n# TYPE m counter\n# HELP m H\nm_total{path=\"/\"} 1\nm_total{path=\"/users\"} 1\n# EOF\n";
+
+// The labels of a path.
+fn path(alloc: Global, patience: &mut Patience, text: &str) -> Result<Path, Fail> {
+    Ok(Path {
+        path: patiently!(*patience, String::from_str(alloc, text)),
+    })
+}
+
+// Adds a member with this value. A refusal leaves the members as they were.
+fn add(
+    core: &mut FamilyCore<Path, u64, Hasher>,
+    patience: &mut Patience,
+    path: &Path,
+    value: u64,
+) -> Result<(), Fail> {
+    let count = core.len();
+    if let Err(error) = core.get_or_new(path, &|| Ok(value)) {
+        bear(patience, error)?;
+        if core.len() != count || core.get(path).is_some() {
+            return Err(Fail::new("a refusal changed the members"));
+        }
+        core.get_or_new(path, &|| Ok(value))?;
+    }
+    if core.len() <= count || core.get(path) != Some(&value) {
+        return Err(Fail::new("another member"));
+    }
+    Ok(())
+}
+
+// Adds two members.
+fn add_two(alloc: Global, refusals: u32) -> Result<(), Fail> {
+    let mut patience = Patience::new(refusals);
+    let root = path(alloc, &mut patience, "/")?;
+    let users = path(alloc, &mut patience, "/users")?;
+    let mut core = FamilyCore::new(alloc);
+    add(&mut core, &mut patience, &root, 7)?;
+    add(&mut core, &mut patience, &users, 8)
+}
+
+#[test]
+fn members_without_refusals(rt: HostRuntime) -> Result<(), Fail> {
+    add_two(rt.alloc(), 0)
+}
+
+#[test]
+fn members_after_a_refusal(rt: HostRuntime) -> Result<(), Fail> {
+    add_two(rt.alloc(), 1)
+}
+
+// Counts once under these labels. A refused member is not there.
+fn count<H: Wait + Clone + Drop>(
+    counters: &Counters<H>,
+    patience: &mut Patience,
+    path: &Path,
+) -> Result<(), Fail> {
+    if let Err(error) = counters.with_or_new(path, |count| count.inc()) {
+        bear(patience, error)?;
+        if counters.with(path, |count| count.total()).is_some() {
+            return Err(Fail::new("a refused member is there"));
+        }
+        counters.with_or_new(path, |count| count.inc())?;
+    }
+    Ok(())
+}
+
+// Two clones of a family that counted once under each of two paths.
+fn counted<H: Wait + Copy + Drop>(
+    wait: H,
+    alloc: Global,
+    patience: &mut Patience,
+) -> Result<(Box<Counters<H>>, Box<Counters<H>>), Fail> {
+    let counters = patiently!(*patience, Counters::<H>::try_default(wait, alloc));
+    let root = path(alloc, patience, "/")?;
+    let users = path(alloc, patience, "/users")?;
+    count(&counters, patience, &root)?;
+    count(&counters, patience, &users)?;
+    let first = patiently!(*patience, boxed(alloc, &counters));
+    let second = patiently!(*patience, boxed(alloc, &counters));
+    Ok((first, second))
+}
+
+#[test]
+fn families_without_refusals(rt: HostRuntime) -> Result<(), Fail> {
+    let mut patience = Patience::new(0);
+    let (metric, spare) = counted(rt, rt.alloc(), &mut patience)?;
+    expect_document(rt.alloc(), &mut patience, metric, spare, COUNTED)
+}
+
+#[test]
+fn families_after_a_refusal(rt: HostRuntime) -> Result<(), Fail> {
+    let mut patience = Patience::new(1);
+    let (metric, spare) = counted(rt, rt.alloc(), &mut patience)?;
+    expect_document(rt.alloc(), &mut patience, metric, spare, COUNTED)
+}

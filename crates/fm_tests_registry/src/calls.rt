@@ -1,0 +1,102 @@
+//! Calls at the registries of a tree, one by one and as one list.
+ghost use Rattle.std.specs.Prelude.{IfOk};
+ghost use Rattle.fm_registry.specs.HasBook.{HasBook};
+
+use crate::boxed::{gauge_at, root, six_calls};
+use fastmetrics::registry::{Registry, RegistryCall, RegistryError};
+use fm_test_support::support::document_of;
+use fm_test_support::trees::{
+    build_below, gauge, have_numbers, is_refused, register_below, subsystem_at,
+};
+use std::alloc::{AllocError, Global};
+use std::test::Fail;
+
+#[test]
+fn six_calls_as_a_list(rt: HostRuntime) -> Result<(), Fail> {
+    let alloc = rt.alloc();
+    let mut registry = root(alloc, "myapp", &[])?;
+    let calls = six_calls(alloc)?;
+    let answers = registry.run(alloc, calls)?;
+    assert_eq!(rt;
+        document_of(alloc, &registry)?.as_str(),
+        "# TYPE myapp_db_up gauge\n# HELP myapp_db_up H\nmyapp_db_up 1\n# EOF\n"
+    );
+    assert!(rt; have_numbers(&answers, &[10, 0, 0, 8, 0, 4]));
+    let name = String::from_str(alloc, "db")?;
+    assert!(rt; is_refused(&answers, 0, &RegistryError::NoSuchSubsystem { name }));
+    let name = String::from_str(alloc, "1x")?;
+    assert!(rt; is_refused(&answers, 3, &RegistryError::InvalidLabelName { name }));
+    let name = String::from_str(alloc, "up")?;
+    assert!(rt; is_refused(&answers, 5, &RegistryError::AlreadyExists { name }));
+    Ok(())
+}
+
+// A root with the subsystem `db` and a gauge in it, by single calls.
+fn built_one_by_one(alloc: Global) -> Result<Registry, Fail>
+    ensures { IfOk result HasBook }
+{
+    let mut registry = root(alloc, "myapp", &[])?;
+    build_below(alloc, &mut registry, "db", &[])?;
+    register_below(alloc, &mut registry, "db", "up", gauge(alloc, 1)?)?;
+    Ok(registry)
+}
+
+#[test]
+fn calls_one_by_one(rt: HostRuntime) -> Result<(), Fail> {
+    let alloc = rt.alloc();
+    let mut registry = built_one_by_one(alloc)?;
+    let invalid = build_below(alloc, &mut registry, "db", &[("1x", "v")]);
+    let name = String::from_str(alloc, "1x")?;
+    assert_eq!(rt; invalid, Err(RegistryError::InvalidLabelName { name }));
+    build_below(alloc, &mut registry, "db", &[("k", "v")])?;
+    assert_eq!(rt;
+        document_of(alloc, &registry)?.as_str(),
+        "# TYPE myapp_db_up gauge\n# HELP myapp_db_up H\nmyapp_db_up 1\n# EOF\n"
+    );
+    Ok(())
+}
+
+#[test]
+fn a_gauge_registered_again(rt: HostRuntime) -> Result<(), Fail> {
+    let alloc = rt.alloc();
+    let mut registry = built_one_by_one(alloc)?;
+    let again = register_below(alloc, &mut registry, "db", "up", gauge(alloc, 2)?);
+    assert_eq!(rt;
+        document_of(alloc, &registry)?.as_str(),
+        "# TYPE myapp_db_up gauge\n# HELP myapp_db_up H\nmyapp_db_up 1\n# EOF\n"
+    );
+    let name = String::from_str(alloc, "up")?;
+    assert_eq!(rt; again, Err(RegistryError::AlreadyExists { name }));
+    Ok(())
+}
+
+// Calls at paths that are there, and at others that are not.
+fn calls_at_depth(alloc: Global) -> Result<Vec<RegistryCall>, AllocError> {
+    let mut calls = Vec::new(alloc);
+    calls.push(subsystem_at(alloc, &[], "a", &[])?)?;
+    calls.push(subsystem_at(alloc, &["a"], "b", &[])?)?;
+    calls.push(subsystem_at(alloc, &["a", "c"], "d", &[])?)?;
+    calls.push(gauge_at(alloc, &["a", "b", "d"], "Bad", 1)?)?;
+    calls.push(gauge_at(alloc, &["b", "a"], "up", 1)?)?;
+    calls.push(gauge_at(alloc, &["a", "b"], "up", 1)?)?;
+    Ok(calls)
+}
+
+#[test]
+fn first_missing_name(rt: HostRuntime) -> Result<(), Fail> {
+    let alloc = rt.alloc();
+    let mut registry = Registry::default();
+    let calls = calls_at_depth(alloc)?;
+    let answers = registry.run(alloc, calls)?;
+    assert_eq!(rt;
+        document_of(alloc, &registry)?.as_str(),
+        "# TYPE a_b_up gauge\n# HELP a_b_up H\na_b_up 1\n# EOF\n"
+    );
+    assert!(rt; have_numbers(&answers, &[0, 0, 10, 10, 10, 0]));
+    for (place, missing) in [(2, "c"), (3, "d"), (4, "b")] {
+        let name = String::from_str(alloc, missing)?;
+        let refusal = RegistryError::NoSuchSubsystem { name };
+        assert!(rt; is_refused(&answers, place, &refusal), "{missing}");
+    }
+    Ok(())
+}

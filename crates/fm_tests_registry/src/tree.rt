@@ -1,0 +1,269 @@
+//! Trees of registries: namespaces and labels, what roots refuse, depth, and the order of a document.
+
+use crate::boxed::{gauge_at, root};
+use fastmetrics::registry::{Registry, RegistryCall, RegistryError};
+use fm_test_support::support::document_of;
+use fm_test_support::trees::{
+    are_labels, build_below, gauge, have_numbers, is_refused, labels, register_below, subsystem_at,
+};
+use std::alloc::{AllocError, Global};
+use std::test::Fail;
+
+// Calls that make the subsystem `cache` with labels of its own, and register a gauge in it and another at the root.
+fn calls_for_a_cache(alloc: Global) -> Result<Vec<RegistryCall>, AllocError> {
+    let mut calls = Vec::new(alloc);
+    let labels = [("env", "prod"), ("type", "redis")];
+    calls.push(subsystem_at(alloc, &[], "cache", &labels)?)?;
+    calls.push(gauge_at(alloc, &["cache"], "size", 1)?)?;
+    calls.push(gauge_at(alloc, &[], "up", 2)?)?;
+    Ok(calls)
+}
+
+#[test]
+fn labels_of_a_subsystem(rt: HostRuntime) -> Result<(), Fail> {
+    let alloc = rt.alloc();
+    let mut registry = root(alloc, "myapp", &[("env", "dev"), ("region", "us-west")])?;
+    registry.run(alloc, calls_for_a_cache(alloc)?)?;
+    assert_eq!(rt;
+        document_of(alloc, &registry)?.as_str(),
+        "# TYPE myapp_up gauge\n# HELP myapp_up H\nmyapp_up{env=\"dev\",region=\"us-west\"} 2\n\
+         # TYPE myapp_cache_size gauge\n# HELP myapp_cache_size H\n\
+         myapp_cache_size{env=\"prod\",region=\"us-west\",type=\"redis\"} 1\n# EOF\n"
+    );
+    Ok(())
+}
+
+#[test]
+fn what_registries_say(rt: HostRuntime) -> Result<(), Fail> {
+    let alloc = rt.alloc();
+    let mut registry = root(alloc, "myapp", &[("env", "dev"), ("region", "us-west")])?;
+    let at_root = [("env", "dev"), ("region", "us-west")];
+    assert_eq!(rt; registry.namespace(), Some("myapp"));
+    assert!(rt; are_labels(registry.constant_labels(), &at_root));
+    registry.run(alloc, calls_for_a_cache(alloc)?)?;
+    let name = String::from_str(alloc, "cache")?;
+    let cache = registry.subsystem(alloc, name)?;
+    let at_cache = [("env", "prod"), ("region", "us-west"), ("type", "redis")];
+    assert_eq!(rt; cache.name(), "cache");
+    assert_eq!(rt; cache.namespace(), Some("myapp_cache"));
+    assert!(rt; are_labels(cache.constant_labels(), &at_cache));
+    Ok(())
+}
+
+// A call that makes a subsystem with one key twice, and one that finds it there.
+fn calls_with_keys(alloc: Global) -> Result<Vec<RegistryCall>, AllocError> {
+    let mut calls = Vec::new(alloc);
+    let twice = [("k", "1"), ("z", "0"), ("k", "2")];
+    calls.push(subsystem_at(alloc, &[], "a", &twice)?)?;
+    calls.push(subsystem_at(alloc, &[], "a", &[("k", "3"), ("y", "4")])?)?;
+    Ok(calls)
+}
+
+#[test]
+fn keys_given_twice(rt: HostRuntime) -> Result<(), Fail> {
+    let alloc = rt.alloc();
+    let mut registry = Registry::default();
+    registry.run(alloc, calls_with_keys(alloc)?)?;
+    let name = String::from_str(alloc, "a")?;
+    let below = registry.subsystem(alloc, name)?;
+    assert_eq!(rt; below.namespace(), Some("a"));
+    assert!(rt; are_labels(below.constant_labels(), &[("k", "2"), ("z", "0")]));
+    Ok(())
+}
+
+#[test]
+fn namespaces_of_roots(rt: HostRuntime) -> Result<(), Fail> {
+    let alloc = rt.alloc();
+    for text in ["", "_", "My", "1a", "a__b", "a_", "a-b", "é"] {
+        let namespace = String::from_str(alloc, text)?;
+        let answer = Registry::builder().with_namespace(namespace).err();
+        let namespace = String::from_str(alloc, text)?;
+        assert_eq!(rt;
+            answer,
+            Some(RegistryError::InvalidNamespace { namespace }),
+            "{text}"
+        );
+    }
+    let first = String::from_str(alloc, "first")?;
+    let second = String::from_str(alloc, "second")?;
+    let registry = Registry::builder()
+        .with_namespace(first)?
+        .with_namespace(second)?
+        .build()?;
+    assert_eq!(rt; registry.namespace(), Some("second"));
+    Ok(())
+}
+
+#[test]
+fn labels_of_roots(rt: HostRuntime) -> Result<(), Fail> {
+    let alloc = rt.alloc();
+    let twice = labels(alloc, &[("env", "a"), ("env", "b"), ("1x", "c")])?;
+    let answer = Registry::builder().with_const_labels(twice).err();
+    let name = String::from_str(alloc, "env")?;
+    assert_eq!(rt; answer, Some(RegistryError::DuplicateLabel { name }));
+    let invalid = labels(alloc, &[("env", "a"), ("1x", "b"), ("env", "c")])?;
+    let answer = Registry::builder().with_const_labels(invalid).err();
+    let name = String::from_str(alloc, "1x")?;
+    assert_eq!(rt; answer, Some(RegistryError::InvalidLabelName { name }));
+    let first = labels(alloc, &[("a", "1"), ("b", "2")])?;
+    let second = labels(alloc, &[("c", "3")])?;
+    let registry = Registry::builder()
+        .with_const_labels(first)?
+        .with_const_labels(second)?
+        .build()?;
+    assert_eq!(rt; registry.namespace(), None);
+    assert!(rt; are_labels(registry.constant_labels(), &[("c", "3")]));
+    Ok(())
+}
+
+#[test]
+fn names_of_subsystems(rt: HostRuntime) -> Result<(), Fail> {
+    let alloc = rt.alloc();
+    for text in ["", "_", "My", "1a", "a__b", "a_", "a-b", "é"] {
+        let mut registry = Registry::default();
+        let answer = build_below(alloc, &mut registry, text, &[("1x", "v")]);
+        let name = String::from_str(alloc, text)?;
+        assert_eq!(rt;
+            answer,
+            Err(RegistryError::InvalidSubsystemName { name }),
+            "{text}"
+        );
+    }
+    Ok(())
+}
+
+// Calls that register here and below in turn.
+fn calls_in_turn(alloc: Global) -> Result<Vec<RegistryCall>, AllocError> {
+    let mut calls = Vec::new(alloc);
+    calls.push(subsystem_at(alloc, &[], "x", &[])?)?;
+    calls.push(gauge_at(alloc, &["x"], "g", 1)?)?;
+    calls.push(gauge_at(alloc, &[], "c", 2)?)?;
+    calls.push(subsystem_at(alloc, &[], "b", &[])?)?;
+    calls.push(gauge_at(alloc, &["b"], "g", 3)?)?;
+    calls.push(gauge_at(alloc, &[], "a", 4)?)?;
+    calls.push(subsystem_at(alloc, &["x"], "z", &[])?)?;
+    calls.push(gauge_at(alloc, &["x", "z"], "g", 5)?)?;
+    calls.push(gauge_at(alloc, &["x"], "a", 6)?)?;
+    Ok(calls)
+}
+
+#[test]
+fn order_of_a_document(rt: HostRuntime) -> Result<(), Fail> {
+    let alloc = rt.alloc();
+    let mut registry = Registry::default();
+    let answers = registry.run(alloc, calls_in_turn(alloc)?)?;
+    assert_eq!(rt;
+        document_of(alloc, &registry)?.as_str(),
+        "# TYPE c gauge\n# HELP c H\nc 2\n# TYPE a gauge\n# HELP a H\na 4\n\
+         # TYPE x_g gauge\n# HELP x_g H\nx_g 1\n# TYPE x_a gauge\n# HELP x_a H\nx_a 6\n\
+         # TYPE x_z_g gauge\n# HELP x_z_g H\nx_z_g 5\n# TYPE b_g gauge\n# HELP b_g H\nb_g 3\n# EOF\n"
+    );
+    assert!(rt; have_numbers(&answers, &[0, 0, 0, 0, 0, 0, 0, 0, 0]));
+    Ok(())
+}
+
+#[test]
+fn lent_and_lent_again(rt: HostRuntime) -> Result<(), Fail> {
+    let alloc = rt.alloc();
+    let mut registry = Registry::default();
+    register_below(alloc, &mut registry, "x", "g", gauge(alloc, 1)?)?;
+    register_below(alloc, &mut registry, "x", "a", gauge(alloc, 2)?)?;
+    assert_eq!(rt;
+        document_of(alloc, &registry)?.as_str(),
+        "# TYPE x_g gauge\n# HELP x_g H\nx_g 1\n# TYPE x_a gauge\n# HELP x_a H\nx_a 2\n# EOF\n"
+    );
+    Ok(())
+}
+
+// The path that goes down so often.
+fn path_down(alloc: Global, depth: usize) -> Result<Vec<String>, AllocError> {
+    let mut path = Vec::new(alloc);
+    for _ in 0..depth {
+        path.push(String::from_str(alloc, "a")?)?;
+    }
+    Ok(path)
+}
+
+// The calls that make so many subsystems one in another.
+fn one_in_another(alloc: Global, count: usize) -> Result<Vec<RegistryCall>, AllocError> {
+    let mut calls = Vec::new(alloc);
+    for depth in 0..count {
+        calls.push(RegistryCall::Subsystem {
+            path: path_down(alloc, depth)?,
+            name: String::from_str(alloc, "a")?,
+            labels: Vec::new(alloc),
+        })?;
+    }
+    Ok(calls)
+}
+
+// The call that registers a gauge 64 registries below.
+fn deepest_gauge(alloc: Global) -> Result<RegistryCall, AllocError> {
+    Ok(RegistryCall::Register {
+        path: path_down(alloc, 64)?,
+        name: String::from_str(alloc, "g")?,
+        help: String::from_str(alloc, "H")?,
+        unit: None,
+        metric: gauge(alloc, 5)?,
+    })
+}
+
+#[test]
+fn deepest_registries(rt: HostRuntime) -> Result<(), Fail> {
+    let alloc = rt.alloc();
+    let mut registry = root(alloc, "root", &[("k", "v")])?;
+    let mut calls = one_in_another(alloc, 65)?;
+    calls.push(deepest_gauge(alloc)?)?;
+    let answers = registry.run(alloc, calls)?;
+    let accepted = answers.iter().filter(|answer| answer.is_ok()).count();
+    assert_eq!(rt; (accepted, answers.len()), (65, 66));
+    let name = String::from_str(alloc, "a")?;
+    assert!(rt; is_refused(&answers, 64, &RegistryError::TooDeep { name }));
+    let document = document_of(alloc, &registry)?;
+    assert!(rt; document.as_str().starts_with("# TYPE root_a_a_a_a"));
+    assert!(rt; document.as_str().ends_with("_a_a_a_g{k=\"v\"} 5\n# EOF\n"));
+    assert_eq!(rt; document.as_str().matches("_a").count(), 3 * 64);
+    Ok(())
+}
+
+// Calls 64 registries below: a subsystem whose name and label are invalid, and one whose label alone is.
+fn invalid_calls_at_depth(alloc: Global) -> Result<Vec<RegistryCall>, AllocError> {
+    let mut calls = one_in_another(alloc, 64)?;
+    for name in ["1a", "b"] {
+        calls.push(RegistryCall::Subsystem {
+            path: path_down(alloc, 64)?,
+            name: String::from_str(alloc, name)?,
+            labels: labels(alloc, &[("1x", "v")])?,
+        })?;
+    }
+    Ok(calls)
+}
+
+#[test]
+fn names_before_depth_before_labels(rt: HostRuntime) -> Result<(), Fail> {
+    let alloc = rt.alloc();
+    let mut registry = Registry::default();
+    let answers = registry.run(alloc, invalid_calls_at_depth(alloc)?)?;
+    let name = String::from_str(alloc, "1a")?;
+    let invalid = RegistryError::InvalidSubsystemName { name };
+    assert!(rt; is_refused(&answers, 64, &invalid));
+    let name = String::from_str(alloc, "b")?;
+    assert!(rt; is_refused(&answers, 65, &RegistryError::TooDeep { name }));
+    Ok(())
+}
+
+#[test]
+fn first_of_two_invalid_labels(rt: HostRuntime) -> Result<(), Fail> {
+    let alloc = rt.alloc();
+    let pairs = [("a", "1"), ("1x", "2"), ("2x", "3")];
+    let answer = Registry::builder()
+        .with_const_labels(labels(alloc, &pairs)?)
+        .err();
+    let name = String::from_str(alloc, "1x")?;
+    assert_eq!(rt; answer, Some(RegistryError::InvalidLabelName { name }));
+    let mut registry = Registry::default();
+    let answer = build_below(alloc, &mut registry, "x", &pairs);
+    let name = String::from_str(alloc, "1x")?;
+    assert_eq!(rt; answer, Err(RegistryError::InvalidLabelName { name }));
+    Ok(())
+}

@@ -1,2 +1,0 @@
-pub mod IgnoredLemmas
-pub mod ReplyLemmas

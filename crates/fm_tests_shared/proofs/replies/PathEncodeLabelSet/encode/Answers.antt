@@ -1,5 +1,0 @@
-use Rattle.fm_encoder.proofs.OwnLabels.{last_label}
-use Rattle.fm_tests_shared.proofs.replies.PathEncodeLabelSet.encode.Goals as goal
-
-pub returns : goal.returns
-returns c = last_label _ _ _ c.encode.ensures.handed

@@ -1,2 +1,0 @@
-pub mod OwnBuckets
-pub mod Replies

@@ -1,0 +1,212 @@
+ghost use Rattle.std.specs.Prelude.{◌≡◌, ◌++◌, IfOk};
+ghost use Rattle.std.specs.List.{AllByRecursion};
+ghost use Rattle.fm_grammar.specs.WellFormed.{AreLabels, IsSample};
+ghost use Rattle.fm_grammar.specs.declared.MetricType.TheVariants.{Counter};
+ghost use Rattle.fm_text.specs.Samples.{label_of, labels_of};
+
+use fm_grammar::{MetricType, SampleKind};
+use fm_raw::fixed::Fixed;
+use fm_text::{EncodeError, Exposition, SampleStore, Value, encode_exposition, make};
+use std::alloc::{AllocError, Global};
+use std::io::{self, ErrorKind, Write};
+use std::sync::Arc;
+use std::test::Fail;
+
+const DOCUMENT: &[u8] = b"# TYPE c counter
+# HELP c a \\\"b\\\" \\\\ \\n.
+c_total{a=\"x\\\"\\\\\\ny\",b=\"\"} 42 1.005 # {} 0.7 2.000
+# EOF
+";
+
+// Takes at most `step` bytes a call and `room` bytes in all, and then answers an error, or 0.
+#[derive(Drop)]
+struct Stopping {
+    bytes: Vec<u8>,
+    room: usize,
+    step: usize,
+    is_failing: bool,
+}
+
+impl Stopping {
+    fn new(alloc: Global, room: usize, step: usize, is_failing: bool) -> Stopping {
+        Stopping {
+            bytes: Vec::new(alloc),
+            room,
+            step,
+            is_failing,
+        }
+    }
+}
+
+impl Write for Stopping {
+    fn write(&mut self, buf: &[u8]) -> io::Result<usize> {
+        let count = buf.len().min(self.room).min(self.step);
+        if count == 0 && self.is_failing {
+            return Err(io::Error::from(ErrorKind::Other));
+        }
+        self.bytes.extend_from_slice(&buf[..count])?;
+        self.room -= count;
+        Ok(count)
+    }
+
+    fn flush(&mut self) -> io::Result<()> {
+        Ok(())
+    }
+}
+
+fn label(alloc: Global, name: &str, value: &str) -> Result<(String, String), AllocError>
+    ensures { IfOk result (λ pair. label_of pair ≡ record { name = name.now; value = value.now }) }
+{
+    let name = String::from_str(alloc, name)?;
+    let value = String::from_str(alloc, value)?;
+    Ok((name, value))
+}
+
+// A sample with these labels, a timestamp and an exemplar without labels.
+fn total(
+    alloc: Global,
+    common: Vec<(String, String)>,
+    own: Vec<(String, String)>,
+) -> Result<SampleStore, EncodeError>
+    requires { AreLabels (labels_of common.items ++ labels_of own.items) }
+    ensures { IfOk result (λ store. AllByRecursion (IsSample Counter) store.samples) }
+{
+    let exemplar = make::exemplar(Vec::new(alloc), Fixed::from_millionths(700_000), Some(2000));
+    let mut store = SampleStore::new(alloc, Arc::new(alloc, common)?);
+    store.push(
+        SampleKind::Total,
+        own,
+        Value::Whole(42),
+        Some(1005),
+        Some(exemplar),
+    )?;
+    Ok(store)
+}
+
+fn family(alloc: Global, samples: SampleStore) -> Result<Exposition, EncodeError>
+    requires { AllByRecursion (IsSample Counter) samples.samples }
+{
+    let name = String::from_str(alloc, "c")?;
+    let help = String::from_str(alloc, "a \"b\" \\ \n.")?;
+    let family = make::family(name, MetricType::Counter, help, None, samples);
+    Ok(make::exposition(vec![in alloc; family]?))
+}
+
+// One sample, whose two labels are common ones.
+fn counter(alloc: Global) -> Result<Exposition, EncodeError> {
+    let mut common = Vec::new(alloc);
+    common.push(label(alloc, "a", "x\"\\\ny")?)?;
+    common.push(label(alloc, "b", "")?)?;
+    family(alloc, total(alloc, common, Vec::new(alloc))?)
+}
+
+// The same, but the second label is the sample's own.
+fn counter_with_own(alloc: Global) -> Result<Exposition, EncodeError> {
+    let mut common = Vec::new(alloc);
+    common.push(label(alloc, "a", "x\"\\\ny")?)?;
+    let mut own = Vec::new(alloc);
+    own.push(label(alloc, "b", "")?)?;
+    family(alloc, total(alloc, common, own)?)
+}
+
+#[test]
+fn writes_documents(rt: HostRuntime) -> Result<(), Fail> {
+    let alloc = rt.alloc();
+    let mut bytes: Vec<u8> = Vec::new(alloc);
+    encode_exposition(alloc, &mut bytes, &make::exposition(Vec::new(alloc)))?;
+    assert!(rt; bytes.as_slice() == b"# EOF\n".as_slice());
+    bytes.clear();
+    encode_exposition(alloc, &mut bytes, &counter(alloc)?)?;
+    assert!(rt; bytes.as_slice() == DOCUMENT);
+    bytes.clear();
+    encode_exposition(alloc, &mut bytes, &counter_with_own(alloc)?)?;
+    assert!(rt; bytes.as_slice() == DOCUMENT);
+    let mut slow = Stopping::new(alloc, 1000, 1, true);
+    encode_exposition(alloc, &mut slow, &counter(alloc)?)?;
+    assert!(rt; slow.bytes.as_slice() == DOCUMENT);
+    Ok(())
+}
+
+#[test]
+fn stops_at_the_writers_end(rt: HostRuntime) -> Result<(), Fail> {
+    let alloc = rt.alloc();
+    for (is_failing, refusal) in [(true, EncodeError::Write), (false, EncodeError::WriteZero)] {
+        let mut writer = Stopping::new(alloc, 10, 7, is_failing);
+        let result = encode_exposition(alloc, &mut writer, &counter(alloc)?);
+        assert!(rt; result == Err(refusal));
+        assert!(rt; writer.bytes.as_slice() == b"# TYPE c c".as_slice());
+    }
+    Ok(())
+}
+
+#[test]
+fn compares_by_parts(rt: HostRuntime) -> Result<(), Fail> {
+    let alloc = rt.alloc();
+    assert!(rt; counter(alloc)? == counter(alloc)?);
+    assert!(rt; counter(alloc)? == counter_with_own(alloc)?);
+    assert!(rt; counter(alloc)? != make::exposition(Vec::new(alloc)));
+    assert!(rt; Value::Whole(1) != Value::Millis(1));
+    Ok(())
+}
+
+// Counts the bytes and the lines that it takes, and keeps none.
+#[derive(Drop)]
+struct Counting {
+    bytes: usize,
+    lines: usize,
+}
+
+impl Write for Counting {
+    fn write(&mut self, buf: &[u8]) -> io::Result<usize> {
+        for byte in buf {
+            if *byte == b'\n' {
+                self.lines = self.lines.saturating_add(1);
+            }
+        }
+        self.bytes = self.bytes.saturating_add(buf.len());
+        Ok(buf.len())
+    }
+
+    fn flush(&mut self) -> io::Result<()> {
+        Ok(())
+    }
+}
+
+// So many totals, in points of two samples each that share these labels.
+fn totals(
+    alloc: Global,
+    common: Vec<(String, String)>,
+    count: u32,
+) -> Result<SampleStore, EncodeError>
+    requires { AreLabels (labels_of common.items) }
+    ensures { IfOk result (λ store. AllByRecursion (IsSample Counter) store.samples) }
+{
+    let mut store = SampleStore::new(alloc, Arc::new(alloc, common)?);
+    for i in 0..count {
+        if i % 2 == 0 {
+            store.end_point();
+        }
+        store.push(
+            SampleKind::Total,
+            Vec::new(alloc),
+            Value::Whole(i128::from(i)),
+            None,
+            None,
+        )?;
+    }
+    Ok(store)
+}
+
+// The writer takes no memory, so the only requests after those of the exposition are the two of its writing: a line, and
+// the labels that the samples of a point share.
+#[test]
+fn two_growths(rt: HostRuntime) -> Result<(), Fail> {
+    let alloc = rt.alloc();
+    let common = vec![in alloc; label(alloc, "k", "v")?]?;
+    let exposition = family(alloc, totals(alloc, common, 1000)?)?;
+    let mut writer = Counting { bytes: 0, lines: 0 };
+    encode_exposition(alloc, &mut writer, &exposition)?;
+    assert!(rt; writer.lines == 1003);
+    assert!(rt; writer.bytes == 18_937);
+    Ok(())
+}
