@@ -163,19 +163,33 @@ fn names_of_labels(rt: HostRuntime) -> Result<(), Fail> {
     Ok(())
 }
 
+// Three labels, of which these are written.
+fn written(first: bool, second: bool, third: bool) -> [Perhaps; 3] {
+    [
+        Perhaps {
+            name: "a",
+            is_written: first,
+        },
+        Perhaps {
+            name: "b",
+            is_written: second,
+        },
+        Perhaps {
+            name: "c",
+            is_written: third,
+        },
+    ]
+}
+
 #[test]
 fn labels_that_write_nothing(rt: HostRuntime) -> Result<(), Fail> {
     let alloc = rt.alloc();
-    for (first, second, third, want) in [
-        (false, true, true, "t{b=\"x\",c=\"x\"} 5\n# EOF\n"),
-        (true, false, true, "t{a=\"x\",c=\"x\"} 5\n# EOF\n"),
-        (true, true, false, "t{a=\"x\",b=\"x\"} 5\n# EOF\n"),
-        (false, false, false, "t 5\n# EOF\n"),
+    for (labels, want) in [
+        (written(false, true, true), "t{b=\"x\",c=\"x\"} 5\n# EOF\n"),
+        (written(true, false, true), "t{a=\"x\",c=\"x\"} 5\n# EOF\n"),
+        (written(true, true, false), "t{a=\"x\",b=\"x\"} 5\n# EOF\n"),
+        (written(false, false, false), "t 5\n# EOF\n"),
     ] {
-        let labels = [("a", first), ("b", second), ("c", third)].map(|(name, is_written)| Perhaps {
-            name,
-            is_written,
-        });
         let metric = Box::new(alloc, OneMember::gauge(labels, ConstGauge::new(5i64)))?;
         assert_eq!(rt; lines_of(alloc, metric)?.as_str(), want);
     }

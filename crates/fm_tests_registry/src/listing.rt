@@ -1,6 +1,6 @@
 //! A registry at a concrete type: a metric in it, and one below.
-use fm_raw::MetricType;
-use fm_registry::Registry;
+use fastmetrics::raw::MetricType;
+use fastmetrics::registry::Registry;
 use std::alloc::Global;
 use std::test::Fail;
 
