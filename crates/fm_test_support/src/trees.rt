@@ -117,6 +117,23 @@ pub fn gauge(alloc: Global, value: i64) -> Result<Box<ConstGauge<i64>>, AllocErr
     Ok(Box::new(alloc, ConstGauge::new(value))?)
 }
 
+/// Registers a metric here, with this help.
+pub fn register_helped(
+    alloc: Global,
+    registry: &mut Registry,
+    name: &str,
+    help: &str,
+    metric: Box<dyn EncodeMetric>,
+) -> Result<(), RegistryError>
+    requires { HasBook registry.old }
+    ensures { HasBook registry.new }
+{
+    let (Ok(name), Ok(help)) = (String::from_str(alloc, name), String::from_str(alloc, help)) else {
+        return Err(RegistryError::Memory);
+    };
+    registry.register(alloc, name, help, metric)
+}
+
 /// Registers a metric here, with the help `H`.
 pub fn register(
     alloc: Global,
@@ -127,10 +144,7 @@ pub fn register(
     requires { HasBook registry.old }
     ensures { HasBook registry.new }
 {
-    let (Ok(name), Ok(help)) = (String::from_str(alloc, name), String::from_str(alloc, "H")) else {
-        return Err(RegistryError::Memory);
-    };
-    registry.register(alloc, name, help, metric)
+    register_helped(alloc, registry, name, "H", metric)
 }
 
 /// Registers a metric in a subsystem, which is made where it is not there.

@@ -7,7 +7,7 @@ use fastmetrics::metrics::gauge::ConstGauge;
 use fastmetrics::raw::{Fixed, MetricType, TypedMetric, Unit};
 use fastmetrics::registry::{Registry, RegistryError};
 use fm_test_support::support::{document_alone, document_of, lines_of};
-use fm_test_support::trees::gauge;
+use fm_test_support::trees::{gauge, register};
 use std::alloc::Global;
 use std::test::Fail;
 use std::time::Duration;
@@ -64,48 +64,6 @@ fn gauges_of_millionths(rt: HostRuntime) -> Result<(), Fail> {
     Ok(())
 }
 
-#[test]
-fn numbers_of_counters(rt: HostRuntime) -> Result<(), Fail> {
-    let alloc = rt.alloc();
-    let document = document_alone(
-        alloc,
-        "t",
-        None,
-        Box::new(alloc, ConstCounter::new(u32::MAX))?,
-    )?;
-    assert!(rt;
-        document
-            .as_str()
-            .ends_with(" H\nt_total 4294967295\n# EOF\n")
-    );
-    let document = document_alone(
-        alloc,
-        "t",
-        None,
-        Box::new(alloc, ConstCounter::new(u64::MAX))?,
-    )?;
-    assert!(rt;
-        document
-            .as_str()
-            .ends_with(" H\nt_total 18446744073709551615\n# EOF\n")
-    );
-    let document = document_alone(
-        alloc,
-        "t",
-        None,
-        Box::new(alloc, ConstCounter::new(usize::MAX))?,
-    )?;
-    assert!(rt;
-        document
-            .as_str()
-            .ends_with(" H\nt_total 18446744073709551615\n# EOF\n")
-    );
-    let half = ConstCounter::new(Fixed::from_millionths(500000));
-    let document = document_alone(alloc, "t", None, Box::new(alloc, half)?)?;
-    assert!(rt; document.as_str().ends_with(" H\nt_total 0.5\n# EOF\n"));
-    Ok(())
-}
-
 // Whether the document of a counter ends with this number.
 fn has_total(alloc: Global, counter: Box<dyn EncodeMetric>, number: &str) -> Result<bool, Fail> {
     let document = document_alone(alloc, "t", None, counter)?;
@@ -116,6 +74,24 @@ fn has_total(alloc: Global, counter: Box<dyn EncodeMetric>, number: &str) -> Res
             .and_then(|line| line.strip_suffix("\n# EOF\n"))
             == Some(number),
     )
+}
+
+#[test]
+fn numbers_of_counters(rt: HostRuntime) -> Result<(), Fail> {
+    let alloc = rt.alloc();
+    let most = "18446744073709551615";
+    assert!(rt;
+        has_total(
+            alloc,
+            Box::new(alloc, ConstCounter::new(u32::MAX))?,
+            "4294967295"
+        )?
+    );
+    assert!(rt; has_total(alloc, Box::new(alloc, ConstCounter::new(u64::MAX))?, most)?);
+    assert!(rt; has_total(alloc, Box::new(alloc, ConstCounter::new(usize::MAX))?, most)?);
+    let half = ConstCounter::new(Fixed::from_millionths(500000));
+    assert!(rt; has_total(alloc, Box::new(alloc, half)?, "0.5")?);
+    Ok(())
 }
 
 #[test]
@@ -131,81 +107,64 @@ fn other_ends_of_counters(rt: HostRuntime) -> Result<(), Fail> {
     Ok(())
 }
 
+// Whether the document of a gauge ends with this number.
+fn has_value(alloc: Global, gauge: Box<dyn EncodeMetric>, number: &str) -> Result<bool, Fail> {
+    let lines = lines_of(alloc, gauge)?;
+    Ok(
+        lines
+            .as_str()
+            .strip_prefix("t ")
+            .and_then(|line| line.strip_suffix("\n# EOF\n"))
+            == Some(number),
+    )
+}
+
 #[test]
 fn numbers_of_gauges(rt: HostRuntime) -> Result<(), Fail> {
     let alloc = rt.alloc();
-    let document = document_alone(
-        alloc,
-        "t",
-        None,
-        Box::new(alloc, ConstGauge::new(i32::MIN))?,
-    )?;
-    assert!(rt; document.as_str().ends_with(" H\nt -2147483648\n# EOF\n"));
-    let document = document_alone(
-        alloc,
-        "t",
-        None,
-        Box::new(alloc, ConstGauge::new(i64::MAX))?,
-    )?;
+    let (least, greatest) = ("-9223372036854775808", "9223372036854775807");
     assert!(rt;
-        document
-            .as_str()
-            .ends_with(" H\nt 9223372036854775807\n# EOF\n")
+        has_value(
+            alloc,
+            Box::new(alloc, ConstGauge::new(i32::MIN))?,
+            "-2147483648"
+        )?
     );
-    let document = document_alone(
-        alloc,
-        "t",
-        None,
-        Box::new(alloc, ConstGauge::new(isize::MIN))?,
-    )?;
+    assert!(rt; has_value(alloc, Box::new(alloc, ConstGauge::new(i64::MAX))?, greatest)?);
+    assert!(rt; has_value(alloc, Box::new(alloc, ConstGauge::new(isize::MIN))?, least)?);
     assert!(rt;
-        document
-            .as_str()
-            .ends_with(" H\nt -9223372036854775808\n# EOF\n")
+        has_value(
+            alloc,
+            Box::new(alloc, ConstGauge::new(u32::MAX))?,
+            "4294967295"
+        )?
     );
-    let document = document_alone(
-        alloc,
-        "t",
-        None,
-        Box::new(alloc, ConstGauge::new(u32::MAX))?,
-    )?;
-    assert!(rt; document.as_str().ends_with(" H\nt 4294967295\n# EOF\n"));
-    let document = document_alone(
-        alloc,
-        "t",
-        None,
-        Box::new(alloc, ConstGauge::new(u64::MAX))?,
-    )?;
-    assert!(rt;
-        document
-            .as_str()
-            .ends_with(" H\nt 18446744073709551615\n# EOF\n")
-    );
+    let most = Box::new(alloc, ConstGauge::new(u64::MAX))?;
+    assert!(rt; has_value(alloc, most, "18446744073709551615")?);
     Ok(())
 }
 
 #[test]
 fn other_ends_of_gauges(rt: HostRuntime) -> Result<(), Fail> {
     let alloc = rt.alloc();
-    let greatest = Box::new(alloc, ConstGauge::new(i32::MAX))?;
-    assert_eq!(rt;
-        lines_of(alloc, greatest)?.as_str(),
-        "t 2147483647\n# EOF\n"
+    let (least, greatest) = ("-9223372036854775808", "9223372036854775807");
+    assert!(rt;
+        has_value(
+            alloc,
+            Box::new(alloc, ConstGauge::new(i32::MAX))?,
+            "2147483647"
+        )?
     );
-    let least = Box::new(alloc, ConstGauge::new(i64::MIN))?;
-    assert_eq!(rt;
-        lines_of(alloc, least)?.as_str(),
-        "t -9223372036854775808\n# EOF\n"
+    assert!(rt; has_value(alloc, Box::new(alloc, ConstGauge::new(i64::MIN))?, least)?);
+    assert!(rt;
+        has_value(
+            alloc,
+            Box::new(alloc, ConstGauge::new(isize::MAX))?,
+            greatest
+        )?
     );
-    let greatest = Box::new(alloc, ConstGauge::new(isize::MAX))?;
-    assert_eq!(rt;
-        lines_of(alloc, greatest)?.as_str(),
-        "t 9223372036854775807\n# EOF\n"
-    );
-    let least = Box::new(alloc, ConstGauge::new(u32::MIN))?;
-    assert_eq!(rt; lines_of(alloc, least)?.as_str(), "t 0\n# EOF\n");
-    let least = Box::new(alloc, ConstGauge::new(u64::MIN))?;
-    assert_eq!(rt; lines_of(alloc, least)?.as_str(), "t 0\n# EOF\n");
+    assert!(rt; has_value(alloc, Box::new(alloc, ConstGauge::new(u32::MIN))?, "0")?);
+    assert!(rt; has_value(alloc, Box::new(alloc, ConstGauge::new(u64::MIN))?, "0")?);
     Ok(())
 }
 
@@ -235,10 +194,9 @@ fn defaults_and_parts(rt: HostRuntime) {
 fn one_name_of_two_types(rt: HostRuntime) -> Result<(), Fail> {
     let alloc = rt.alloc();
     let mut registry = Registry::default();
-    let (name, help) = (String::from_str(alloc, "a")?, String::from_str(alloc, "H")?);
-    registry.register(alloc, name, help, Box::new(alloc, ConstCounter::new(1u64))?)?;
-    let (name, help) = (String::from_str(alloc, "a")?, String::from_str(alloc, "H")?);
-    registry.register(alloc, name, help, Box::new(alloc, ConstGauge::new(3i64))?)?;
+    let counter = Box::new(alloc, ConstCounter::new(1u64))?;
+    register(alloc, &mut registry, "a", counter)?;
+    register(alloc, &mut registry, "a", gauge(alloc, 3)?)?;
     assert_eq!(rt;
         document_of(alloc, &registry)?.as_str(),
         "# TYPE a counter\n# HELP a H\na_total 1\n# TYPE a gauge\n# HELP a H\na 3\n# EOF\n"

@@ -4,6 +4,7 @@ use fastmetrics::metrics::counter::ConstCounter;
 use fastmetrics::metrics::tally::Book;
 use fastmetrics::registry::{Registry, RegistryError};
 use fm_test_support::support::{document_alone, document_of};
+use fm_test_support::trees::register_helped;
 use own_metric::{Queue, Waiting};
 use std::test::Fail;
 
@@ -82,17 +83,14 @@ fn names_and_helps(rt: HostRuntime) -> Result<(), Fail> {
 fn repeated_registration(rt: HostRuntime) -> Result<(), Fail> {
     let alloc = rt.alloc();
     let mut registry = Registry::default();
-    let name = String::from_str(alloc, "a")?;
-    let help = String::from_str(alloc, "first")?;
-    registry.register(alloc, name, help, Box::new(alloc, ConstCounter::new(1u64))?)?;
-    let name = String::from_str(alloc, "a")?;
-    let help = String::from_str(alloc, "second")?;
-    let again = registry.register(alloc, name, help, Box::new(alloc, ConstCounter::new(2u64))?);
-    let document = document_of(alloc, &registry)?;
+    let counter = Box::new(alloc, ConstCounter::new(1u64))?;
+    register_helped(alloc, &mut registry, "a", "first", counter)?;
+    let counter = Box::new(alloc, ConstCounter::new(2u64))?;
+    let again = register_helped(alloc, &mut registry, "a", "second", counter);
     let name = String::from_str(alloc, "a")?;
     assert_eq!(rt; again, Err(RegistryError::AlreadyExists { name }));
     assert_eq!(rt;
-        document.as_str(),
+        document_of(alloc, &registry)?.as_str(),
         "# TYPE a counter\n# HELP a first\na_total 1\n# EOF\n"
     );
     Ok(())

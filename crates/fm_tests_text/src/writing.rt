@@ -1,4 +1,4 @@
-ghost use Rattle.std.specs.Prelude.{◌≡◌, ◌++◌, IfOk};
+ghost use Rattle.std.specs.Prelude.{◌≡◌, ◌++◌, [], IfOk};
 ghost use Rattle.std.specs.List.{AllByRecursion};
 ghost use Rattle.fm_grammar.specs.WellFormed.{AreLabels, IsSample};
 ghost use Rattle.fm_grammar.specs.declared.MetricType.TheVariants.{Counter};
@@ -178,7 +178,7 @@ fn totals(
     common: Vec<(String, String)>,
     count: u32,
 ) -> Result<SampleStore, EncodeError>
-    requires { AreLabels (labels_of common.items) }
+    requires { AreLabels (labels_of common.items ++ []) }
     ensures { IfOk result (λ store. AllByRecursion (IsSample Counter) store.samples) }
 {
     let mut store = SampleStore::new(alloc, Arc::new(alloc, common)?);

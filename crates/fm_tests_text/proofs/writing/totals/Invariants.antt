@@ -1,12 +1,11 @@
-use Rattle.std.proofs.Common.{◌≡◌}
+use Rattle.std.proofs.Common.{[], ◌++◌}
 use Rattle.std.specs.List.{AllByRecursion}
-use Rattle.fm_grammar.specs.WellFormed.{IsSample}
+use Rattle.fm_grammar.specs.WellFormed.{AreLabels, IsSample}
 use Rattle.fm_grammar.specs.declared.MetricType.TheVariants.{Counter}
-use Rattle.fm_text.specs.Samples.{labels_of}
 use Rattle.fm_tests_text.proofs.writing.totals.Given as goal
 
 abbrev pub invariant-loop-i : goal.invariant-loop-i
 invariant-loop-i l = record {
-  common : l.store.common ≡ labels_of l.initial.common.items;
+  common : AreLabels (l.store.common ++ []);
   samples : AllByRecursion (IsSample Counter) l.store.samples;
 }
