@@ -6,15 +6,16 @@ use Rattle.fm_grammar.specs.declared.MetricType.{MetricType}
 use Rattle.fm_grammar.specs.declared.MetricType.TheVariants.{Unknown, Gauge, Counter, StateSet, Info, Histogram, GaugeHistogram, Summary}
 use Rattle.fm_grammar.specs.Exposition.{Label, Value, Fixed, Sample}
 use Rattle.fm_grammar.specs.declared.SampleKind.TheVariants.{Sum as SumKind}
-use Rattle.fm_grammar.specs.WellFormed.{ValueFits}
+use Rattle.fm_grammar.specs.WellFormed.{ValueFits, IsSample}
 use Rattle.fm_grammar.specs.Names.{IsLabelName}
 use Rattle.fm_bucket.specs.declared.bound.Bucket.{Bucket}
 use Rattle.fm_encoder.specs.Labels.{IsReserved}
+use Rattle.fm_grammar.proofs.Runs.{all_append}
 use Rattle.fm_text.specs.declared.error.EncodeError.{EncodeError}
 use Rattle.fm_encoder.specs.Points.{HandedExemplar, Setting, ExemplarClean, values_in, BucketsFault, HistogramPoint, point_samples, bucket_line, bucket_sample, bucket_samples, count_sample, sum_sample, created_samples}
 use Rattle.fm_encoder.specs.Gathered.{GatheredPoints, OwnRefusal, answer}
 use Rattle.fm_encoder.specs.Hands.{SamePlace, HandsPoints, points_samples}
-use Rattle.fm_encoder.specs.Steps.{FitsType, PushesSamples}
+use Rattle.fm_encoder.specs.Steps.{FitsType, PushesSample, PushesSamples}
 use Rattle.fm_encoder.specs.Buckets.{HasBuckets, slots_of, BeginsBuckets, PushesBucket, PushesBuckets}
 use Rattle.std.proofs.lemmas.List.{take_more, length-map}
 use Rattle.std.proofs.lemmas.List.Sums.{sum_by-append, sum_by-cons, sum_by_more_le}
@@ -57,6 +58,7 @@ pub record PushedFirst {S : Type 0} (f : S → List HandedExemplar) (buckets : L
   pub fits : values < 2 ^ 64
   pub clean : AllByRecursion ExemplarClean (map f (take i slots))
   pub samples : new.samples ≡ old.samples ++ bucket_samples old.setting old.common [] (take i buckets) (map f (take i slots))
+  pub formed : AllByRecursion (IsSample old.setting.metric_type) (bucket_samples old.setting old.common [] (take i buckets) (map f (take i slots)))
 
 SamePlace-then : (old mid new : GatheredPoints) → SamePlace old mid → SamePlace mid new → SamePlace old new
 SamePlace-then old mid new a b = record { setting = b.setting ∙ a.setting; common = b.common ∙ a.common; deferred = b.deferred ∙ a.deferred }
@@ -101,6 +103,11 @@ PushedFirst-more f F buckets slots i before values b s old mid new r within same
     ∙ (append_assoc old.samples (bucket_samples old.setting old.common [] (take i buckets) (map f (take i slots))) (line ∷ [])
     ∙ ap (λ (more : List Sample). old.samples ++ more) (sym pushed_all)))
     in
+    let line_at = λ (g : Setting) (common : List Label) (n : ℕ). bucket_line g common b.upper_bound n (f s) in
+    let formed_here = subst (λ (g : Setting). IsSample g.metric_type (line_at g mid.common values)) first.place.setting pushed.5 in
+    let formed_under = subst (λ (ls : List Label). IsSample old.setting.metric_type (line_at old.setting ls values)) first.place.common formed_here in
+    let formed_line : IsSample old.setting.metric_type line = subst (λ (n : ℕ). IsSample old.setting.metric_type (line_at old.setting old.common n)) values_are formed_under in
+    let formed_all = subst (λ (ss : List Sample). AllByRecursion (IsSample old.setting.metric_type) ss) (sym pushed_all) (all_append (IsSample old.setting.metric_type) (bucket_samples old.setting old.common [] (take i buckets) (map f (take i slots))) (line ∷ []) first.formed (formed_line, tt)) in
     record {
       place = SamePlace-then old mid new first.place push.place;
       accepting = pushed.2;
@@ -108,6 +115,7 @@ PushedFirst-more f F buckets slots i before values b s old mid new r within same
       fits = pushed.1;
       clean = rw mapped (all_clean-push (map f (take i slots)) (f s) first.clean pushed.3);
       samples = rw (more_buckets, mapped) (pushed.4 ∙ placed);
+      formed = rw (more_buckets, mapped) formed_all;
     }
 
 -- the next bucket is refused
@@ -128,11 +136,28 @@ PushesBuckets-refused {S} f F buckets slots i before k b s old mid new r within 
       fits = λ none. absurd cc;
       clean = λ none. absurd cc;
       samples = λ none. absurd cc;
+      formed = λ none. absurd cc;
       refused = λ j is. (let equal : k ≡ j = cc in subst (λ (e : EncodeError). OwnRefusal ((slot : S) × Contains slots slot × F slot) e ⊎ BucketsFault e buckets (map f slots)) equal fault);
     }
 
 pub length-slots_of : {E : Type 0} (exemplars : E → List HandedExemplar) (slots : List (Option (Bor E))) → length (slots_of exemplars slots) ≡ length slots
 length-slots_of exemplars slots = length-map slots _
+
+-- a sample, and then others
+pub PushesSamples-after : (f : Setting → List Label → Sample) (fs : Setting → List Label → List Sample) (sample : Sample) (old mid new : GatheredPoints) → PushesSample sample old mid → mid.refused ≡ None → PushesSamples (fs mid.setting mid.common) mid new → sample ≡ f old.setting old.common → PushesSamples (f old.setting old.common ∷ fs old.setting old.common) old new
+PushesSamples-after f fs sample old mid new one accepting more is = record {
+  place = SamePlace-then old mid new one.place more.place;
+  formed = λ none. (
+    subst (IsSample old.setting.metric_type) is (one.formed accepting),
+    subst (λ (ls : List Label). AllByRecursion (IsSample old.setting.metric_type) (fs old.setting ls)) one.place.common
+        (subst (λ (s : Setting). AllByRecursion (IsSample s.metric_type) (fs s mid.common)) one.place.setting (more.formed none)),
+  );
+  samples = λ none. more.samples none
+      ∙ ((λ i. one.samples accepting i ++ fs (one.place.setting i) (one.place.common i))
+      ∙ ((λ i. (old.samples ++ is i ∷ []) ++ fs old.setting old.common)
+      ∙ append_assoc old.samples (f old.setting old.common ∷ []) (fs old.setting old.common)));
+  refused = more.refused;
+}
 
 -- a histogram's point: its first tests, its buckets, and what comes behind them
 pub HandsPoints-histogram : (buckets : List Bucket) (slots : List (List HandedExemplar)) (count : ℕ) (sum : ℤ) (created : Option ℕ) (F : Type 0) (n : ℕ) (old begun pushed new : GatheredPoints) → length slots ≡ n → BeginsBuckets Histogram (length buckets) n old begun → begun.refused ≡ None → PushesBuckets buckets slots F begun pushed → pushed.refused ≡ None → PushesSamples (count_sample pushed.setting pushed.common count ∷ sum_sample pushed.setting pushed.common sum ∷ created_samples pushed.setting pushed.common created) pushed new → HandsPoints (λ ps. ps ≡ HistogramPoint buckets slots count sum created ∷ []) F old new (answer new.refused)
@@ -148,6 +173,11 @@ HandsPoints-histogram buckets slots count sum created F n old begun pushed new s
     ∙ (append_assoc old.samples (buckets_at old.setting old.common) (totals_at old.setting old.common)
     ∙ ap (λ (more : List Sample). old.samples ++ more) (sym (append-nil (point_samples old.setting old.common point))))))
     in
+    let buckets_in = subst (λ (s : Setting). AllByRecursion (IsSample s.metric_type) (buckets_at s begun.common)) begins.place.setting (push.formed pushed_none) in
+    let buckets_formed = subst (λ (ls : List Label). AllByRecursion (IsSample old.setting.metric_type) (buckets_at old.setting ls)) begins.place.common buckets_in in
+    let totals_in = λ (none : new.refused ≡ None). subst (λ (s : Setting). AllByRecursion (IsSample s.metric_type) (totals_at s pushed.common)) place.setting (totals.formed none) in
+    let totals_formed = λ (none : new.refused ≡ None). subst (λ (ls : List Label). AllByRecursion (IsSample old.setting.metric_type) (totals_at old.setting ls)) place.common (totals_in none) in
+    let formed = λ (none : new.refused ≡ None). all_append (IsSample old.setting.metric_type) (buckets_at old.setting old.common) (totals_at old.setting old.common) buckets_formed (totals_formed none) in
     let kept : (k : EncodeError) → ¬ (old.refused ≡ Some k) = λ k is. (let same : begun ≡ old = begins.kept k is in cc) in
     record {
       place = SamePlace-then old pushed new place totals.place;
@@ -155,7 +185,7 @@ HandsPoints-histogram buckets slots count sum created F n old begun pushed new s
       handed = λ o none r. (
         point ∷ [],
         refl,
-        ((begins.no_deferred begun_none, record { type = begins.same_type begun_none; parts = (same_number ∙ begins.same_number begun_none, push.fits pushed_none, push.clean pushed_none) }, tt)),
+        ((begins.no_deferred begun_none, record { type = begins.same_type begun_none; parts = (same_number ∙ begins.same_number begun_none, push.fits pushed_none, push.clean pushed_none); formed = formed none }, tt)),
         samples none,
       );
       own = λ e none r. (let not : Ok tt ≡ Err e = rw none at r in absurd cc);

@@ -5,6 +5,7 @@ use Rattle.std.specs.List.{AllByRecursion}
 use Rattle.std.specs.Borrow.{Bor}
 use Rattle.fm_grammar.specs.declared.MetricType.{MetricType}
 use Rattle.fm_grammar.specs.declared.MetricType.TheVariants.{Histogram, GaugeHistogram}
+use Rattle.fm_grammar.specs.WellFormed.{IsSample}
 use Rattle.fm_text.specs.declared.error.EncodeError.{EncodeError}
 use Rattle.fm_text.specs.declared.error.EncodeError.TheVariants.{KindMismatch, ExemplarCountMismatch, BucketOverflow}
 use Rattle.fm_bucket.specs.declared.bound.Bucket.{Bucket}
@@ -42,7 +43,8 @@ pub record PushesBucket (before : ℕ) (bucket : Bucket) (exemplars : List Hande
   pub place : SamePlace old new
   pub answered : MatchResult result
       (λ values. (values ≡ before + bucket.count) × (values < 2 ^ 64) × (new.refused ≡ None) × ExemplarClean exemplars
-      × (new.samples ≡ old.samples ++ bucket_line old.setting old.common bucket.upper_bound values exemplars ∷ []))
+      × (new.samples ≡ old.samples ++ bucket_line old.setting old.common bucket.upper_bound values exemplars ∷ [])
+      × IsSample old.setting.metric_type (bucket_line old.setting old.common bucket.upper_bound values exemplars))
       (λ k. (new.refused ≡ Some k)
       × (OwnRefusal MayFault k ⊎ (((k ≡ BucketOverflow) × (2 ^ 64 ≤ before + bucket.count)) ⊎ ExemplarFault k exemplars)))
 
@@ -52,4 +54,5 @@ pub record PushesBuckets (buckets : List Bucket) (slots : List (List HandedExemp
   pub fits : new.refused ≡ None → values_in buckets < 2 ^ 64
   pub clean : new.refused ≡ None → AllByRecursion ExemplarClean slots
   pub samples : new.refused ≡ None → new.samples ≡ old.samples ++ bucket_samples old.setting old.common [] buckets slots
+  pub formed : new.refused ≡ None → AllByRecursion (IsSample old.setting.metric_type) (bucket_samples old.setting old.common [] buckets slots)
   pub refused : (k : EncodeError) → new.refused ≡ Some k → OwnRefusal MayFault k ⊎ BucketsFault k buckets slots

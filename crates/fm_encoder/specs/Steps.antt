@@ -1,9 +1,10 @@
 -- What the encoders' own steps do.
 use Rattle.std.specs.Prelude.{◌≡◌, ◌≤◌, List, [], ◌∷◌, ◌++◌, length, Option, Some, None, Result, Ok, Err, ◌⊎◌, Contains, IfSome, Bool, true, false}
+use Rattle.std.specs.List.{AllByRecursion}
 use Rattle.fm_grammar.specs.declared.MetricType.{MetricType}
 use Rattle.fm_grammar.specs.declared.SampleKind.{SampleKind}
 use Rattle.fm_grammar.specs.Exposition.{Value, Whole, Fixed, Millis, Exemplar, Sample}
-use Rattle.fm_grammar.specs.WellFormed.{ValueFits, ValueSuits, kinds_of, ExemplarAllowed, IsExemplar}
+use Rattle.fm_grammar.specs.WellFormed.{ValueFits, ValueSuits, kinds_of, ExemplarAllowed, IsExemplar, IsSample}
 use Rattle.fm_text.specs.declared.error.EncodeError.{EncodeError}
 use Rattle.fm_text.specs.declared.error.EncodeError.TheVariants.{Memory, DuplicateLabel, MalformedLabel, ValueTwice, MissingValue, KindMismatch}
 use Rattle.fm_encoder.specs.Labels.{HandedLabel, label_names, LabelsFault, LabelsClean, LabelClean, IsMalformed, written, all_written}
@@ -53,12 +54,14 @@ pub record BeginsPoint (type : MetricType) (old new : GatheredPoints) : Type 0 w
 -- one sample more, or want of memory
 pub record PushesSample (sample : Sample) (old new : GatheredPoints) : Type 0 where
   pub place : SamePlace old new
+  pub formed : new.refused ≡ None → IsSample old.setting.metric_type sample
   pub samples : new.refused ≡ None → new.samples ≡ old.samples ++ sample ∷ []
   pub refused : (k : EncodeError) → new.refused ≡ Some k → k ≡ Memory
 
 -- several samples more, or want of memory
 pub record PushesSamples (pushed : List Sample) (old new : GatheredPoints) : Type 0 where
   pub place : SamePlace old new
+  pub formed : new.refused ≡ None → AllByRecursion (IsSample old.setting.metric_type) pushed
   pub samples : new.refused ≡ None → new.samples ≡ old.samples ++ pushed
   pub refused : (k : EncodeError) → new.refused ≡ Some k → k ≡ Memory
 

@@ -171,7 +171,7 @@ impl PointEncoder {
         requires fits { FitsType self.old.setting.metric_type kind (value_of value) (option_map exemplar_of exemplar) }
         ensures pushed { PushesSample (record {
           kind = kind;
-          labels = self.old.common;
+          labels = self.old.common ++ [];
           value = value_of value;
           time = self.old.setting.time;
           exemplar = option_map exemplar_of exemplar;
