@@ -11,3 +11,4 @@ pub mod Admits
 pub mod Encoded
 pub mod Families
 pub mod Heading
+pub mod Offered

@@ -14,9 +14,11 @@ ghost use Rattle.fm_encoder.specs.Offers.{AdmitsSamples, MetricHasFault};
 ghost use Rattle.fm_core.specs.Heading.{IsHeading};
 ghost use Rattle.fm_core.specs.Admits.{IsFamilyUnder, FaultUnder};
 ghost use Rattle.fm_core.specs.Families.{next_heading, EncodesFamily};
+ghost use Rattle.fm_core.specs.Offered.{Offered};
 
 use fm_encoder::{EncodeMetric, MetricEncoder};
 use fm_raw::{Metadata, MetricType, Unit};
+use fm_sink::Sink;
 use fm_text::{EncodeError, Exposition, FamilySamples, SampleStore, make};
 use std::alloc::{AllocError, Global};
 use std::marker::Model;
@@ -75,6 +77,32 @@ fn text_of(unit: Option<&Unit>) -> Option<&str>
     }
 }
 
+// Puts what a metric offers under its printed name, type and constant labels into a sink, or answers the first refusal. The name
+// comes back with the sink.
+pub(crate) fn offered_by(
+    alloc: Global,
+    name: String,
+    metric_type: MetricType,
+    constants: &[(String, String)],
+    metric: &dyn EncodeMetric,
+    sink: Sink,
+) -> Result<(String, Sink), EncodeError>
+    requires name { IsSnakeCase (string_bytes name) }
+    requires common { sink.common ≡ [] }
+    ensures { MatchResult result
+        (λ made. (string_bytes made.0 ≡ string_bytes name)
+        × Offered (offers metric.now) (stamps metric.now) (string_bytes name) metric_type (labels_of constants.now) sink.output made.1.output)
+        (λ k. (k ≡ EncodeError.Memory) ⊎ MetricHasFault k (offers metric.now) (stamps metric.now) (may_fault metric.now) (string_bytes name) metric_type (labels_of constants.now)) }
+{
+    let time = whole_millis(metric.timestamp());
+    let mut encoder = match MetricEncoder::new(alloc, name, metric_type, constants, time, sink) {
+        Ok(encoder) => encoder,
+        Err(error) => return Err(error),
+    };
+    let visited = metric.encode(&mut encoder);
+    encoder.end(visited)
+}
+
 // What a metric offers under its printed name, type and constant labels, as samples, or the first refusal. The name comes
 // back with them.
 fn samples_of_metric(
@@ -91,13 +119,17 @@ fn samples_of_metric(
         × AllByRecursion (IsSample metric_type) made.1.samples)
         (λ k. (k ≡ EncodeError.Memory) ⊎ MetricHasFault k (offers metric.now) (stamps metric.now) (may_fault metric.now) (string_bytes name) metric_type (labels_of constants.now)) }
 {
-    let time = whole_millis(metric.timestamp());
-    let mut encoder = match MetricEncoder::new(alloc, name, metric_type, constants, time) {
-        Ok(encoder) => encoder,
+    let Ok(sink) = Sink::samples(alloc) else {
+        return Err(EncodeError::Memory);
+    };
+    let (name, sink) = match offered_by(alloc, name, metric_type, constants, metric, sink) {
+        Ok(made) => made,
         Err(error) => return Err(error),
     };
-    let visited = metric.encode(&mut encoder);
-    encoder.end(visited)
+    match sink.into_samples() {
+        Some(samples) => Ok((name, samples)),
+        None => unreachable!(),
+    }
 }
 
 /// Gathers the families of a registry and all below it, one after the other. `collect` alone makes it.
