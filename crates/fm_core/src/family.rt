@@ -36,7 +36,7 @@ fn whole_millis(time: Option<Duration>) -> Option<u128>
 }
 
 // Namespace, name and unit, those that are there, joined by underscores.
-fn joined_name(
+pub(crate) fn joined_name(
     alloc: Global,
     namespace: Option<&str>,
     name: &str,
@@ -68,7 +68,7 @@ fn cloned_text(alloc: Global, text: Option<&str>) -> Result<Option<String>, Allo
 }
 
 // The text of a unit.
-fn text_of(unit: Option<&Unit>) -> Option<&str>
+pub(crate) fn text_of(unit: Option<&Unit>) -> Option<&str>
     ensures { option_copied result ≡ option_map (λ u. unit_text u.now) unit.entry }
 {
     match unit {
