@@ -17,9 +17,13 @@ pub record GatheredFamilies : Type 0 where
   pub families : Exposition
   pub refused : Option EncodeError
 
--- what stands above the samples of a metric with this metadata in the registry under way
+-- what stands above the samples of a metric with this metadata in a registry with this namespace and these labels
+abbrev pub heading_in : Option Text → Labels → Metadata → Heading
+heading_in namespace labels metadata = heading_of (record { namespace = namespace; labels = labels; registration = seen_metric metadata (tt {0}) })
+
+-- the same in the registry under way
 abbrev pub next_heading : GatheredFamilies → Metadata → Heading
-next_heading gathered metadata = heading_of (record { namespace = gathered.namespace; labels = gathered.labels; registration = seen_metric metadata (tt {0}) })
+next_heading gathered metadata = heading_in gathered.namespace gathered.labels metadata
 
 -- An encoder that had refused is as it was. Else it adds the family of the metric, unless that is empty, or refuses for want of
 -- memory or a fault that stands in the metric.

@@ -14,9 +14,11 @@ ghost use Rattle.fm_encoder.specs.Offers.{AdmitsSamples, MetricHasFault};
 ghost use Rattle.fm_core.specs.Heading.{IsHeading};
 ghost use Rattle.fm_core.specs.Admits.{IsFamilyUnder, FaultUnder};
 ghost use Rattle.fm_core.specs.Families.{next_heading, EncodesFamily};
+ghost use Rattle.fm_core.specs.Offered.{Offered};
 
 use fm_encoder::{EncodeMetric, MetricEncoder};
 use fm_raw::{Metadata, MetricType, Unit};
+use fm_sink::Sink;
 use fm_text::{EncodeError, Exposition, FamilySamples, SampleStore, make};
 use std::alloc::{AllocError, Global};
 use std::marker::Model;
@@ -34,7 +36,7 @@ fn whole_millis(time: Option<Duration>) -> Option<u128>
 }
 
 // Namespace, name and unit, those that are there, joined by underscores.
-fn joined_name(
+pub(crate) fn joined_name(
     alloc: Global,
     namespace: Option<&str>,
     name: &str,
@@ -66,13 +68,39 @@ fn cloned_text(alloc: Global, text: Option<&str>) -> Result<Option<String>, Allo
 }
 
 // The text of a unit.
-fn text_of(unit: Option<&Unit>) -> Option<&str>
+pub(crate) fn text_of(unit: Option<&Unit>) -> Option<&str>
     ensures { option_copied result ≡ option_map (λ u. unit_text u.now) unit.entry }
 {
     match unit {
         Some(unit) => Some(unit.as_str()),
         None => None,
     }
+}
+
+// Puts what a metric offers under its printed name, type and constant labels into a sink, or answers the first refusal. The name
+// comes back with the sink.
+pub(crate) fn offered_by(
+    alloc: Global,
+    name: String,
+    metric_type: MetricType,
+    constants: &[(String, String)],
+    metric: &dyn EncodeMetric,
+    sink: Sink,
+) -> Result<(String, Sink), EncodeError>
+    requires name { IsSnakeCase (string_bytes name) }
+    requires common { sink.common ≡ [] }
+    ensures { MatchResult result
+        (λ made. (string_bytes made.0 ≡ string_bytes name)
+        × Offered (offers metric.now) (stamps metric.now) (string_bytes name) metric_type (labels_of constants.now) sink.output made.1.output)
+        (λ k. (k ≡ EncodeError.Memory) ⊎ MetricHasFault k (offers metric.now) (stamps metric.now) (may_fault metric.now) (string_bytes name) metric_type (labels_of constants.now)) }
+{
+    let time = whole_millis(metric.timestamp());
+    let mut encoder = match MetricEncoder::new(alloc, name, metric_type, constants, time, sink) {
+        Ok(encoder) => encoder,
+        Err(error) => return Err(error),
+    };
+    let visited = metric.encode(&mut encoder);
+    encoder.end(visited)
 }
 
 // What a metric offers under its printed name, type and constant labels, as samples, or the first refusal. The name comes
@@ -91,13 +119,17 @@ fn samples_of_metric(
         × AllByRecursion (IsSample metric_type) made.1.samples)
         (λ k. (k ≡ EncodeError.Memory) ⊎ MetricHasFault k (offers metric.now) (stamps metric.now) (may_fault metric.now) (string_bytes name) metric_type (labels_of constants.now)) }
 {
-    let time = whole_millis(metric.timestamp());
-    let mut encoder = match MetricEncoder::new(alloc, name, metric_type, constants, time) {
-        Ok(encoder) => encoder,
+    let Ok(sink) = Sink::samples(alloc) else {
+        return Err(EncodeError::Memory);
+    };
+    let (name, sink) = match offered_by(alloc, name, metric_type, constants, metric, sink) {
+        Ok(made) => made,
         Err(error) => return Err(error),
     };
-    let visited = metric.encode(&mut encoder);
-    encoder.end(visited)
+    match sink.into_samples() {
+        Some(samples) => Ok((name, samples)),
+        None => unreachable!(),
+    }
 }
 
 /// Gathers the families of a registry and all below it, one after the other. `collect` alone makes it.

@@ -1,8 +1,9 @@
 //! Encoding, registries, and the text format.
 //!
-//! `encoder` and `registry` are the crates of these layers; `format::text` collects a registry and writes its document.
+//! `encoder` and `registry` are the crates of these layers; `format::text` collects a registry, and writes its document.
 #![tactic(auto)]
 
+mod document;
 mod family;
 pub mod format;
 

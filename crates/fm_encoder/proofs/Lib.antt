@@ -1,3 +1,4 @@
+pub use Rattle.fm_sink.proofs.OutputLemmas
 pub mod Cases
 pub mod NameLemmas
 pub mod PiecesLemmas

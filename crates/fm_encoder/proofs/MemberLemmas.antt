@@ -1,10 +1,16 @@
 -- Members of a metric, one after the other.
 use Rattle.std.proofs.Common.{◌≡◌, ℕ, List, [], ◌∷◌, ◌++◌, Some, None, Result, Ok, Err, ◌⊎◌, inl, inr, refl, sym, ◌∙◌, ap, subst, append_assoc, append-nil, MatchResult, ◌<◌, ◌+◌, length, get_or, take}
+use Rattle.std.specs.List.{AllByRecursion}
 use Rattle.std.proofs.lemmas.List.{take_more}
 use Rattle.std.proofs.lemmas.Grind.{flat_map-append}
 use Rattle.fm_grammar.specs.Exposition.{Label}
 use Rattle.fm_grammar.specs.declared.MetricType.{MetricType}
 use Rattle.fm_text.specs.declared.error.EncodeError.{EncodeError}
+use Rattle.fm_text.specs.declared.error.EncodeError.TheVariants.{Memory}
+use Rattle.fm_grammar.specs.WellFormed.{IsSample}
+use Rattle.fm_grammar.proofs.Runs.{all_append}
+use Rattle.fm_sink.specs.Output.{appended}
+use Rattle.fm_sink.proofs.OutputLemmas.{appended-append, appended-none}
 use Rattle.fm_encoder.specs.Labels.{HandedLabel, LabelsClean, LabelsFault, all_written, handed_again}
 use Rattle.fm_encoder.specs.Points.{Point, Member, Setting, Context, PointClean, PartsFault, point_samples, MembersClean, MembersFault, member_samples, members_samples}
 use Rattle.fm_encoder.specs.Gathered.{GatheredPoints, GatheredMembers, OwnRefusal, own_refusal, answer}
@@ -18,7 +24,7 @@ context_of labels s = record { setting = s; constants = labels }
 
 -- what a metric encoder shows of its point encoder
 abbrev pub shown : List Label → GatheredPoints → GatheredMembers
-shown labels g = record { context = context_of labels g.setting; samples = g.samples; refused = g.refused }
+shown labels g = record { context = context_of labels g.setting; output = g.output; refused = g.refused }
 
 pub none_before_ends : (visited : Result (Unit {0}) EncodeError) (mid new : GatheredPoints) → EndsPoints visited mid new → new.refused ≡ None → mid.refused ≡ None
 none_before_ends visited mid new ends none =
@@ -84,7 +90,7 @@ HandsMembers-one constants labels A F G old begun mid new visited begins hands e
             members_of labels h.0,
             (h.0, h.1, refl),
             subst (λ (x : Context). MembersClean x (members_of labels h.0)) same_context clean,
-            ends.samples ∙ h.3 ∙ (λ i. begins.samples i ++ lines i) ∙ ap (λ (x : Context). old.samples ++ members_samples x (members_of labels h.0)) same_context,
+            ends.output ∙ h.3 ∙ (λ i. appended (begins.setting i).name (begins.output i) (lines i)) ∙ ap (λ (x : Context). appended old.setting.name old.output (members_samples x (members_of labels h.0))) same_context,
           ));
       own = λ e n r. (let none : Ok tt ≡ Err e = rw n at r in cc);
       refused = λ k o n. elim (option_cases mid.refused) [
@@ -110,18 +116,26 @@ HandsMembers-one constants labels A F G old begun mid new visited begins hands e
     }
 
 -- what is read of the labels is what the next points have
-pub BeginsMember-read : {L : Type 0} (items : L → List Label) (all : List HandedLabel) (F : Type 0) (old new : GatheredPoints) (read : Result L EncodeError) → new.setting ≡ old.setting → new.samples ≡ old.samples → new.refused ≡ old.refused → MatchResult read (λ ls. (new.deferred ≡ None) × (new.common ≡ items ls)) (λ k. new.deferred ≡ Some k) → MatchResult read (λ ls. LabelsClean old.setting.metric_type [] all × (items ls ≡ all_written all)) (λ k. OwnRefusal F k ⊎ LabelsFault k old.setting.metric_type [] all) → BeginsMember all F old new
-BeginsMember-read items all F old new (Ok ls) setting samples refused taken clean = record {
+pub BeginsMember-read : {L : Type 0} (items : L → List Label) (all : List HandedLabel) (F : Type 0) (old new : GatheredPoints) (read : Result L EncodeError) → new.setting ≡ old.setting → new.output ≡ old.output → new.refused ≡ old.refused → MatchResult read (λ ls. ((new.deferred ≡ None) × (new.common ≡ items ls)) ⊎ (new.deferred ≡ Some Memory)) (λ k. new.deferred ≡ Some k) → MatchResult read (λ ls. LabelsClean old.setting.metric_type [] all × (items ls ≡ all_written all)) (λ k. OwnRefusal F k ⊎ LabelsFault k old.setting.metric_type [] all) → BeginsMember all F old new
+BeginsMember-read items all F old new (Ok ls) setting output refused (inr none) clean = record {
   setting = setting;
-  samples = samples;
+  output = output;
+  refused = refused;
+  clean = λ e. absurd cc;
+  common = λ e. absurd cc;
+  deferred = λ k e. (let same : Memory ≡ k = cc in inl (inl (sym same)));
+}
+BeginsMember-read items all F old new (Ok ls) setting output refused (inl taken) clean = record {
+  setting = setting;
+  output = output;
   refused = refused;
   clean = λ _. clean.0;
   common = λ _. taken.1 ∙ clean.1;
   deferred = λ k e. absurd cc;
 }
-BeginsMember-read items all F old new (Err j) setting samples refused taken fault = record {
+BeginsMember-read items all F old new (Err j) setting output refused taken fault = record {
   setting = setting;
-  samples = samples;
+  output = output;
   refused = refused;
   clean = λ e. absurd cc;
   common = λ e. absurd cc;
@@ -131,6 +145,11 @@ BeginsMember-read items all F old new (Err j) setting samples refused taken faul
 MembersClean-append : (context : Context) (xs ys : List Member) → MembersClean context xs → MembersClean context ys → MembersClean context (xs ++ ys)
 MembersClean-append context [] ys h after = after
 MembersClean-append context (x ∷ xs) ys h after = (h.0, MembersClean-append context xs ys h.1 after)
+
+-- the samples of clean members are well formed
+pub MembersClean-formed : (context : Context) (ms : List Member) → MembersClean context ms → AllByRecursion (IsSample context.setting.metric_type) (members_samples context ms)
+MembersClean-formed context [] h = tt
+MembersClean-formed context (m ∷ ms) h = all_append (IsSample context.setting.metric_type) (member_samples context m) (members_samples context ms) h.0.1.formed (MembersClean-formed context ms h.1)
 
 MembersFault-after : (k : EncodeError) (context : Context) (xs ys : List Member) → MembersFault k context ys → MembersFault k context (xs ++ ys)
 MembersFault-after k context [] ys h = h
@@ -153,8 +172,9 @@ HandsMembers-then {A} {B} {F} old mid new first r a ok accepted b = record {
         (x.0, y.0, x.1, y.1, refl),
         MembersClean-append old.context x.0 y.0 x.2 (rw a.context at y.2),
         (let lines : members_samples old.context (x.0 ++ y.0) ≡ members_samples old.context x.0 ++ members_samples old.context y.0 = flat_map-append (member_samples old.context) x.0 y.0 in
-            let after : new.samples ≡ (old.samples ++ members_samples old.context x.0) ++ members_samples old.context y.0 = rw (a.context, x.3) at y.3 in
-            rw lines (after ∙ append_assoc old.samples _ _)),
+            let name = old.context.setting.name in
+            let after : new.output ≡ appended name (appended name old.output (members_samples old.context x.0)) (members_samples old.context y.0) = rw (a.context, x.3) at y.3 in
+            rw lines (after ∙ sym (appended-append name old.output (members_samples old.context x.0) (members_samples old.context y.0)))),
       ));
   own = λ e n w. b.own e n w;
   refused = λ k o n.
@@ -183,7 +203,7 @@ pub HandsMembers-nothing : {A : List Member → Type 0} {F : Type 0} (g : Gather
 HandsMembers-nothing g admitted = record {
   context = refl;
   kept = λ _ _. refl;
-  handed = λ _ _ _. ([], admitted, tt, sym (append-nil g.samples));
+  handed = λ _ _ _. ([], admitted, tt, sym (appended-none g.context.setting.name g.output));
   own = λ e n w. absurd cc;
   refused = λ k o n. absurd cc;
 }

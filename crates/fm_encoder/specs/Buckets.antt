@@ -1,13 +1,15 @@
 -- What the steps of a point with buckets do.
-use Rattle.std.specs.Prelude.{◌≡◌, ◌+◌, ◌<◌, ◌≤◌, ◌^◌, ℕ, List, [], ◌∷◌, ◌++◌, map, Contains, Option, Some, None, MatchOption, Result, MatchResult, ◌⊎◌}
+use Rattle.std.specs.Prelude.{◌≡◌, ◌+◌, ◌<◌, ◌≤◌, ◌^◌, ℕ, List, [], ◌∷◌, map, Contains, Option, Some, None, MatchOption, Result, MatchResult, ◌⊎◌}
 use Rattle.std.specs.Option.{option_map_or}
 use Rattle.std.specs.List.{AllByRecursion}
 use Rattle.std.specs.Borrow.{Bor}
 use Rattle.fm_grammar.specs.declared.MetricType.{MetricType}
 use Rattle.fm_grammar.specs.declared.MetricType.TheVariants.{Histogram, GaugeHistogram}
+use Rattle.fm_grammar.specs.WellFormed.{IsSample}
 use Rattle.fm_text.specs.declared.error.EncodeError.{EncodeError}
 use Rattle.fm_text.specs.declared.error.EncodeError.TheVariants.{KindMismatch, ExemplarCountMismatch, BucketOverflow}
 use Rattle.fm_bucket.specs.declared.bound.Bucket.{Bucket}
+use Rattle.fm_sink.specs.Output.{appended}
 use Rattle.fm_encoder.specs.Points.{HandedExemplar, ExemplarClean, ExemplarFault, values_in, BucketsFault, bucket_line, bucket_samples}
 use Rattle.fm_encoder.specs.Gathered.{GatheredPoints, OwnRefusal}
 use Rattle.fm_encoder.specs.Hands.{SamePlace}
@@ -29,7 +31,7 @@ MaySlotsFault may_fault slots = (slot : _) × Contains slots slot × MatchOption
 -- The tests of a point's type, then of the number of its slots, and then of whether its common labels were refused.
 pub record BeginsBuckets (type : MetricType) (buckets slots : ℕ) (old new : GatheredPoints) : Type 0 where
   pub place : SamePlace old new
-  pub samples : new.samples ≡ old.samples
+  pub output : new.output ≡ old.output
   pub kept : (k : EncodeError) → old.refused ≡ Some k → new ≡ old
   pub same_type : new.refused ≡ None → type ≡ old.setting.metric_type
   pub same_number : new.refused ≡ None → slots ≡ buckets
@@ -42,7 +44,8 @@ pub record PushesBucket (before : ℕ) (bucket : Bucket) (exemplars : List Hande
   pub place : SamePlace old new
   pub answered : MatchResult result
       (λ values. (values ≡ before + bucket.count) × (values < 2 ^ 64) × (new.refused ≡ None) × ExemplarClean exemplars
-      × (new.samples ≡ old.samples ++ bucket_line old.setting old.common bucket.upper_bound values exemplars ∷ []))
+      × (new.output ≡ appended old.setting.name old.output (bucket_line old.setting old.common bucket.upper_bound values exemplars ∷ []))
+      × IsSample old.setting.metric_type (bucket_line old.setting old.common bucket.upper_bound values exemplars))
       (λ k. (new.refused ≡ Some k)
       × (OwnRefusal MayFault k ⊎ (((k ≡ BucketOverflow) × (2 ^ 64 ≤ before + bucket.count)) ⊎ ExemplarFault k exemplars)))
 
@@ -51,5 +54,6 @@ pub record PushesBuckets (buckets : List Bucket) (slots : List (List HandedExemp
   pub place : SamePlace old new
   pub fits : new.refused ≡ None → values_in buckets < 2 ^ 64
   pub clean : new.refused ≡ None → AllByRecursion ExemplarClean slots
-  pub samples : new.refused ≡ None → new.samples ≡ old.samples ++ bucket_samples old.setting old.common [] buckets slots
+  pub output : new.refused ≡ None → new.output ≡ appended old.setting.name old.output (bucket_samples old.setting old.common [] buckets slots)
+  pub formed : new.refused ≡ None → AllByRecursion (IsSample old.setting.metric_type) (bucket_samples old.setting old.common [] buckets slots)
   pub refused : (k : EncodeError) → new.refused ≡ Some k → OwnRefusal MayFault k ⊎ BucketsFault k buckets slots

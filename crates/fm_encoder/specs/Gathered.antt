@@ -1,9 +1,10 @@
 -- What encoders have gathered so far, and what they have refused.
 use Rattle.std.specs.Prelude.{◌≡◌, List, Option, Some, None, Result, Ok, Err, ◌⊎◌}
 use Rattle.fm_grammar.specs.declared.MetricType.{MetricType}
-use Rattle.fm_grammar.specs.Exposition.{Label, Value, Exemplar, Sample}
+use Rattle.fm_grammar.specs.Exposition.{Label, Value, Exemplar}
 use Rattle.fm_text.specs.declared.error.EncodeError.{EncodeError}
 use Rattle.fm_text.specs.declared.error.EncodeError.TheVariants.{Memory, MetricFault}
+use Rattle.fm_sink.specs.Output.{Output}
 use Rattle.fm_encoder.specs.Labels.{HandedLabel}
 use Rattle.fm_encoder.specs.Points.{Setting, Context}
 
@@ -30,18 +31,19 @@ pub record GatheredExemplars : Type 0 where
   pub exemplars : List Exemplar
   pub refused : Option EncodeError
 
--- a point encoder; a refusal of the common labels waits in `deferred` for the next point
+-- a point encoder; a refusal of the common labels waits in `deferred` for the next point, and `output` is what its sink made of
+-- the samples so far
 pub record GatheredPoints : Type 0 where
   pub setting : Setting
   pub common : List Label
   pub deferred : Option EncodeError
-  pub samples : List Sample
+  pub output : Output
   pub refused : Option EncodeError
 
 -- a metric encoder
 pub record GatheredMembers : Type 0 where
   pub context : Context
-  pub samples : List Sample
+  pub output : Output
   pub refused : Option EncodeError
 
 -- what an encoder's own call answers: the first refusal, for good

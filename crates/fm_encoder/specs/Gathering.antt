@@ -1,17 +1,14 @@
--- What holds of a point encoder's fields between calls: its samples are well formed, the family's name is in
--- snake case, and well formed are the common labels and the timestamp that further samples get. No common label has a name that
--- the family's type keeps for labels of its own.
+-- What holds of a point encoder's fields between calls: the family's name is in snake case, and well formed are the common labels
+-- and the timestamp that further samples get. No common label has a name that the family's type keeps for labels of its own.
 use Rattle.std.specs.Prelude.{IfSome}
-use Rattle.std.specs.List.{AllByRecursion}
 use Rattle.std.specs.String.{string_bytes}
 use Rattle.fm_grammar.specs.Names.{IsSnakeCase}
-use Rattle.fm_grammar.specs.WellFormed.{AreLabels, AreMillis, IsSample}
+use Rattle.fm_grammar.specs.WellFormed.{AreLabels, AreMillis}
 use Rattle.fm_encoder.specs.Labels.{AreFree}
 use Rattle.fm_encoder.specs.declared.point.PointEncoder.TheInside.{Inside}
 
 pub record IsGathering (e : Inside) : Type 0 where
   pub name : IsSnakeCase (string_bytes e.name)
-  pub labels : AreLabels e.samples.common
-  pub free : AreFree e.metric_type e.samples.common
+  pub labels : AreLabels e.sink.common
+  pub free : AreFree e.metric_type e.sink.common
   pub time : IfSome e.time AreMillis
-  pub samples : AllByRecursion (IsSample e.metric_type) (e.samples.samples)

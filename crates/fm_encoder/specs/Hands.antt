@@ -7,6 +7,7 @@ use Rattle.std.specs.List.{flat_map}
 use Rattle.fm_grammar.specs.Exposition.{Value, Sample}
 use Rattle.fm_text.specs.declared.error.EncodeError.{EncodeError}
 use Rattle.fm_text.specs.declared.error.EncodeError.TheVariants.{Memory, ValueTwice}
+use Rattle.fm_sink.specs.Output.{appended}
 use Rattle.fm_encoder.specs.Labels.{HandedLabel, PieceFault, LabelsFault, LabelsClean, all_written}
 use Rattle.fm_encoder.specs.Points.{HandedExemplar, ExemplarClean, ExemplarFault, written_as, Point, PointClean, HeadFault, PartsFault, point_samples, Member, MembersClean, MembersFault, members_samples}
 use Rattle.fm_encoder.specs.Gathered.{GatheredPieces, GatheredLabels, GatheredNumbers, GatheredExemplars, GatheredPoints, GatheredMembers, OwnRefusal, OwnError}
@@ -62,7 +63,7 @@ PointsFault k g (point ∷ points) = PointFaultHere k g point ⊎ PointsFault k 
 abbrev pub points_samples : GatheredPoints → List Point → List Sample
 points_samples g = flat_map (point_samples g.setting g.common)
 
--- the same but for the samples and the refusal
+-- the same but for the output and the refusal
 pub record SamePlace (old new : GatheredPoints) : Type 0 where
   pub setting : new.setting ≡ old.setting
   pub common : new.common ≡ old.common
@@ -72,7 +73,7 @@ pub record SamePlace (old new : GatheredPoints) : Type 0 where
 pub record HandsPoints (Admitted : List Point → Type 0) (MayFault : Type 0) (old new : GatheredPoints) (result : Result (Unit {0}) EncodeError) : Type 0 where
   pub place : SamePlace old new
   pub kept : (k : EncodeError) → old.refused ≡ Some k → new ≡ old
-  pub handed : old.refused ≡ None → new.refused ≡ None → result ≡ Ok tt → (points : List Point) × Admitted points × PointsClean old points × (new.samples ≡ old.samples ++ points_samples old points)
+  pub handed : old.refused ≡ None → new.refused ≡ None → result ≡ Ok tt → (points : List Point) × Admitted points × PointsClean old points × (new.output ≡ appended old.setting.name old.output (points_samples old points))
   pub own : (e : EncodeError) → new.refused ≡ None → result ≡ Err e → OwnError MayFault e
   pub refused : (k : EncodeError) → old.refused ≡ None → new.refused ≡ Some k → OwnRefusal MayFault k ⊎ ((points : List Point) × Admitted points × PointsFault k old points)
 
@@ -80,7 +81,7 @@ pub record HandsPoints (Admitted : List Point → Type 0) (MayFault : Type 0) (o
 pub record HandsMembers (Admitted : List Member → Type 0) (MayFault : Type 0) (old new : GatheredMembers) (result : Result (Unit {0}) EncodeError) : Type 0 where
   pub context : new.context ≡ old.context
   pub kept : (k : EncodeError) → old.refused ≡ Some k → new ≡ old
-  pub handed : old.refused ≡ None → new.refused ≡ None → result ≡ Ok tt → (members : List Member) × Admitted members × MembersClean old.context members × (new.samples ≡ old.samples ++ members_samples old.context members)
+  pub handed : old.refused ≡ None → new.refused ≡ None → result ≡ Ok tt → (members : List Member) × Admitted members × MembersClean old.context members × (new.output ≡ appended old.context.setting.name old.output (members_samples old.context members))
   pub own : (e : EncodeError) → new.refused ≡ None → result ≡ Err e → OwnError MayFault e
   pub refused : (k : EncodeError) → old.refused ≡ None → new.refused ≡ Some k → OwnRefusal MayFault k ⊎ ((members : List Member) × Admitted members × MembersFault k old.context members)
 

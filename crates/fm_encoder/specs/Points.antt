@@ -8,7 +8,7 @@ use Rattle.fm_grammar.specs.declared.MetricType.TheVariants.{Unknown, Gauge, Cou
 use Rattle.fm_grammar.specs.declared.SampleKind.{SampleKind}
 use Rattle.fm_grammar.specs.declared.SampleKind.TheVariants.{Plain, Total, Created, Bucket as BucketKind, Count, Sum, Info}
 use Rattle.fm_grammar.specs.Exposition.{Text, Label, Value, Whole, Fixed, Millis, Exemplar, Sample}
-use Rattle.fm_grammar.specs.WellFormed.{label_code_points}
+use Rattle.fm_grammar.specs.WellFormed.{label_code_points, IsSample}
 use Rattle.fm_text.specs.declared.error.EncodeError.{EncodeError}
 use Rattle.fm_text.specs.declared.error.EncodeError.TheVariants.{DuplicateLabel, KindMismatch, MissingValue, ValueTwice, ExemplarCountMismatch, BucketOverflow, ExemplarTwice, ExemplarTooLong}
 use Rattle.fm_bucket.specs.BoundTests.{bound_text}
@@ -120,11 +120,6 @@ PartsFault k setting common (StateSetPoint states) = (k ≡ DuplicateLabel) × (
 PartsFault k setting common (InfoPoint labels) = LabelsFault k setting.metric_type common labels
 PartsFault k setting common (HistogramPoint buckets slots count sum created) = BucketsFault k buckets slots
 
--- the point has its family's type, and its parts are clean
-pub record PointClean (setting : Setting) (common : List Label) (point : Point) : Type 0 where
-  pub type : type_of point ≡ setting.metric_type
-  pub parts : PartsClean setting common point
-
 -- the fault stands in the point, whatever its labels are: in its type, or in the number of its slots
 abbrev pub HeadFault : EncodeError → Setting → Point → Type 0
 HeadFault k setting point =
@@ -199,6 +194,12 @@ point_samples setting common (InfoPoint labels) = plain_sample setting common In
 point_samples setting common (HistogramPoint buckets slots count sum created) =
     bucket_samples setting common [] buckets slots
     ++ (count_sample setting common count ∷ sum_sample setting common sum ∷ created_samples setting common created)
+
+-- the point has its family's type, its parts are clean, and its samples are well formed
+pub record PointClean (setting : Setting) (common : List Label) (point : Point) : Type 0 where
+  pub type : type_of point ≡ setting.metric_type
+  pub parts : PartsClean setting common point
+  pub formed : AllByRecursion (IsSample setting.metric_type) (point_samples setting common point)
 
 -- the labels that stand first in each sample of a member: the constant ones, and then the member's
 abbrev pub common_handed : Context → Member → List HandedLabel

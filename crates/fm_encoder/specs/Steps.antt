@@ -1,11 +1,13 @@
 -- What the encoders' own steps do.
 use Rattle.std.specs.Prelude.{◌≡◌, ◌≤◌, List, [], ◌∷◌, ◌++◌, length, Option, Some, None, Result, Ok, Err, ◌⊎◌, Contains, IfSome, Bool, true, false}
+use Rattle.std.specs.List.{AllByRecursion}
 use Rattle.fm_grammar.specs.declared.MetricType.{MetricType}
 use Rattle.fm_grammar.specs.declared.SampleKind.{SampleKind}
 use Rattle.fm_grammar.specs.Exposition.{Value, Whole, Fixed, Millis, Exemplar, Sample}
-use Rattle.fm_grammar.specs.WellFormed.{ValueFits, ValueSuits, kinds_of, ExemplarAllowed, IsExemplar}
+use Rattle.fm_grammar.specs.WellFormed.{ValueFits, ValueSuits, kinds_of, ExemplarAllowed, IsExemplar, IsSample}
 use Rattle.fm_text.specs.declared.error.EncodeError.{EncodeError}
 use Rattle.fm_text.specs.declared.error.EncodeError.TheVariants.{Memory, DuplicateLabel, MalformedLabel, ValueTwice, MissingValue, KindMismatch}
+use Rattle.fm_sink.specs.Output.{appended}
 use Rattle.fm_encoder.specs.Labels.{HandedLabel, label_names, LabelsFault, LabelsClean, LabelClean, IsMalformed, written, all_written}
 use Rattle.fm_encoder.specs.Gathered.{GatheredPieces, GatheredPoints, own_refusal, OwnRefusal}
 use Rattle.fm_encoder.specs.Hands.{SamePlace}
@@ -44,7 +46,7 @@ pub record FitsType (type : MetricType) (k : SampleKind) (v : Value) (e : Option
 -- the tests of a point's type, and of whether its common labels were refused
 pub record BeginsPoint (type : MetricType) (old new : GatheredPoints) : Type 0 where
   pub place : SamePlace old new
-  pub samples : new.samples ≡ old.samples
+  pub output : new.output ≡ old.output
   pub kept : (k : EncodeError) → old.refused ≡ Some k → new ≡ old
   pub same_type : new.refused ≡ None → type ≡ old.setting.metric_type
   pub no_deferred : new.refused ≡ None → old.deferred ≡ None
@@ -53,26 +55,28 @@ pub record BeginsPoint (type : MetricType) (old new : GatheredPoints) : Type 0 w
 -- one sample more, or want of memory
 pub record PushesSample (sample : Sample) (old new : GatheredPoints) : Type 0 where
   pub place : SamePlace old new
-  pub samples : new.refused ≡ None → new.samples ≡ old.samples ++ sample ∷ []
+  pub formed : new.refused ≡ None → IsSample old.setting.metric_type sample
+  pub output : new.refused ≡ None → new.output ≡ appended old.setting.name old.output (sample ∷ [])
   pub refused : (k : EncodeError) → new.refused ≡ Some k → k ≡ Memory
 
 -- several samples more, or want of memory
 pub record PushesSamples (pushed : List Sample) (old new : GatheredPoints) : Type 0 where
   pub place : SamePlace old new
-  pub samples : new.refused ≡ None → new.samples ≡ old.samples ++ pushed
+  pub formed : new.refused ≡ None → AllByRecursion (IsSample old.setting.metric_type) pushed
+  pub output : new.refused ≡ None → new.output ≡ appended old.setting.name old.output pushed
   pub refused : (k : EncodeError) → new.refused ≡ Some k → k ≡ Memory
 
 -- The test of a state set's labels: they may be written where there are no states, or no common label has the family's name.
 pub record TestsStates (is_empty : Bool) (old new : GatheredPoints) : Type 0 where
   pub place : SamePlace old new
-  pub samples : new.samples ≡ old.samples
+  pub output : new.output ≡ old.output
   pub passed : new.refused ≡ None → (is_empty ≡ true) ⊎ (¬ (Contains (label_names old.common) old.setting.name))
   pub refused : (k : EncodeError) → new.refused ≡ Some k → (k ≡ DuplicateLabel) × (is_empty ≡ false) × Contains (label_names old.common) old.setting.name
 
 -- The labels of the next points are read: they are clean and written out, or their refusal waits.
 pub record BeginsMember (labels : List HandedLabel) (MayFault : Type 0) (old new : GatheredPoints) : Type 0 where
   pub setting : new.setting ≡ old.setting
-  pub samples : new.samples ≡ old.samples
+  pub output : new.output ≡ old.output
   pub refused : new.refused ≡ old.refused
   pub clean : new.deferred ≡ None → LabelsClean old.setting.metric_type [] labels
   pub common : new.deferred ≡ None → new.common ≡ all_written labels
@@ -81,7 +85,7 @@ pub record BeginsMember (labels : List HandedLabel) (MayFault : Type 0) (old new
 -- The end of a member, where the point had answered `visited`: an own error is refused.
 pub record EndsPoints (visited : Result (Unit {0}) EncodeError) (old new : GatheredPoints) : Type 0 where
   pub place : SamePlace old new
-  pub samples : new.samples ≡ old.samples
+  pub output : new.output ≡ old.output
   pub kept : (k : EncodeError) → old.refused ≡ Some k → new ≡ old
   pub visited_ok : old.refused ≡ None → new.refused ≡ None → visited ≡ Ok tt
   pub own : (e : EncodeError) → old.refused ≡ None → visited ≡ Err e → new.refused ≡ Some (own_refusal e)

@@ -1,12 +1,11 @@
-//! Metrics: what offers members, and the encoder that gathers a family's samples.
+//! Metrics: what offers members, and the encoder that puts a family's samples into a sink.
 ghost use Rattle.std.specs.Prelude.{◌≡◌, ◌++◌, ℕ, List, [], ◌∷◌, ◌⊎◌, MatchResult, MatchOption, Option, None, Some, IsTrue, IfSome, IfOk, IfErr, Ok, Err, map, string_bytes};
 ghost use Rattle.std.specs.Option.{option_map, option_map_or};
-ghost use Rattle.std.specs.List.{AllByRecursion};
 ghost use Rattle.fm_grammar.specs.declared.MetricType.{MetricType};
 ghost use Rattle.fm_grammar.specs.Names.{IsSnakeCase};
-ghost use Rattle.fm_grammar.specs.WellFormed.{AreMillis, IsSample};
+ghost use Rattle.fm_grammar.specs.WellFormed.{AreMillis};
 ghost use Rattle.fm_text.specs.declared.error.EncodeError.{EncodeError};
-ghost use Rattle.fm_text.specs.Samples.{labels_of, shared_labels};
+ghost use Rattle.fm_text.specs.Samples.{labels_of};
 ghost use Rattle.fm_encoder.specs.Labels.{LabelsClean, LabelsFault, all_written, handed_again};
 ghost use Rattle.fm_encoder.specs.Points.{Member, UnknownPoint, GaugePoint, CounterPoint, StateSetPoint, InfoPoint, millis};
 ghost use Rattle.fm_encoder.specs.States.{state_of};
@@ -21,10 +20,10 @@ use crate::own::own_refusal;
 use crate::point::{EncodePoint, PointEncoder};
 use crate::value::{EncodeCounterValue, EncodeGaugeValue, EncodeUnknownValue};
 use fm_grammar::MetricType;
-use fm_text::{CommonLabels, EncodeError, SampleStore};
+use fm_sink::Sink;
+use fm_text::EncodeError;
 use std::alloc::Global;
 use std::marker::Model;
-use std::sync::Arc;
 use std::time::Duration;
 
 mod histogram;
@@ -85,7 +84,7 @@ fn hand_labels<LS: EncodeLabelSet>(
 }
 
 // The constant labels and then these, each of them clean.
-fn gathered_labels<LS: EncodeLabelSet>(
+fn read_labels<LS: EncodeLabelSet>(
     alloc: Global,
     metric_type: MetricType,
     constants: &[(String, String)],
@@ -99,25 +98,6 @@ fn gathered_labels<LS: EncodeLabelSet>(
     let mut encoder = LabelSetEncoder::new(alloc, metric_type);
     let visited = hand_labels(constants, labels, &mut encoder);
     encoder.end(visited)
-}
-
-// The same labels, for samples to share.
-fn read_labels<LS: EncodeLabelSet>(
-    alloc: Global,
-    metric_type: MetricType,
-    constants: &[(String, String)],
-    labels: &LS,
-) -> Result<CommonLabels, EncodeError>
-    ensures { let all = handed_again (labels_of constants.now) ++ LS.labels labels.now in
-        MatchResult result
-        (λ ls. LabelsClean metric_type [] all × (shared_labels ls ≡ all_written all))
-        (λ k. OwnRefusal (LS.may_fault labels.now) k ⊎ LabelsFault k metric_type [] all) }
-{
-    let labels = gathered_labels(alloc, metric_type, constants, labels)?;
-    let Ok(shared) = Arc::new(alloc, labels) else {
-        return Err(EncodeError::Memory);
-    };
-    Ok(shared)
 }
 
 // The point of an unknown metric's value.
@@ -192,7 +172,7 @@ impl<LS: EncodeLabelSet> EncodePoint for InfoLabels<'_, LS> {
     }
 }
 
-/// Gathers the samples of a metric's family.
+/// Puts the samples of a metric's family into a sink.
 #[derive(Drop)]
 pub struct MetricEncoder {
     constants: Vec<(String, String)>,
@@ -207,36 +187,39 @@ impl Model for MetricEncoder {
 
     ghost view = { λ e. record {
       context = record { setting = e.points.setting; constants = labels_of e.constants.items };
-      samples = e.points.samples;
+      output = e.points.output;
       refused = e.points.refused;
     } };
 }
 
 impl MetricEncoder {
     /// An encoder for the family of this printed name and type, under these constant labels, of which it keeps a copy, and
-    /// this timestamp in milliseconds. It may find no memory. It is for the collector, which alone makes encoders.
+    /// this timestamp in milliseconds. Its samples go to this sink, which has no common labels yet. It may find no memory. It is
+    /// for the collector, which alone makes encoders.
     pub fn new(
         alloc: Global,
         name: String,
         metric_type: MetricType,
         constants: &[(String, String)],
         time: Option<u128>,
+        sink: Sink,
     ) -> Result<MetricEncoder, EncodeError>
         requires name { IsSnakeCase (string_bytes name) }
         requires time { IfSome time AreMillis }
+        requires common { sink.common ≡ [] }
         ensures made { IfOk result (λ encoder. encoder ≡ record {
           context = record {
             setting = record { name = string_bytes name; metric_type = metric_type; time = time };
             constants = labels_of constants.now;
           };
-          samples = [];
+          output = sink.output;
           refused = None;
         }) }
         ensures memory { IfErr result (λ e. e ≡ EncodeError.Memory) }
     {
         Ok(MetricEncoder {
             constants: cloned_labels(alloc, constants)?,
-            points: PointEncoder::new(alloc, name, metric_type, time)?,
+            points: PointEncoder::new(alloc, name, metric_type, time, sink),
         })
     }
 
@@ -329,12 +312,12 @@ impl MetricEncoder {
         self.encode(&(), &InfoLabels(labels))
     }
 
-    /// The family's name and its samples, where nothing was refused and the metric answered `visited`; else the first
-    /// refusal. It is for the collector.
-    pub fn end(self, visited: Result<(), EncodeError>) -> Result<(String, SampleStore), EncodeError>
+    /// The family's name and the sink, where nothing was refused and the metric answered `visited`; else the first refusal. It is
+    /// for the collector.
+    pub fn end(self, visited: Result<(), EncodeError>) -> Result<(String, Sink), EncodeError>
         ensures { MatchResult result
             (λ made. (self.refused ≡ None) × (visited ≡ Ok tt) × (string_bytes made.0 ≡ self.context.setting.name)
-            × (made.1.samples ≡ self.samples) × AllByRecursion (IsSample self.context.setting.metric_type) self.samples)
+            × (made.1.output ≡ self.output))
             (λ k. (self.refused ≡ Some k) ⊎ ((e : EncodeError) × (self.refused ≡ None) × (visited ≡ Err e) × (k ≡ own_refusal e))) }
     {
         let MetricEncoder {

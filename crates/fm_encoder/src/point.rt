@@ -1,13 +1,13 @@
-//! Points: what hands them over, and the encoder that gathers their samples.
+//! Points: what hands them over, and the encoder that puts their samples into a sink.
 ghost use Rattle.std.specs.Prelude.{◌≡◌, ◌⊎◌, ◌++◌, List, [], ◌∷◌, MatchResult, MatchOption, None, Some, IfOk, IfErr, IfSome, Contains, map, string_bytes};
 ghost use Rattle.std.specs.Option.{option_map, option_map_or};
-ghost use Rattle.std.specs.List.{AllByRecursion};
 ghost use Rattle.fm_grammar.specs.Names.{IsSnakeCase};
 ghost use Rattle.fm_grammar.specs.declared.MetricType.{MetricType};
-ghost use Rattle.fm_grammar.specs.WellFormed.{AreLabels, AreMillis, IsSample};
+ghost use Rattle.fm_grammar.specs.WellFormed.{AreLabels, AreMillis, kinds_of};
+ghost use Rattle.fm_grammar.specs.declared.SampleKind.TheVariants.{Total as TotalKind, Created as CreatedKind};
 ghost use Rattle.fm_text.specs.declared.error.EncodeError.{EncodeError};
-ghost use Rattle.fm_text.specs.Samples.{labels_of, shared_labels, value_of, exemplar_of};
-ghost use Rattle.fm_encoder.specs.Points.{Point, UnknownPoint, GaugePoint, CounterPoint, StateSetPoint, InfoPoint, state_sample, millis};
+ghost use Rattle.fm_text.specs.Samples.{labels_of, value_of, exemplar_of};
+ghost use Rattle.fm_encoder.specs.Points.{Point, UnknownPoint, GaugePoint, CounterPoint, StateSetPoint, InfoPoint, plain_sample, state_sample, created_samples, millis};
 ghost use Rattle.fm_encoder.specs.Labels.{AreFree, label_names};
 ghost use Rattle.fm_encoder.specs.States.{state_of};
 ghost use Rattle.fm_encoder.specs.Gathered.{answer};
@@ -24,10 +24,10 @@ use crate::value::{
     unknown_number,
 };
 use fm_grammar::{MetricType, SampleKind};
-use fm_text::{CommonLabels, EncodeError, Exemplar, SampleStore, Value};
+use fm_sink::Sink;
+use fm_text::{EncodeError, Exemplar, Value};
 use std::alloc::Global;
 use std::marker::Model;
-use std::sync::Arc;
 use std::time::Duration;
 
 mod histogram;
@@ -45,7 +45,7 @@ pub trait EncodePoint {
         ensures { HandsPoints (points self.now) (may_fault self.now) encoder.old encoder.new result };
 }
 
-/// Gathers the samples of points under one member's labels.
+/// Puts the samples of points under one member's labels into a sink.
 #[derive(Drop)]
 pub struct PointEncoder {
     alloc: Global,
@@ -53,7 +53,7 @@ pub struct PointEncoder {
     metric_type: MetricType,
     time: Option<u128>,
     deferred: Option<EncodeError>,
-    samples: SampleStore,
+    sink: Sink,
     refused: Option<EncodeError>,
 }
 
@@ -65,9 +65,9 @@ impl Model for PointEncoder {
 
     ghost view = { λ e. record {
       setting = record { name = string_bytes e.name; metric_type = e.metric_type; time = e.time };
-      common = e.samples.common;
+      common = e.sink.common;
       deferred = e.deferred;
-      samples = e.samples.samples;
+      output = e.sink.output;
       refused = e.refused;
     } };
 
@@ -82,30 +82,28 @@ impl PointEncoder {
         name: String,
         metric_type: MetricType,
         time: Option<u128>,
-    ) -> Result<PointEncoder, EncodeError>
+        sink: Sink,
+    ) -> PointEncoder
         requires name { IsSnakeCase (string_bytes name) }
         requires time { IfSome time AreMillis }
-        ensures made { IfOk result (λ encoder. encoder ≡ record {
+        requires common { sink.common ≡ [] }
+        ensures { result ≡ record {
           setting = record { name = string_bytes name; metric_type = metric_type; time = time };
           common = [];
           deferred = None;
-          samples = [];
+          output = sink.output;
           refused = None;
-        }) }
-        ensures memory { IfErr result (λ e. e ≡ EncodeError.Memory) }
+        } }
     {
-        let Ok(common) = Arc::new(alloc, Vec::new(alloc)) else {
-            return Err(EncodeError::Memory);
-        };
-        Ok(PointEncoder {
+        PointEncoder {
             alloc,
             name,
             metric_type,
             time,
             deferred: None,
-            samples: SampleStore::new(alloc, common),
+            sink,
             refused: None,
-        })
+        }
     }
 
     fn refuse(&mut self, error: EncodeError) -> Result<(), EncodeError>
@@ -130,7 +128,7 @@ impl PointEncoder {
         if let Some(error) = self.deferred {
             return self.refuse(error);
         }
-        self.samples.end_point();
+        self.sink.end_point();
         Ok(())
     }
 
@@ -154,7 +152,10 @@ impl PointEncoder {
         }) self.old self.new }
         ensures answered { result ≡ answer self.new.refused }
     {
-        match self.samples.push(kind, own, value, self.time, exemplar) {
+        match self
+            .sink
+            .push(self.name.as_str(), kind, own, value, self.time, exemplar)
+        {
             Ok(()) => Ok(()),
             Err(error) => self.refuse(error),
         }
@@ -171,7 +172,7 @@ impl PointEncoder {
         requires fits { FitsType self.old.setting.metric_type kind (value_of value) (option_map exemplar_of exemplar) }
         ensures pushed { PushesSample (record {
           kind = kind;
-          labels = self.old.common;
+          labels = self.old.common ++ [];
           value = value_of value;
           time = self.old.setting.time;
           exemplar = option_map exemplar_of exemplar;
@@ -228,7 +229,35 @@ impl PointEncoder {
             Ok(exemplar) => exemplar,
             Err(error) => return self.refuse(error),
         };
+        self.push_total(number, exemplar, created)
+    }
+
+    // Adds the sample of a counter's total, and that of its time of creation, where there is one.
+    fn push_total(
+        &mut self,
+        number: Value,
+        exemplar: Option<Exemplar>,
+        created: Option<Duration>,
+    ) -> Result<(), EncodeError>
+        requires accepting { self.old.refused ≡ None }
+        requires counter { self.old.setting.metric_type ≡ MetricType.Counter }
+        requires fits { FitsType self.old.setting.metric_type TotalKind (value_of number) (option_map exemplar_of exemplar) }
+        ensures pushed { PushesSamples
+            (record (plain_sample self.old.setting self.old.common TotalKind [] (value_of number)) { exemplar = option_map exemplar_of exemplar }
+            ∷ created_samples self.old.setting self.old.common (option_map millis created)) self.old self.new }
+        ensures answered { result ≡ answer self.new.refused }
+    {
         self.push_sample(SampleKind::Total, number, exemplar)?;
+        self.push_created(created)
+    }
+
+    // Adds the sample of a time of creation, where there is one.
+    fn push_created(&mut self, created: Option<Duration>) -> Result<(), EncodeError>
+        requires accepting { self.old.refused ≡ None }
+        requires kind { Contains (kinds_of self.old.setting.metric_type) CreatedKind }
+        ensures pushed { PushesSamples (created_samples self.old.setting self.old.common (option_map millis created)) self.old self.new }
+        ensures answered { result ≡ answer self.new.refused }
+    {
         match created {
             Some(time) => self.push_sample(
                 SampleKind::Created,
@@ -264,7 +293,7 @@ impl PointEncoder {
         ensures tested { TestsStates is_empty self.old self.new }
         ensures answered { result ≡ answer self.new.refused }
     {
-        if !is_empty && has_name(self.samples.common(), self.name.as_str()) {
+        if !is_empty && has_name(self.sink.common(), self.name.as_str()) {
             return self.refuse(EncodeError::DuplicateLabel);
         }
         Ok(())
@@ -279,23 +308,23 @@ impl PointEncoder {
         ensures answered { result ≡ answer self.new.refused }
     {
         for state in states {
-            self.push_state(state.0, state.1)?;
+            self.push_state(state)?;
         }
         Ok(())
     }
 
     // Adds the sample of one state, under a label of the family's name.
-    fn push_state(&mut self, text: &str, is_on: bool) -> Result<(), EncodeError>
+    fn push_state(&mut self, state: &(&str, bool)) -> Result<(), EncodeError>
         requires accepting { self.old.refused ≡ None }
         requires state_set { self.old.setting.metric_type ≡ MetricType.StateSet }
         requires fresh { ¬ (Contains (label_names self.old.common) self.old.setting.name) }
-        ensures pushed { PushesSample (state_sample self.old.setting self.old.common (text.now, is_on)) self.old self.new }
+        ensures pushed { PushesSample (state_sample self.old.setting self.old.common (state_of state.now)) self.old self.new }
         ensures answered { result ≡ answer self.new.refused }
     {
-        let Ok(own) = one_label(self.alloc, self.name.as_str(), text) else {
+        let Ok(own) = one_label(self.alloc, self.name.as_str(), state.0) else {
             return self.refuse(EncodeError::Memory);
         };
-        let value = Value::Whole(if is_on { 1 } else { 0 });
+        let value = Value::Whole(if state.1 { 1 } else { 0 });
         self.push_labeled(SampleKind::Plain, own, value, None)
     }
 
@@ -306,7 +335,7 @@ impl PointEncoder {
         ensures answered { result ≡ answer self.new.refused }
     {
         self.begin_point(MetricType::Info)?;
-        match labels_behind(self.alloc, self.metric_type, self.samples.common(), labels) {
+        match labels_behind(self.alloc, self.metric_type, self.sink.common(), labels) {
             Ok(own) => self.push_labeled(SampleKind::Info, own, Value::Whole(1), None),
             Err(error) => self.refuse(error),
         }
@@ -329,24 +358,22 @@ impl PointEncoder {
     }
 
     // Takes the common labels of the next points, or keeps their refusal for the first of them.
-    pub(crate) fn begin_member(&mut self, read: Result<CommonLabels, EncodeError>)
-        requires labels { IfOk read (λ ls. AreLabels (shared_labels ls)) }
-        requires free { IfOk read (λ ls. AreFree self.old.setting.metric_type (shared_labels ls)) }
+    pub(crate) fn begin_member(&mut self, read: Result<Vec<(String, String)>, EncodeError>)
+        requires labels { IfOk read (λ ls. AreLabels (labels_of ls.items)) }
+        requires free { IfOk read (λ ls. AreFree self.old.setting.metric_type (labels_of ls.items)) }
         ensures setting { self.new.setting ≡ self.old.setting }
-        ensures samples { self.new.samples ≡ self.old.samples }
+        ensures output { self.new.output ≡ self.old.output }
         ensures refused { self.new.refused ≡ self.old.refused }
         ensures read { MatchResult read
-            (λ ls. (self.new.deferred ≡ None) × (self.new.common ≡ shared_labels ls))
+            (λ ls. ((self.new.deferred ≡ None) × (self.new.common ≡ labels_of ls.items)) ⊎ (self.new.deferred ≡ Some EncodeError.Memory))
             (λ k. self.new.deferred ≡ Some k) }
     {
         match read {
-            Ok(common) => {
-                self.samples.share(common);
-                self.deferred = None;
-            }
-            Err(error) => {
-                self.deferred = Some(error);
-            }
+            Ok(common) => match self.sink.share(common) {
+                Ok(()) => self.deferred = None,
+                Err(_) => self.deferred = Some(EncodeError::Memory),
+            },
+            Err(error) => self.deferred = Some(error),
         }
     }
 
@@ -364,13 +391,12 @@ impl PointEncoder {
         }
     }
 
-    // The family's name, and its samples, which are well formed.
-    pub(crate) fn into_parts(self) -> (String, SampleStore)
+    // The family's name, and the sink.
+    pub(crate) fn into_parts(self) -> (String, Sink)
         ensures name { string_bytes result.0 ≡ self.setting.name }
-        ensures samples { result.1.samples ≡ self.samples }
-        ensures well_formed { AllByRecursion (IsSample self.setting.metric_type) self.samples }
+        ensures output { result.1.output ≡ self.output }
     {
-        let PointEncoder { name, samples, .. } = self;
-        (name, samples)
+        let PointEncoder { name, sink, .. } = self;
+        (name, sink)
     }
 }

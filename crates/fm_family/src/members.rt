@@ -3,6 +3,7 @@ ghost use Rattle.std.specs.Prelude.{◌≡◌, ◌<◌, ◌↔◌, ◌++◌, IfO
 ghost use Rattle.std.specs.Borrow.{sem};
 ghost use Rattle.indexmap.specs.IndexMap.{get, values, IsUnique};
 ghost use Rattle.fm_encoder.specs.Points.{Member, MembersClean, members_samples};
+ghost use Rattle.fm_encoder.specs.Output.{appended};
 ghost use Rattle.fm_encoder.specs.Hands.{HandsMembers, OffersOf};
 ghost use Rattle.fm_family.specs.MemberLends.{ends_with_member};
 ghost use Rattle.fm_family.specs.Members.{ClonesEqual, GetsOrAdds, HoldsMetric, OffersFirst, MayFault};
@@ -127,7 +128,7 @@ impl<LS: EncodeLabelSet + Eq + Hash, M: EncodePoint, S: BuildHasher> FamilyCore<
             (Any (MayFault LS.may_fault M.may_fault) self.now.members.entries) encoder.old encoder.new result }
         ensures all { encoder.old.refused ≡ None → encoder.new.refused ≡ None → result ≡ Ok tt
             → (ms : List Member) × OffersOf LS.labels M.points self.now.members.entries ms × MembersClean encoder.old.context ms
-            × (encoder.new.samples ≡ encoder.old.samples ++ members_samples encoder.old.context ms) }
+            × (encoder.new.output ≡ appended encoder.old.context.setting.name encoder.old.output (members_samples encoder.old.context ms)) }
         ensures different { IsUnique LS.eq self.now.members }
     {
         for member in &self.members {

@@ -1,8 +1,10 @@
 -- Points that are handed over one after the other, whichever they are.
-use Rattle.std.proofs.Common.{◌≡◌, ◌∙◌, ◌++◌, inl, inr, List, [], ◌∷◌, Result, Ok, sym, ap, append_assoc}
+use Rattle.std.proofs.Common.{◌≡◌, ◌∙◌, ◌++◌, inl, inr, List, [], ◌∷◌, Result, Ok, sym, ap}
 use Rattle.std.specs.List.{flat_map}
 use Rattle.std.proofs.lemmas.Grind.{flat_map-append}
 use Rattle.fm_text.specs.declared.error.EncodeError.{EncodeError}
+use Rattle.fm_encoder.specs.Output.{appended}
+use Rattle.fm_encoder.proofs.OutputLemmas.{appended-append}
 use Rattle.fm_encoder.specs.Points.{Point, point_samples}
 use Rattle.fm_encoder.specs.Gathered.{GatheredPoints}
 use Rattle.fm_encoder.specs.Hands.{HandsPoints, SamePlace, PointsClean, PointsFault, points_samples}
@@ -44,8 +46,9 @@ HandsPoints-then {A} {F} old mid new first r a ok b = record {
         PointsClean-append old x.0 y.0 x.2 (PointsClean-moved old mid y.0 a.place y.2),
         (let lines : points_samples old (x.0 ++ y.0) ≡ points_samples old x.0 ++ points_samples old y.0 = flat_map-append (point_samples old.setting old.common) x.0 y.0 in
             let moved = points_samples-moved old mid y.0 a.place in
-            let after : new.samples ≡ (old.samples ++ points_samples old x.0) ++ points_samples old y.0 = y.3 ∙ (λ i. x.3 i ++ moved i) in
-            rw lines (after ∙ append_assoc old.samples _ _)),
+            let name = old.setting.name in
+            let after : new.output ≡ appended name (appended name old.output (points_samples old x.0)) (points_samples old y.0) = y.3 ∙ (λ i. appended (a.place.setting i).name (x.3 i) (moved i)) in
+            rw lines (after ∙ sym (appended-append name old.output (points_samples old x.0) (points_samples old y.0)))),
       ));
   own = λ e n w. b.own e n w;
   refused = λ k o n. elim (option_cases mid.refused) [

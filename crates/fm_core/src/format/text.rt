@@ -12,6 +12,7 @@ ghost use Rattle.fm_registry.specs.HasBook.{HasBook};
 ghost use Rattle.fm_core.specs.Admits.{Admits, AdmitsNext, FaultOf, Fault};
 ghost use Rattle.fm_core.specs.Encoded.{WritesAdmitted, BeginsAdmitted};
 
+use crate::document::{document_lines, write_lines};
 use crate::family::MetricFamilyEncoder;
 use fm_encoder::EncodeMetric;
 pub use fm_grammar::SampleKind;
@@ -23,7 +24,7 @@ use std::alloc::Global;
 use std::io::Write;
 
 // The constant labels of a listed metric's registry.
-fn constants_of<'a>(labels: &'a Option<Vec<(String, String)>>) -> &'a [(String, String)]
+pub(crate) fn constants_of<'a>(labels: &'a Option<Vec<(String, String)>>) -> &'a [(String, String)]
     ensures { labels_of result.now ≡ seen_labels labels.now }
 {
     match labels {
@@ -73,9 +74,10 @@ pub fn collect(alloc: Global, registry: &Registry) -> Result<Exposition, EncodeE
     encoder.end()
 }
 
-/// Writes the document of a registry: collects it, and then writes. No lock is held while it writes.
+/// Writes the document of a registry: renders it in memory while it visits the metrics, and then writes it. No lock is held while
+/// it writes.
 ///
-/// A refusal in collecting, and want of memory, write nothing. The writer's error, or its answer of 0, ends the writing with
+/// A metric's refusal, and want of memory, write nothing. The writer's error, or its answer of 0, ends the writing with
 /// `Write` or `WriteZero`; then a beginning of the document was written. Wrap a file or a socket in a `BufWriter`, and flush it.
 pub fn encode<W: Write>(
     alloc: Global,
@@ -95,6 +97,6 @@ pub fn encode<W: Write>(
         (λ e. (b : _) → Reads registry.now b → Admits (λ m. offers m) (λ m. stamps m) (λ m. may_be_empty m) (order b) e)
         (W.contents writer.old) (W.contents writer.new)) }
 {
-    let exposition = collect(alloc, registry)?;
-    encode_exposition(alloc, writer, &exposition)
+    let lines = document_lines(alloc, registry)?;
+    write_lines(writer, &lines)
 }

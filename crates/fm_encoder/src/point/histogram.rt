@@ -158,21 +158,4 @@ impl PointEncoder {
         self.push_sample(SampleKind::Sum, sum_value(sum), None)?;
         self.push_created(created)
     }
-
-    // Adds the sample of a time of creation, where there is one.
-    fn push_created(&mut self, created: Option<Duration>) -> Result<(), EncodeError>
-        requires accepting { self.old.refused ≡ None }
-        requires histogram { self.old.setting.metric_type ≡ MetricType.Histogram }
-        ensures pushed { PushesSamples (created_samples self.old.setting self.old.common (option_map millis created)) self.old self.new }
-        ensures answered { result ≡ answer self.new.refused }
-    {
-        match created {
-            Some(time) => self.push_sample(
-                SampleKind::Created,
-                Value::Millis(time.as_millis()),
-                None,
-            ),
-            None => Ok(()),
-        }
-    }
 }

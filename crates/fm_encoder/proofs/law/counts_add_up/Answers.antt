@@ -1,4 +1,4 @@
-use Rattle.std.proofs.Common.{◌≡◌, ◌+◌, ℕ, zero, suc, pos, List, [], ◌∷◌, ◌++◌, take, Some, slice_get, refl, sym, ap, subst, append_assoc, arith}
+use Rattle.std.proofs.Common.{◌≡◌, ◌+◌, ℕ, zero, suc, pos, List, [], ◌∷◌, ◌++◌, take, Some, slice_get, sym, ap, subst, append_assoc, arith}
 use Rattle.fm_grammar.specs.Exposition.{Label, Sample, Whole}
 use Rattle.fm_bucket.specs.declared.bound.Bucket.{Bucket}
 use Rattle.fm_encoder.specs.Points.{HandedExemplar, Setting, values_in, bucket_sample, bucket_samples}

@@ -11,7 +11,7 @@ use Rattle.fm_encoder.proofs.point.PointEncoder.push_bound.Goals as goal
 pub push_labeled-requires-clause-labels : goal.push_labeled-requires-clause-labels
 push_labeled-requires-clause-labels c =
     let inside = c.self.inside in
-    let before = inside.samples.common in
+    let before = inside.sink.common in
     let has = subst (λ (g : GatheredPoints). HasBuckets g.setting.metric_type) (sym c.self.view_is) c.requires.buckets in
     let is = rw (c.format-text.ensures) at c.in-Ok.ensures.ok in
     subst (λ (g : GatheredPoints). AreLabels (g.common ++ labels_of c.in-Ok.own.items)) c.self.view_is

@@ -1,0 +1,32 @@
+-- The text of a document, as it grows metric by metric.
+use Rattle.std.specs.Prelude.{◌≡◌, ℕ, List, [], ◌++◌, Option, ◌⊎◌}
+use Rattle.fm_grammar.specs.Exposition.{Text, Family, Exposition}
+use Rattle.fm_grammar.specs.WellFormed.{IsFamily, IsWellFormed}
+use Rattle.fm_text.specs.Rows.{head_rows, family_rows, families_rows}
+use Rattle.fm_book.specs.Listing.{Listed}
+use Rattle.fm_encoder.specs.Points.{Member}
+use Rattle.fm_core.specs.Heading.{Heading, heading_of}
+use Rattle.fm_core.specs.Admits.{IsFamilyUnder, Admits}
+
+-- the lines under a heading that stand before its samples
+abbrev pub heading_rows : Heading → Text
+heading_rows heading = head_rows (record { name = heading.name; metric_type = heading.metric_type; help = heading.help; unit = heading.unit; samples = [] })
+
+-- one metric more: it may be empty and adds nothing, or adds the lines of its family, which is well formed
+abbrev pub AddsRows : (List Member → Type 0) → (Option ℕ → Type 0) → Type 0 → Heading → Text → Text → Type 0
+AddsRows Offers Stamps MayBeEmpty heading old new =
+    (MayBeEmpty × (new ≡ old))
+    ⊎ ((family : Family) × IsFamilyUnder Offers Stamps heading family × IsFamily family × (new ≡ old ++ family_rows family))
+
+module _ {M : Type 0} (Offers : M → List Member → Type 0) (Stamps : M → Option ℕ → Type 0) (Empty : M → Type 0) where
+  -- one listed metric more
+  abbrev pub AddsNextRows : Listed M → Text → Text → Type 0
+  AddsNextRows listed old new =
+      AddsRows (Offers listed.registration.metric) (Stamps listed.registration.metric) (Empty listed.registration.metric) (heading_of listed) old new
+
+  -- the text is that of well-formed families that the listed metrics admit
+  pub record IsTextOf (ls : List (Listed M)) (text : Text) : Type 0 where
+    pub exposition : Exposition
+    pub admitted : Admits Offers Stamps Empty ls exposition
+    pub well_formed : IsWellFormed exposition
+    pub rows : text ≡ families_rows exposition

@@ -1,0 +1,2 @@
+pub mod GrownLemmas
+pub mod OutputLemmas

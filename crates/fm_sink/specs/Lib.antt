@@ -1,0 +1,3 @@
+pub mod Grown
+pub mod Output
+pub mod Forms
