@@ -1,8 +1,8 @@
 use Rattle.std.proofs.Common.{◌≡◌, ◌+◌, [], get_or, take, vec_items, ap, ◌∙◌, arith, rules}
 use Rattle.std.proofs.lemmas.List.{take_all}
-use Rattle.fm_metrics.specs.Events.{sum_of, accepted, replies, reply}
-use Rattle.fm_metrics.proofs.Runs.{step_reply, step_sum, reply_at, amount_within, all_accepted}
-use Rattle.fm_metrics.proofs.tally.book.Book.run.Goals as goal
+use Rattle.fm_tally.specs.Events.{sum_of, accepted, replies, reply}
+use Rattle.fm_tally.proofs.Runs.{step_reply, step_sum, reply_at, amount_within, all_accepted}
+use Rattle.fm_tally.proofs.book.Book.run.Goals as goal
 
 pub loop-event-preserved : goal.loop-event-preserved
 loop-event-preserved c =

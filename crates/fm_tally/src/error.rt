@@ -1,7 +1,7 @@
 //! Why a tally refuses.
 ghost use Rattle.std.specs.Prelude.{◌≡◌};
-ghost use Rattle.fm_metrics.specs.TallyErrors.{number_of};
-ghost use Rattle.fm_metrics.specs.declared.tally.error.TallyError.TheVariants.{Memory};
+ghost use Rattle.fm_tally.specs.Errors.{number_of};
+ghost use Rattle.fm_tally.specs.declared.error.TallyError.TheVariants.{Memory};
 
 use std::alloc::{AllocError, AllocFailed};
 use thiserror::Error;
@@ -9,18 +9,25 @@ use thiserror::Error;
 /// Why a tally refused a call.
 #[derive(Clone, Copy, Debug, PartialEq, Eq, Drop, Error)]
 pub enum TallyError {
+    /// There was no memory.
     #[error("Memory")]
     Memory,
+    /// The sum would pass 2^64 - 1.
     #[error("Full")]
     Full,
+    /// Not all shares of the tally were given to be closed.
     #[error("MissingShares")]
     MissingShares,
+    /// The gate refused this piece, counted from 0.
     #[error("GateRefused")]
     GateRefused { piece: usize },
+    /// The pieces have more values together than a `u64` counts.
     #[error("CountFull")]
     CountFull,
+    /// A worker could not be started.
     #[error("SpawnFailed")]
     SpawnFailed,
+    /// A share was told more than the sum.
     #[error("Overrun")]
     Overrun,
 }

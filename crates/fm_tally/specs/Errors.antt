@@ -1,7 +1,7 @@
 -- The numbers of a tally's refusals.
 use Rattle.std.specs.Prelude.{ℕ}
-use Rattle.fm_metrics.specs.declared.tally.error.TallyError.{TallyError}
-use Rattle.fm_metrics.specs.declared.tally.error.TallyError.TheVariants.{Memory, Full, MissingShares, GateRefused, CountFull, SpawnFailed, Overrun}
+use Rattle.fm_tally.specs.declared.error.TallyError.{TallyError}
+use Rattle.fm_tally.specs.declared.error.TallyError.TheVariants.{Memory, Full, MissingShares, GateRefused, CountFull, SpawnFailed, Overrun}
 
 abbrev pub number_of : TallyError → ℕ
 number_of Memory = 1

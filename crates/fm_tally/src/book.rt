@@ -1,10 +1,10 @@
 //! The sum of a tally, as plain data.
 ghost use Rattle.std.specs.Prelude.{◌≡◌, ◌≢◌, ℕ, ◌+◌, ◌^◌, ◌<◌, ◌≤◌, ◌↔◌, List, All, IfOk, OnOk, OnErr, IfErr, Err, length, take, sum_by, slice_index_or};
-ghost use Rattle.fm_metrics.specs.Events.{Accepted, accept, accepted, reply, replies, sum_of, amount, value_of};
-ghost use Rattle.fm_metrics.specs.declared.tally.book.Event.{Event};
-ghost use Rattle.fm_metrics.specs.declared.tally.book.Reply.{Reply};
+ghost use Rattle.fm_tally.specs.Events.{Accepted, accept, accepted, reply, replies, sum_of, amount, value_of};
+ghost use Rattle.fm_tally.specs.declared.book.Event.{Event};
+ghost use Rattle.fm_tally.specs.declared.book.Reply.{Reply};
 
-use crate::tally::error::TallyError;
+use crate::error::TallyError;
 use std::alloc::Global;
 use std::marker::Model;
 

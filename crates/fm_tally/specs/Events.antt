@@ -1,9 +1,9 @@
 -- What the events of a tally come to, as sums over the list of them.
 use Rattle.std.specs.Prelude.{ℕ, ◌+◌, ◌^◌, ◌==◌, nat_lt, Bool, if◌then◌else◌, List, [], ◌∷◌, ◌++◌, sum_by}
-use Rattle.fm_metrics.specs.declared.tally.book.Event.{Event}
-use Rattle.fm_metrics.specs.declared.tally.book.Event.TheVariants.{Add, Read}
-use Rattle.fm_metrics.specs.declared.tally.book.Reply.{Reply}
-use Rattle.fm_metrics.specs.declared.tally.book.Reply.TheVariants.{Added, Full, Sum}
+use Rattle.fm_tally.specs.declared.book.Event.{Event}
+use Rattle.fm_tally.specs.declared.book.Event.TheVariants.{Add, Read}
+use Rattle.fm_tally.specs.declared.book.Reply.{Reply}
+use Rattle.fm_tally.specs.declared.book.Reply.TheVariants.{Added, Full, Sum}
 
 -- a value that was accepted, and who added it
 pub record Accepted : Type 0 where

@@ -4,11 +4,11 @@ use Rattle.std.proofs.lemmas.Bool.Decides.{nat_tests}
 use Rattle.std.proofs.lemmas.List.{take_more}
 use Rattle.std.proofs.lemmas.List.Sums.{sum_by-append, sum_by-cons, sum_by-le-sum_by}
 use Rattle.std.proofs.lemmas.List.Elements.{All-nil, All-cons}
-use Rattle.fm_metrics.specs.declared.tally.book.Event.{Event}
-use Rattle.fm_metrics.specs.declared.tally.book.Event.TheVariants.{Add, Read}
-use Rattle.fm_metrics.specs.declared.tally.book.Reply.{Reply}
-use Rattle.fm_metrics.specs.declared.tally.book.Reply.TheVariants.{Added, Full, Sum}
-use Rattle.fm_metrics.specs.Events.{Accepted, accepted, replies, sum_of, amount, fits, accept, reply, accepted_after, replies_after, value_of}
+use Rattle.fm_tally.specs.declared.book.Event.{Event}
+use Rattle.fm_tally.specs.declared.book.Event.TheVariants.{Add, Read}
+use Rattle.fm_tally.specs.declared.book.Reply.{Reply}
+use Rattle.fm_tally.specs.declared.book.Reply.TheVariants.{Added, Full, Sum}
+use Rattle.fm_tally.specs.Events.{Accepted, accepted, replies, sum_of, amount, fits, accept, reply, accepted_after, replies_after, value_of}
 
 pub accepted_more : (start : ℕ) (before : List Accepted) (es : List Event) (e : Event) → accepted_after start before (es ++ e ∷ []) ≡ accept start (accepted_after start before es) e
 accepted_more start before [] e = refl

@@ -1,7 +1,7 @@
 use Rattle.std.proofs.Common.{◌≡◌, ◌+◌, ◌≤◌, length, take, vec_len, vec_items}
 use Rattle.std.specs.Prelude.{vec_capacity}
-use Rattle.fm_metrics.specs.Events.{accepted, replies, sum_of}
-use Rattle.fm_metrics.proofs.tally.book.Book.run.Given as goal
+use Rattle.fm_tally.specs.Events.{accepted, replies, sum_of}
+use Rattle.fm_tally.proofs.book.Book.run.Given as goal
 
 abbrev pub invariant-loop-event : goal.invariant-loop-event
 invariant-loop-event l = record {
