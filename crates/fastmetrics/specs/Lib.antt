@@ -38,4 +38,5 @@ pub use Rattle.fm_bucket.specs.Bounds
 pub use Rattle.fm_histogram.specs.Histogram
 pub use Rattle.fm_histogram.specs.Shown
 pub use Rattle.fm_histogram.specs.Shared
+pub use Rattle.fm_observe.specs.Pieces
 pub use Rattle.fm_family.specs.Members

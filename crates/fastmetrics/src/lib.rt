@@ -32,7 +32,8 @@ pub mod metrics {
     }
 
     pub mod tally {
-        //! Tallies: sums that many workers count together.
+        //! Tallies, sums that many workers count together, and observations that are cut among workers.
+        pub use fm_observe::{Gate, OpenGate, observe_all, observe_all_gauge};
         pub use fm_tally::{Book, Event, Reply, Share, Tally, TallyError, TallyKey};
     }
 
