@@ -1,4 +1,4 @@
-use Rattle.std.proofs.Common.{ℕ, ◌<◌, ℤ, Bool, List, Err, ap, flat_map, ◌^◌, length, get_or, subst, sym, rules, inl, inr}
+use Rattle.std.proofs.Common.{ℕ, ◌<◌, ℤ, Bool, List, Err, flat_map, ◌^◌, length, get_or, subst, sym, rules, inl, inr}
 use Rattle.fm_tally.specs.declared.TallyError.{TallyError}
 use Rattle.fm_histogram.specs.Histogram.{Histogram}
 use Rattle.fm_observe.specs.Pieces.{MayFail, IsObserved}
