@@ -30,7 +30,7 @@ fn main(rt: HostRuntime) -> ExitCode {
     let scene = scene_of_words(&rt);
     let calls = match scene {
         Ok(Scene::Empty) => Ok(Vec::new(alloc)),
-        Ok(Scene::Tally) => match jobs_counter(alloc) {
+        Ok(Scene::Tally) => match jobs_counter(&rt, alloc) {
             Ok((name, help, jobs)) => one_metric(alloc, name, help, jobs),
             Err(fault) => Err(fault),
         },

@@ -2,6 +2,7 @@
 ghost use Rattle.std.specs.Prelude.{◌≡◌, IfOk, IfErr, codes};
 ghost use Rattle.fm_raw.specs.Errors.{error_number as metric_number};
 ghost use Rattle.fm_bucket.specs.Errors.{error_number as bucket_number};
+ghost use Rattle.fm_tally.specs.Errors.{number_of as tally_number};
 ghost use Rattle.fm_book.specs.Errors.{error_number as registry_number};
 ghost use Rattle.fm_text.specs.Errors.{number_of as encode_number};
 ghost use Rattle.fm_text.specs.declared.error.EncodeError.{EncodeError};
@@ -12,6 +13,7 @@ ghost use Rattle.fastmetrics.specs.Admits.{Admits};
 ghost use Rattle.expose.specs.Outcome.{IsRefusal, status_of, PrintsDocument, Finishes};
 
 use fastmetrics::format::text::encode;
+use fastmetrics::metrics::tally::TallyError;
 use fastmetrics::raw::MetricError;
 use fastmetrics::raw::bucket::BucketError;
 use fastmetrics::registry::{Registry, RegistryError};
@@ -51,6 +53,16 @@ impl Fault {
     {
         Fault::Refused {
             layer: "metric",
+            number: error.number(),
+        }
+    }
+
+    /// A tally refused.
+    pub fn of_tally(error: TallyError) -> Fault
+        ensures { IsRefusal (codes "tally") (tally_number error) result }
+    {
+        Fault::Refused {
+            layer: "tally",
             number: error.number(),
         }
     }

@@ -6,6 +6,7 @@ use crate::scene::{Scene, choose};
 use crate::states::running_task;
 use crate::tally::jobs_counter;
 use crate::tree::{application, application_metrics, production};
+use fastmetrics::metrics::tally::TallyError;
 use fastmetrics::raw::MetricError;
 use fastmetrics::raw::bucket::BucketError;
 use fastmetrics::registry::{Registry, RegistryError};
@@ -99,6 +100,11 @@ fn faults_are_said(rt: HostRuntime) -> Result<(), Fail> {
             1,
             "fault: metric 4\n",
         ),
+        (
+            Fault::of_tally(TallyError::SpawnFailed),
+            1,
+            "fault: tally 6\n",
+        ),
     ] {
         let mut out = Vec::new(alloc);
         let mut errors = Vec::new(alloc);
@@ -127,7 +133,7 @@ fn empty_scene(rt: HostRuntime) -> Result<(), Fail> {
 fn tally_scene(rt: HostRuntime) -> Result<(), Fail> {
     let alloc = rt.alloc();
     let mut registry = Registry::default();
-    let Ok((name, help, jobs)) = jobs_counter(alloc) else {
+    let Ok((name, help, jobs)) = jobs_counter(&rt, alloc) else {
         return Err(Fail::new("no counter of jobs"));
     };
     registry.register(alloc, name, help, jobs)?;

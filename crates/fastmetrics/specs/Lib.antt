@@ -26,7 +26,8 @@ pub use Rattle.fm_registry.specs.HasBook
 pub use Rattle.fm_registry.specs.Registers
 pub use Rattle.fm_registry.specs.View
 pub use Rattle.fm_metrics.specs.Constants
-pub use Rattle.fm_metrics.specs.Events
+pub use Rattle.fm_tally.specs.Events
+pub use Rattle.fm_tally.specs.Shares
 pub use Rattle.fm_core.specs.Admits
 pub use Rattle.fm_core.specs.Encoded
 pub use Rattle.fm_encoder.specs.States
@@ -37,4 +38,5 @@ pub use Rattle.fm_bucket.specs.Bounds
 pub use Rattle.fm_histogram.specs.Histogram
 pub use Rattle.fm_histogram.specs.Shown
 pub use Rattle.fm_histogram.specs.Shared
+pub use Rattle.fm_observe.specs.Pieces
 pub use Rattle.fm_family.specs.Members

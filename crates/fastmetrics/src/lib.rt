@@ -13,7 +13,6 @@ pub use fm_core::{encoder, format};
 pub mod metrics {
     //! The types of metrics: those whose value is fixed, and those that threads count with.
     pub use fm_handles::{info, state_set, unknown};
-    pub use fm_metrics::tally;
 
     pub mod counter {
         //! Counters: numbers that never fall.
@@ -30,6 +29,12 @@ pub mod metrics {
     pub mod family {
         //! Families: metrics of one type by label set.
         pub use fm_family::{DefaultFactory, Family, FamilyCore, MetricFactory};
+    }
+
+    pub mod tally {
+        //! Tallies, sums that many workers count together, and observations that are cut among workers.
+        pub use fm_observe::{Gate, OpenGate, observe_all, observe_all_gauge};
+        pub use fm_tally::{Book, Event, Reply, Share, Tally, TallyError, TallyKey};
     }
 
     pub mod histogram {

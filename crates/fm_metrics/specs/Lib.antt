@@ -1,5 +1,3 @@
 pub use Rattle.fm_encoder.specs.Points
 pub use Rattle.fm_encoder.specs.Hands
 pub mod Constants
-pub mod TallyErrors
-pub mod Events

@@ -1,0 +1,24 @@
+//! Gates, which let workers through to their pieces.
+ghost use Rattle.std.specs.Prelude.{◌≡◌, ℕ, false};
+
+/// Lets pieces through, or refuses them. Each worker asks it before it observes its piece.
+pub trait Gate: Sync {
+    /// Whether the gate may refuse a piece.
+    ghost may_refuse: { Self → ℕ → Type 0 };
+
+    /// Whether this piece, counted from 0, may be observed. It may wait for other pieces that ask: all workers run at once.
+    fn pass(&self, piece: usize) -> bool
+        ensures { result ≡ false → may_refuse self.now piece };
+}
+
+/// A gate that lets every piece through.
+#[derive(Clone, Copy, Debug)]
+pub struct OpenGate;
+
+impl Gate for OpenGate {
+    ghost may_refuse = { λ _ _. ⊥ };
+
+    fn pass(&self, _piece: usize) -> bool {
+        true
+    }
+}

@@ -1,0 +1,3 @@
+pub mod Errors
+pub mod Events
+pub mod Shares

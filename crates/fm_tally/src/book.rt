@@ -1,0 +1,119 @@
+//! The sum of a tally, as plain data.
+ghost use Rattle.std.specs.Prelude.{◌≡◌, ◌≢◌, ℕ, ◌+◌, ◌^◌, ◌<◌, ◌≤◌, ◌↔◌, List, All, IfOk, OnOk, OnErr, IfErr, Err, length, take, sum_by, slice_index_or};
+ghost use Rattle.fm_tally.specs.Events.{Accepted, accept, accepted, reply, replies, sum_of, amount, value_of};
+ghost use Rattle.fm_tally.specs.declared.book.Event.{Event};
+ghost use Rattle.fm_tally.specs.declared.book.Reply.{Reply};
+
+use crate::error::TallyError;
+use std::alloc::Global;
+use std::marker::Model;
+
+/// What a caller of a tally does.
+#[derive(Clone, Copy, Debug, PartialEq, Eq)]
+pub enum Event {
+    /// Adds a value.
+    Add { who: usize, v: u64 },
+    /// Reads the sum.
+    Read { who: usize },
+}
+
+/// What a tally replies to an event.
+#[derive(Clone, Copy, Debug, PartialEq, Eq)]
+pub enum Reply {
+    /// The value was added.
+    Added,
+    /// The sum would have passed 2^64 - 1, and the value was not added.
+    Full,
+    /// The sum of the values that were added.
+    Sum(u64),
+}
+
+/// The sum of the values that were added so far. It never passes 2^64 - 1.
+#[derive(Debug, Drop)]
+pub struct Book {
+    sum: u64,
+}
+
+impl Model for Book {
+    ghost use Rattle.std.specs.Prelude.{ℕ};
+
+    ghost Value = { ℕ };
+
+    ghost view = { λ b. b.sum };
+}
+
+impl Book {
+    /// A book to which nothing was added.
+    pub fn new() -> Book
+        ensures { result ≡ 0 }
+    {
+        Book { sum: 0 }
+    }
+
+    /// Adds a value where the sum stays within 2^64 - 1; else answers `Full`, and the sum is as before. The book doesn't
+    /// keep who added it. It takes no memory.
+    pub fn add(&mut self, _who: usize, v: u64) -> Result<(), TallyError>
+        ensures added { OnOk result (self.new ≡ self.old + v) }
+        ensures full { (result ≡ Err TallyError.Full) ↔ (2 ^ 64 ≤ self.old + v) }
+        ensures only_full { IfErr result (λ e. e ≡ TallyError.Full) }
+        ensures kept { OnErr result (self.new ≡ self.old) }
+    {
+        match self.sum.checked_add(v) {
+            Some(sum) => {
+                self.sum = sum;
+                Ok(())
+            }
+            None => Err(TallyError::Full),
+        }
+    }
+
+    /// The sum of the values that were added.
+    pub fn read(&self) -> u64
+        ensures { result ≡ self.now }
+    {
+        self.sum
+    }
+
+    /// Makes all events, one after another, and gives the reply to each. The replies' memory is asked first: where there is
+    /// none the answer is `Memory`, and nothing has changed.
+    pub fn run(&mut self, alloc: Global, events: &[Event]) -> Result<Vec<Reply>, TallyError>
+        ensures replies { IfOk result (λ r. r.items ≡ replies self.old events.now) }
+        ensures sum { OnOk result (self.new ≡ self.old + sum_of (accepted self.old events.now)) }
+        ensures own { IfOk result (λ r. (k who : ℕ) (d : Reply) (e : Event) → k < length events.now → slice_index_or events.now k e ≡ Event.Read who
+            → (s : ℕ) × (slice_index_or r.items k d ≡ Reply.Sum s) × (amount who (accepted self.old (take k events.now)) ≤ s)) }
+        ensures none_refused { IfOk result (λ r. self.old + sum_by value_of events.now < 2 ^ 64 → All (λ x. x ≢ Reply.Full) r.items) }
+        ensures whole_sum { OnOk result (self.old + sum_by value_of events.now < 2 ^ 64 → self.new ≡ self.old + sum_by value_of events.now) }
+        ensures only_memory { IfErr result (λ e. e ≡ TallyError.Memory) }
+        ensures kept { OnErr result (self.new ≡ self.old) }
+    {
+        let mut replies = Vec::with_capacity(alloc, events.len())?;
+        for event in events {
+            let reply = self.make(*event);
+            replies.push_reserved(reply);
+        }
+        Ok(replies)
+    }
+
+    // Makes one event, whatever was accepted before it.
+    fn make(&mut self, event: Event) -> Reply
+        ensures reply { (start : ℕ) (before : List Accepted) → self.old ≡ start + sum_of before → result ≡ reply start before event }
+        ensures sum { (start : ℕ) (before : List Accepted) → self.old ≡ start + sum_of before → self.new ≡ start + sum_of (accept start before event) }
+    {
+        match event {
+            Event::Add { who, v } => match self.add(who, v) {
+                Ok(()) => Reply::Added,
+                Err(_) => Reply::Full,
+            },
+            Event::Read { who: _ } => Reply::Sum(self.read()),
+        }
+    }
+}
+
+/// A book to which nothing was added.
+impl Default for Book {
+    ghost is_default = { λ b. b ≡ 0 };
+
+    fn default() -> Book {
+        Book::new()
+    }
+}

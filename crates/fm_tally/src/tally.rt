@@ -1,0 +1,218 @@
+//! A tally under its lock, and the shares through which workers add to it.
+ghost use Rattle.std.specs.Prelude.{◌≡◌, ◌≢◌, ℕ, ◌+◌, ◌≤◌, ◌↔◌, Err, IfOk, IfErr, OnOk, OnErr, All, vec_len, ◌⊎◌};
+ghost use Rattle.fm_tally.specs.Shares.{Counted, total_of, unused};
+
+use crate::book::Book;
+use crate::error::TallyError;
+use std::alloc::Global;
+use std::marker::{Brand, Model};
+use std::sync::ledger::{Blank, Ledger};
+use std::sync::{Mutex, Wait, ledger};
+
+/// Which tally a share is of. A function that makes a tally has it as a type parameter, and is called with `Brand`.
+pub trait TallyKey: Ledger {}
+
+impl TallyKey for Brand {}
+
+// What lies under the lock. By its type the book's sum is the sum of the amounts of all shares of this tally, whenever the lock
+// is free: a ledger's total is what all its tokens have, each share has one, and the one that is kept here has nothing.
+#[derive(Drop)]
+struct Kept<K: TallyKey> {
+    book: Book,
+    account: ledger::Book<K>,
+    own: ledger::Share<K>,
+    ghost agrees: { book ≡ account.total },
+    ghost own_part: { own.parts ≡ 1 },
+    ghost own_nothing: { own.amount ≡ 0 },
+}
+
+/// One worker's share of a tally: the amount that was added through it, and the last total that it was told.
+///
+/// It can't be cloned. A share that is dropped is missing when the tally is closed.
+#[derive(Drop)]
+pub struct Share<K: TallyKey> {
+    amount: u64,
+    seen: u64,
+    token: ledger::Share<K>,
+}
+
+impl<K: TallyKey> Model for Share<K> {
+    ghost Value = { Counted };
+
+    ghost view = { λ s. record { amount = s.amount; seen = s.seen } };
+
+    ghost invariant = { λ s. (s.token.parts ≡ 1) × (s.token.amount ≡ s.amount) };
+}
+
+impl<K: TallyKey> Share<K> {
+    /// The sum of the values that were added through this share.
+    pub fn amount(&self) -> u64
+        ensures { result ≡ self.now.amount }
+    {
+        self.amount
+    }
+
+    /// The last total that this share was told, and 0 before the first one.
+    pub fn seen(&self) -> u64
+        ensures { result ≡ self.now.seen }
+    {
+        self.seen
+    }
+}
+
+impl<K: TallyKey> Kept<K> {
+    fn add(&mut self, share: &mut Share<K>, v: u64) -> Result<(), TallyError>
+        ensures added { OnOk result (self.new.book ≡ self.old.book + v) }
+        ensures amount { OnOk result (share.new.amount ≡ share.old.amount + v) }
+        ensures seen { share.new.seen ≡ share.old.seen }
+        ensures kept { OnErr result ((share.new ≡ share.old) × (self.new.book ≡ self.old.book)) }
+        ensures only_full { IfErr result (λ e. e ≡ TallyError.Full) }
+    {
+        let Kept { book, account, .. } = self;
+        book.add(0, v)?;
+        account.add(&mut share.token, v);
+        account.audit(&mut share.token);
+        share.amount += v;
+        Ok(())
+    }
+
+    fn total(&mut self, share: &mut Share<K>) -> u64
+        ensures own { share.old.amount ≤ result }
+        ensures before { share.old.seen ≤ result }
+        ensures book { self.old.book ≤ result }
+        ensures seen { share.new.seen ≡ result }
+        ensures amount { share.new.amount ≡ share.old.amount }
+        ensures kept { self.new.book ≡ self.old.book }
+    {
+        self.account.audit(&mut share.token);
+        let total = self.book.read().max(share.seen);
+        share.seen = total;
+        total
+    }
+}
+
+/// A sum that several workers count together, each through a share of its own. It never passes 2^64 - 1.
+///
+/// It may be lent to any number of threads. Seen by contracts it is the number of its shares.
+#[derive(Drop)]
+pub struct Tally<K: TallyKey> {
+    shares: usize,
+    kept: Mutex<Kept<K>>,
+}
+
+impl<K: TallyKey> Model for Tally<K> {
+    ghost Value = { ℕ };
+
+    ghost view = { λ t. t.shares };
+
+    ghost invariant = { λ t. K.parts ≡ t.shares + 1 };
+}
+
+impl<K: TallyKey> Tally<K> {
+    /// A tally of the sum 0, and its `n` shares, which have the amount 0 and were told no total. The blank has one part for each
+    /// share and one for the tally. It takes memory; where there is none it returns `Memory`.
+    pub fn new(
+        alloc: Global,
+        blank: Blank,
+        n: usize,
+    ) -> Result<(Tally<K>, Vec<Share<K>>), TallyError>
+        requires name { blank.name ≡ K.name }
+        requires parts { blank.parts ≡ K.parts }
+        requires one_more { blank.parts ≡ n + 1 }
+        ensures shares { IfOk result (λ r. r.0 ≡ n) }
+        ensures count { IfOk result (λ r. vec_len r.1 ≡ n) }
+        ensures unused { IfOk result (λ r. All (λ s. s ≡ unused) r.1.items) }
+        ensures only_memory { IfErr result (λ e. e ≡ TallyError.Memory) }
+    {
+        let mut shares = Vec::with_capacity(alloc, n)?;
+        let (account, mut own) = blank.open::<K>();
+        for _i in 0..n {
+            let token = own.split_off(1, 0);
+            shares.push_reserved(Share {
+                amount: 0,
+                seen: 0,
+                token,
+            });
+        }
+        let kept = Mutex::new(Kept {
+            book: Book::new(),
+            account,
+            own,
+        });
+        Ok((Tally { shares: n, kept }, shares))
+    }
+
+    /// Adds a value to the tally through this share. It returns `Full` where the tally's sum would pass 2^64 - 1, and then
+    /// neither the sum nor the share changes. It waits while another thread has the lock, and takes no memory.
+    pub fn add<R: Wait>(&self, rt: &R, share: &mut Share<K>, v: u64) -> Result<(), TallyError>
+        ensures amount { OnOk result (share.new.amount ≡ share.old.amount + v) }
+        ensures seen { share.new.seen ≡ share.old.seen }
+        ensures full { OnErr result (share.new ≡ share.old) }
+        ensures only_full { IfErr result (λ e. e ≡ TallyError.Full) }
+    {
+        self.kept.lock(rt).add(share, v)
+    }
+
+    /// The sum of what all workers have added so far: at least this share's amount, and at least every total that this share was
+    /// told before. The share is told this one. It waits while another thread has the lock, and takes no memory.
+    pub fn total<R: Wait>(&self, rt: &R, share: &mut Share<K>) -> u64
+        ensures own { share.old.amount ≤ result }
+        ensures before { share.old.seen ≤ result }
+        ensures seen { share.new.seen ≡ result }
+        ensures amount { share.new.amount ≡ share.old.amount }
+    {
+        self.kept.lock(rt).total(share)
+    }
+
+    /// The sum of the amounts of all shares, once all workers have given their shares back. No share was told more.
+    ///
+    /// It returns `MissingShares` where not all shares of the tally are given, and else `Overrun` where a share was told more than
+    /// the sum. The tally and the shares are gone in every case. It takes no memory and waits for nobody.
+    pub fn close(self, shares: Vec<Share<K>>) -> Result<u64, TallyError>
+        ensures missing { (result ≡ Err TallyError.MissingShares) ↔ (vec_len shares ≢ self) }
+        ensures overrun { (result ≡ Err TallyError.Overrun) ↔ ((vec_len shares ≡ self) × ¬ (All (λ s. s.seen ≤ total_of shares.items) shares.items)) }
+        ensures sum { IfOk result (λ sum. (sum ≡ total_of shares.items) × All (λ s. s.seen ≤ sum) shares.items) }
+        ensures only { IfErr result (λ e. (e ≡ TallyError.MissingShares) ⊎ (e ≡ TallyError.Overrun)) }
+    {
+        let Tally {
+            shares: wanted,
+            kept,
+        } = self;
+        if shares.len() != wanted {
+            return Err(TallyError::MissingShares);
+        }
+        let Kept {
+            book,
+            mut account,
+            mut own,
+        } = kept.into_inner();
+        let most = gather(&mut own, shares);
+        account.audit(&mut own);
+        let sum = book.read();
+        if most > sum {
+            Err(TallyError::Overrun)
+        } else {
+            Ok(sum)
+        }
+    }
+}
+
+// Puts the parts and amounts of all shares into one token, and returns the greatest total that a share was told.
+fn gather<K: TallyKey>(own: &mut ledger::Share<K>, shares: Vec<Share<K>>) -> u64
+    ensures parts { own.new.parts ≡ own.old.parts + vec_len shares }
+    ensures amount { own.new.amount ≡ own.old.amount + total_of shares.items }
+    ensures most { All (λ s. s.seen ≤ result) shares.items }
+    ensures least { (bound : ℕ) → All (λ s. s.seen ≤ bound) shares.items → result ≤ bound }
+{
+    let mut most = 0;
+    for share in shares {
+        let Share {
+            amount: _,
+            seen,
+            token,
+        } = share;
+        own.merge(token);
+        most = most.max(seen);
+    }
+    most
+}

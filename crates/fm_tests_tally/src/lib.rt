@@ -1,0 +1,9 @@
+//! Tests of tallies under their lock, and of observations cut among workers, with values from outside.
+#![tactic(auto)]
+
+#[cfg(test)]
+mod closing;
+#[cfg(test)]
+mod pieces;
+#[cfg(test)]
+mod sums;
