@@ -7,7 +7,9 @@ ghost use Rattle.fm_registry.specs.HasBook.{HasBook};
 use fm_encoder::EncodeMetric;
 use fm_registry::Registry;
 use std::marker::Model;
-use std::sync::{Mutex, Wait};
+use std::sync::atomic::AtomicBool;
+use std::sync::atomic::Ordering::SeqCst;
+use std::sync::{RwLock, Wait};
 use thiserror::Error;
 
 /// A global registry was set, or used, before.
@@ -19,7 +21,7 @@ pub struct SetRegistryError;
 #[derive(Drop)]
 pub(crate) struct Kept<M> {
     pub(crate) registry: Registry<M>,
-    pub(crate) is_initialized: bool,
+    pub(crate) is_initialized: AtomicBool,
 }
 
 impl<M> Model for Kept<M> {
@@ -42,34 +44,35 @@ impl<M> Kept<M> {
     ghost use Rattle.fm_registry.specs.HasBook.{HasBook};
 
     // The registry, to read. From then on none can be set.
-    fn used(&mut self) -> &Registry<M>
-        ensures shown { result.now ≡ self.old }
+    fn used(&self) -> &Registry<M>
+        ensures shown { result.now ≡ self.now }
         ensures sound { HasBook result.now }
     {
-        self.is_initialized = true;
+        self.is_initialized.store(true, SeqCst);
         &self.registry
     }
 }
 
-/// A registry under a lock. It is empty until one is set, and its first use makes that one the registry for good.
+/// A registry under a lock, which threads may read at once. It is empty until one is set, and its first use fixes it: from then
+/// on none can be set.
 #[derive(Drop)]
 pub struct GlobalRegistry<M: Drop = Box<dyn EncodeMetric>> {
-    pub(crate) kept: Mutex<Kept<M>>,
+    pub(crate) kept: RwLock<Kept<M>>,
 }
 
 impl<M: Drop> GlobalRegistry<M> {
     /// A registry that was neither set nor used. It takes no memory.
     pub fn new() -> GlobalRegistry<M> {
         GlobalRegistry {
-            kept: Mutex::new(Kept {
+            kept: RwLock::new(Kept {
                 registry: Registry::default(),
-                is_initialized: false,
+                is_initialized: AtomicBool::new(false),
             }),
         }
     }
 }
 
-/// Sets the registry, once. A second one, and one behind the first use, is refused and dropped. It waits for the lock.
+/// Sets the registry, once. It is refused where one was set or used before, and then it is dropped. It waits for the lock.
 pub fn set_global_registry<R: Wait, M: Drop>(
     rt: &R,
     global: &GlobalRegistry<M>,
@@ -77,18 +80,19 @@ pub fn set_global_registry<R: Wait, M: Drop>(
 ) -> Result<(), SetRegistryError>
     requires { HasBook registry }
 {
-    let mut kept = global.kept.lock(rt);
-    if kept.is_initialized {
+    let mut kept = global.kept.write(rt);
+    if kept.is_initialized.load(SeqCst) {
         return Err(SetRegistryError);
     }
     *kept = Kept {
         registry,
-        is_initialized: true,
+        is_initialized: AtomicBool::new(true),
     };
     Ok(())
 }
 
-/// Lends the registry to `f`, under the lock. It waits for the lock.
+/// Lends the registry to `f`, under the lock, which other threads may read under too. It waits while another thread changes the
+/// registry. `f` must not change the same one, nor read it again where another thread may change it: it would wait for ever.
 pub fn with_global_registry<R: Wait, M: Drop, T, F: FnOnce(&Registry<M>) -> T>(
     rt: &R,
     global: &GlobalRegistry<M>,
@@ -97,11 +101,12 @@ pub fn with_global_registry<R: Wait, M: Drop, T, F: FnOnce(&Registry<M>) -> T>(
     requires { (registry : _) → HasBook registry → FnOnceTakesAt F.FnOnce f registry }
     ensures { (registry : _) × HasBook registry × FnOnceReturnsAt F.FnOnce f registry result }
 {
-    let mut kept = global.kept.lock(rt);
+    let kept = global.kept.read(rt);
     f(kept.used())
 }
 
-/// Lends the registry to `f`, under the lock, to change it. It waits for the lock.
+/// Lends the registry to `f`, under the lock, to change it. It waits for the lock. `f` must not use the same one: it would wait for
+/// ever.
 pub fn with_global_registry_mut<R: Wait, M: Drop, T, F: FnOnce(&mut Registry<M>) -> T>(
     rt: &R,
     global: &GlobalRegistry<M>,
@@ -111,7 +116,7 @@ pub fn with_global_registry_mut<R: Wait, M: Drop, T, F: FnOnce(&mut Registry<M>)
     requires leaves { (old : _) (result : T) (new : _) → HasBook old → FnOnceReturnsAtMut F.FnOnce f old result new → HasBook new }
     ensures { (old : _) × (new : _) × HasBook old × FnOnceReturnsAtMut F.FnOnce f old result new }
 {
-    let mut kept = global.kept.lock(rt);
-    kept.is_initialized = true;
+    let mut kept = global.kept.write(rt);
+    kept.is_initialized.store(true, SeqCst);
     f(&mut kept.registry)
 }

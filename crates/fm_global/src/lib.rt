@@ -4,8 +4,6 @@
 mod global;
 mod metrics;
 mod registering;
-#[cfg(test)]
-mod tests;
 
 pub use global::{
     GlobalRegistry, SetRegistryError, set_global_registry, with_global_registry,

@@ -10,6 +10,7 @@ use fm_encoder::EncodeMetric;
 use fm_registry::{MetricType, RegistryError, Unit};
 use std::alloc::Global;
 use std::sync::Wait;
+use std::sync::atomic::Ordering::SeqCst;
 
 impl<M: Drop> Kept<M> {
     // Registers a metric of this type in the registry. From then on none can be set.
@@ -25,7 +26,7 @@ impl<M: Drop> Kept<M> {
         ensures registers { Registers (λ t. t ≡ metric_type) (asked_metric name help unit metric) self.old self.new result }
         ensures sound { HasBook self.old }
     {
-        self.is_initialized = true;
+        self.is_initialized.store(true, SeqCst);
         self.registry
             .add_metric(alloc, name, help, metric_type, unit, metric)
     }
@@ -49,10 +50,10 @@ pub fn register_metric<R: Wait>(
     unit: Option<Unit>,
     metric: Box<dyn EncodeMetric>,
 ) -> Result<(), RegistryError>
-    ensures { RegistersLocked (λ t. types metric t) (asked_metric name help unit metric) result }
+    ensures { RegistersLocked (Registers (λ t. types metric t) (asked_metric name help unit metric)) result }
 {
     let metric_type = type_of(&metric);
-    let mut kept = global.kept.lock(rt);
+    let mut kept = global.kept.write(rt);
     kept.add_metric(alloc, name, help, metric_type, unit, metric)
 }
 
@@ -66,7 +67,7 @@ pub fn register_with_unit<R: Wait>(
     unit: Unit,
     metric: Box<dyn EncodeMetric>,
 ) -> Result<(), RegistryError>
-    ensures { RegistersLocked (λ t. types metric t) (asked_metric name help (Some unit) metric) result }
+    ensures { RegistersLocked (Registers (λ t. types metric t) (asked_metric name help (Some unit) metric)) result }
 {
     register_metric(rt, alloc, global, name, help, Some(unit), metric)
 }
@@ -80,7 +81,7 @@ pub fn register<R: Wait>(
     help: String,
     metric: Box<dyn EncodeMetric>,
 ) -> Result<(), RegistryError>
-    ensures { RegistersLocked (λ t. types metric t) (asked_metric name help None metric) result }
+    ensures { RegistersLocked (Registers (λ t. types metric t) (asked_metric name help None metric)) result }
 {
     register_metric(rt, alloc, global, name, help, None, metric)
 }

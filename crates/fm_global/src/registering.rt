@@ -1,26 +1,42 @@
 //! What registers metrics of its own.
+ghost use Rattle.std.specs.Prelude.{◌≡◌, Result, ⊤};
+ghost use Rattle.fm_book.specs.Tree.{Tree};
+ghost use Rattle.fm_book.specs.declared.RegistryError.{RegistryError as Refusal};
+ghost use Rattle.fm_global.specs.Locked.{RegistersLocked};
+
 use crate::global::GlobalRegistry;
 use fm_registry::{Registry, RegistryError};
 use std::alloc::Global;
 use std::sync::Wait;
+use std::sync::atomic::Ordering::SeqCst;
 
-/// Something that registers metrics of its own.
-pub trait Register {
+/// Something that registers metrics of its own, in a registry of metrics of the type `M`: `Box<dyn EncodeMetric>` where a program
+/// boxes them.
+///
+/// Implement it for each `M`, as `impl<M: Drop> Register<M> for MyMetrics<M>`, over metrics that `main` boxed: a method that boxes
+/// them itself, or that keeps boxes, gets no proof.
+pub trait Register<M> {
     ghost use Rattle.fm_registry.specs.HasBook.{HasBook};
 
+    /// Holds of the registry before and after a call, and of its answer. Where nothing is declared, it holds of all.
+    ghost registers: { Self → Tree M → Tree M → Result (Unit {0}) Refusal → Type 0 } = { λ _ _ _ _. ⊤ };
+
     /// Registers the metrics. What a refusal leaves registered is the implementation's to say.
-    fn register(&self, alloc: Global, registry: &mut Registry) -> Result<(), RegistryError>
-        ensures { HasBook registry.old → HasBook registry.new };
+    fn register(&self, alloc: Global, registry: &mut Registry<M>) -> Result<(), RegistryError>
+        ensures sound { HasBook registry.old → HasBook registry.new }
+        ensures registers { registers self.now registry.old registry.new result };
 }
 
 /// Registers the metrics of `metrics` in the global registry. It waits for the lock.
-pub fn register_global<R: Wait, T: Register>(
+pub fn register_global<R: Wait, M: Drop, T: Register<M>>(
     rt: &R,
     alloc: Global,
-    global: &GlobalRegistry,
+    global: &GlobalRegistry<M>,
     metrics: &T,
-) -> Result<(), RegistryError> {
-    let mut kept = global.kept.lock(rt);
-    kept.is_initialized = true;
+) -> Result<(), RegistryError>
+    ensures { RegistersLocked (T.registers metrics.now) result }
+{
+    let mut kept = global.kept.write(rt);
+    kept.is_initialized.store(true, SeqCst);
     metrics.register(alloc, &mut kept.registry)
 }

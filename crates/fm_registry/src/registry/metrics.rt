@@ -58,12 +58,7 @@ fn named_metric(
         }
         named => named,
     };
-    Ok(Metadata {
-        name,
-        help,
-        metric_type,
-        unit,
-    })
+    Ok(Metadata::new(name, help, metric_type, unit))
 }
 
 // Adds a metric that is not there.
@@ -77,7 +72,7 @@ fn insert_new<M: Drop>(
     ensures answer { IsAnswered (refusal_of result) (if has_metric (seen_metrics metrics.old.entries) (seen_metric key metric) then Some (AlreadyExists (string_bytes key.name)) else None) }
 {
     if metrics.contains_key(&key) {
-        let Metadata { name, .. } = key;
+        let name = key.into_name();
         return Err(RegistryError::AlreadyExists { name });
     }
     match metrics.insert(key, metric) {

@@ -2,8 +2,8 @@ use Rattle.std.proofs.Common.{refl}
 use Rattle.std.specs.Fn.{FnOnceReturnsAtMut}
 use Rattle.fm_global.proofs.global.with_global_registry_mut.Goals as goal
 
-pub invariant_of-behind-kept-2 : goal.invariant_of-behind-kept-2
-invariant_of-behind-kept-2 g c =
+pub invariant_of-behind-kept : goal.invariant_of-behind-kept
+invariant_of-behind-kept g c =
     let gave : FnOnceReturnsAtMut g.F.FnOnce c.args.f c.behind-kept-2.inside.registry c.f.result c.f.new.arg2 = record { shown = _; shows = refl; left = _; met = c.f.ensures; leaves = refl } in
     c.requires.leaves _ _ _ c.behind-kept-2.invariant gave
 

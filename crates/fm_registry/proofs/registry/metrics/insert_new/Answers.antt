@@ -8,7 +8,7 @@ use Rattle.fm_registry.proofs.registry.metrics.insert_new.Goals as goal
 
 pub returns-then-contains_key-clause-answer : goal.returns-then-contains_key-clause-answer
 returns-then-contains_key-clause-answer g c =
-    rw (has_metric-lookup c.args.metrics.now.entries c.args.key c.args.metric, ← c.contains_key.ensures, c.if-contains_key.true) (inr refl)
+    rw (has_metric-lookup c.args.metrics.now.entries c.args.key c.args.metric, ← c.contains_key.ensures, c.if-contains_key.true, ← c.into_name-name.ensures) (inr refl)
 
 pub returns-in-Ok-clause-ok : goal.returns-in-Ok-clause-ok
 returns-in-Ok-clause-ok g c =

@@ -1,0 +1,143 @@
+//! What decides which registry a program shares.
+ghost use Rattle.fm_registry.specs.HasBook.{HasBook};
+
+use crate::support::{One, UpAndDown, document};
+use fastmetrics::encoder::EncodeMetric;
+use fastmetrics::metrics::gauge::ConstGauge;
+use fastmetrics::raw::Unit;
+use fastmetrics::registry::{
+    GlobalRegistry, Registry, SetRegistryError, register, register_global, register_metric,
+    register_with_unit, set_global_registry, with_global_registry, with_global_registry_mut,
+};
+use std::sync::Wait;
+use std::test::Fail;
+
+// Whether no registry can be set any more.
+fn is_decided<R: Wait>(rt: &R, global: &GlobalRegistry) -> bool {
+    set_global_registry(rt, global, Registry::default()) == Err(SetRegistryError)
+}
+
+#[test]
+fn registering_decides(rt: HostRuntime) -> Result<(), Fail> {
+    let alloc = rt.alloc();
+    let global: GlobalRegistry = GlobalRegistry::new();
+    let (name, help) = (String::from_str(alloc, "g")?, String::from_str(alloc, "H")?);
+    register(
+        &rt,
+        alloc,
+        &global,
+        name,
+        help,
+        Box::new(alloc, ConstGauge::new(7i64))?,
+    )?;
+    assert!(rt; is_decided(&rt, &global));
+    assert_eq!(rt;
+        document(&rt, alloc, &global)?.as_str(),
+        "# TYPE g gauge\n# HELP g H\ng 7\n# EOF\n"
+    );
+    Ok(())
+}
+
+#[test]
+fn registering_with_a_unit_decides(rt: HostRuntime) -> Result<(), Fail> {
+    let alloc = rt.alloc();
+    let global: GlobalRegistry = GlobalRegistry::new();
+    let (name, help) = (String::from_str(alloc, "g")?, String::from_str(alloc, "H")?);
+    let metric: Box<dyn EncodeMetric> = Box::new(alloc, ConstGauge::new(7i64))?;
+    register_with_unit(&rt, alloc, &global, name, help, Unit::Bytes, metric)?;
+    assert!(rt; is_decided(&rt, &global));
+    assert_eq!(rt;
+        document(&rt, alloc, &global)?.as_str(),
+        "# TYPE g_bytes gauge\n# HELP g_bytes H\n# UNIT g_bytes bytes\ng_bytes 7\n# EOF\n"
+    );
+    Ok(())
+}
+
+#[test]
+fn registering_a_metric_decides(rt: HostRuntime) -> Result<(), Fail> {
+    let alloc = rt.alloc();
+    let global: GlobalRegistry = GlobalRegistry::new();
+    let (name, help) = (String::from_str(alloc, "g")?, String::from_str(alloc, "H")?);
+    let metric: Box<dyn EncodeMetric> = Box::new(alloc, ConstGauge::new(7i64))?;
+    register_metric(&rt, alloc, &global, name, help, None, metric)?;
+    assert!(rt; is_decided(&rt, &global));
+    assert_eq!(rt;
+        document(&rt, alloc, &global)?.as_str(),
+        "# TYPE g gauge\n# HELP g H\ng 7\n# EOF\n"
+    );
+    Ok(())
+}
+
+#[test]
+fn registering_all_of_its_own_decides(rt: HostRuntime) -> Result<(), Fail> {
+    let alloc = rt.alloc();
+    let global: GlobalRegistry = GlobalRegistry::new();
+    let up: Box<dyn EncodeMetric> = Box::new(alloc, ConstGauge::new(1i64))?;
+    let down: Box<dyn EncodeMetric> = Box::new(alloc, ConstGauge::new(-1i64))?;
+    register_global(&rt, alloc, &global, &UpAndDown::new(up, down))?;
+    assert!(rt; is_decided(&rt, &global));
+    assert_eq!(rt;
+        document(&rt, alloc, &global)?.as_str(),
+        "# TYPE up gauge\n# HELP up H\nup 1\n# TYPE down gauge\n# HELP down H\ndown -1\n# EOF\n"
+    );
+    Ok(())
+}
+
+#[test]
+fn a_loan_to_change_decides(rt: HostRuntime) -> Result<(), Fail> {
+    let global: GlobalRegistry = GlobalRegistry::new();
+    let is_unnamed = with_global_registry_mut(
+        &rt,
+        &global,
+        |registry: &mut Registry| -> bool
+            requires { HasBook registry.old }
+            ensures { HasBook registry.new }
+        { registry.namespace().is_none() },
+    );
+    assert!(rt; is_unnamed);
+    assert!(rt; is_decided(&rt, &global));
+    Ok(())
+}
+
+#[test]
+fn a_loan_to_read_decides(rt: HostRuntime) -> Result<(), Fail> {
+    let global: GlobalRegistry = GlobalRegistry::new();
+    let is_unnamed = with_global_registry(&rt, &global, |registry: &Registry| {
+        registry.namespace().is_none()
+    });
+    assert!(rt; is_unnamed);
+    assert!(rt; is_decided(&rt, &global));
+    Ok(())
+}
+
+#[test]
+fn a_second_registry_is_refused(rt: HostRuntime) -> Result<(), Fail> {
+    let alloc = rt.alloc();
+    let global: GlobalRegistry = GlobalRegistry::new();
+    let name = String::from_str(alloc, "first")?;
+    let first = Registry::builder().with_namespace(name)?.build()?;
+    assert_eq!(rt; set_global_registry(&rt, &global, first), Ok(()));
+    let name = String::from_str(alloc, "second")?;
+    let second = Registry::builder().with_namespace(name)?.build()?;
+    assert_eq!(rt;
+        set_global_registry(&rt, &global, second),
+        Err(SetRegistryError)
+    );
+    let metric: Box<dyn EncodeMetric> = Box::new(alloc, ConstGauge::new(7i64))?;
+    register_global(&rt, alloc, &global, &One::new("g", metric))?;
+    assert!(rt; is_decided(&rt, &global));
+    assert_eq!(rt;
+        document(&rt, alloc, &global)?.as_str(),
+        "# TYPE first_g gauge\n# HELP first_g H\nfirst_g 7\n# EOF\n"
+    );
+    Ok(())
+}
+
+#[test]
+fn the_text_of_a_refusal(rt: HostRuntime) -> Result<(), Fail> {
+    assert_eq!(rt;
+        SetRegistryError.to_string(rt.alloc())?.as_str(),
+        "Global registry has already been initialized"
+    );
+    Ok(())
+}

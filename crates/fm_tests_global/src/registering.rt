@@ -1,0 +1,71 @@
+//! What is registered in the registry under the lock.
+ghost use Rattle.fm_registry.specs.HasBook.{HasBook};
+
+use crate::support::{One, UpAndDown, document};
+use fastmetrics::encoder::EncodeMetric;
+use fastmetrics::metrics::gauge::ConstGauge;
+use fastmetrics::registry::{
+    GlobalRegistry, Registry, RegistryError, register, register_global, register_metric,
+    with_global_registry_mut,
+};
+use std::test::Fail;
+
+#[test]
+fn a_metric_is_registered_once(rt: HostRuntime) -> Result<(), Fail> {
+    let alloc = rt.alloc();
+    let global: GlobalRegistry = GlobalRegistry::new();
+    let (name, help) = (
+        String::from_str(alloc, "up")?,
+        String::from_str(alloc, "H")?,
+    );
+    register(
+        &rt,
+        alloc,
+        &global,
+        name,
+        help,
+        Box::new(alloc, ConstGauge::new(1i64))?,
+    )?;
+    let (name, help) = (
+        String::from_str(alloc, "up")?,
+        String::from_str(alloc, "again")?,
+    );
+    let metric: Box<dyn EncodeMetric> = Box::new(alloc, ConstGauge::new(2i64))?;
+    let again = register_metric(&rt, alloc, &global, name, help, None, metric);
+    assert!(rt; matches!(again, Err(RegistryError::AlreadyExists { .. })));
+    let metric: Box<dyn EncodeMetric> = Box::new(alloc, ConstGauge::new(3i64))?;
+    let again = register_global(&rt, alloc, &global, &One::new("up", metric));
+    assert!(rt; matches!(again, Err(RegistryError::AlreadyExists { .. })));
+    assert_eq!(rt;
+        document(&rt, alloc, &global)?.as_str(),
+        "# TYPE up gauge\n# HELP up H\nup 1\n# EOF\n"
+    );
+    Ok(())
+}
+
+#[test]
+fn metrics_go_on_after_those_of_others(rt: HostRuntime) -> Result<(), Fail> {
+    let alloc = rt.alloc();
+    let global: GlobalRegistry = GlobalRegistry::new();
+    let metric: Box<dyn EncodeMetric> = Box::new(alloc, ConstGauge::new(7i64))?;
+    register_global(&rt, alloc, &global, &One::new("g", metric))?;
+    let up: Box<dyn EncodeMetric> = Box::new(alloc, ConstGauge::new(1i64))?;
+    let down: Box<dyn EncodeMetric> = Box::new(alloc, ConstGauge::new(-1i64))?;
+    register_global(&rt, alloc, &global, &UpAndDown::new(up, down))?;
+    let (name, help) = (String::from_str(alloc, "h")?, String::from_str(alloc, "H")?);
+    let metric: Box<dyn EncodeMetric> = Box::new(alloc, ConstGauge::new(8i64))?;
+    with_global_registry_mut(
+        &rt,
+        &global,
+        |registry: &mut Registry| -> Result<(), RegistryError>
+            requires { HasBook registry.old }
+            ensures { HasBook registry.new }
+        { registry.register(alloc, name, help, metric) },
+    )?;
+    assert_eq!(rt;
+        document(&rt, alloc, &global)?.as_str(),
+        "# TYPE g gauge\n# HELP g H\ng 7\n# TYPE up gauge\n# HELP up H\nup 1\n\
+         # TYPE down gauge\n# HELP down H\ndown -1\n# TYPE h gauge\n# HELP h H\nh 8\n# EOF\n"
+    );
+    Ok(())
+}
