@@ -2,7 +2,7 @@
 ghost use Rattle.fm_registry.specs.HasBook.{HasBook};
 
 use fastmetrics::encoder::EncodeMetric;
-use fastmetrics::format::text::{EncodeError, encode};
+use fastmetrics::format::text::{EncodeError, collect, encode, encode_exposition};
 use fastmetrics::raw::Unit;
 use fastmetrics::registry::Registry;
 use std::alloc::Global;
@@ -79,13 +79,34 @@ pub fn text_of(bytes: Vec<u8>) -> Result<String, Fail> {
     }
 }
 
+// What encoding answers, and what a writer with this line then holds: straight, and by collecting first. Both are the same.
+fn encoded_both_ways(
+    alloc: Global,
+    before: &str,
+    registry: &Registry,
+) -> Result<(Result<(), EncodeError>, String), Fail>
+    requires { HasBook registry.now }
+{
+    let mut bytes = before.as_bytes().to_vec(alloc)?;
+    let answer = encode(alloc, &mut bytes, registry);
+    let mut collected = before.as_bytes().to_vec(alloc)?;
+    let other = match collect(alloc, registry) {
+        Ok(exposition) => encode_exposition(alloc, &mut collected, &exposition),
+        Err(error) => Err(error),
+    };
+    if answer != other || bytes != collected {
+        return Err(Fail::new("collecting first writes another document"));
+    }
+    Ok((answer, text_of(bytes)?))
+}
+
 /// The document of a registry.
 pub fn document_of(alloc: Global, registry: &Registry) -> Result<String, Fail>
     requires { HasBook registry.now }
 {
-    let mut bytes = Vec::new(alloc);
-    encode(alloc, &mut bytes, registry)?;
-    text_of(bytes)
+    let (answer, document) = encoded_both_ways(alloc, "", registry)?;
+    answer?;
+    Ok(document)
 }
 
 // What encoding a metric under this name and the help `H` answers, and what a writer with this line then holds.
@@ -100,9 +121,7 @@ fn encoded_after(
     let name = String::from_str(alloc, name)?;
     let help = String::from_str(alloc, "H")?;
     registry.register_metric(alloc, name, help, unit, metric)?;
-    let mut bytes = before.as_bytes().to_vec(alloc)?;
-    let answer = encode(alloc, &mut bytes, &registry);
-    Ok((answer, text_of(bytes)?))
+    encoded_both_ways(alloc, before, &registry)
 }
 
 /// The document of a metric alone, under this name and the help `H`.

@@ -3,6 +3,7 @@ ghost use Rattle.fm_registry.specs.HasBook.{HasBook};
 
 use fastmetrics::encoder::EncodeMetric;
 use fastmetrics::metrics::gauge::ConstGauge;
+use fastmetrics::raw::Unit;
 use fastmetrics::registry::{Registry, RegistryCall, RegistryError};
 use std::alloc::{AllocError, Global};
 use std::test::Fail;
@@ -117,12 +118,13 @@ pub fn gauge(alloc: Global, value: i64) -> Result<Box<ConstGauge<i64>>, AllocErr
     Ok(Box::new(alloc, ConstGauge::new(value))?)
 }
 
-/// Registers a metric here, with this help.
-pub fn register_helped(
+/// Registers a metric here, with this help and unit.
+pub fn register_with(
     alloc: Global,
     registry: &mut Registry,
     name: &str,
     help: &str,
+    unit: Option<Unit>,
     metric: Box<dyn EncodeMetric>,
 ) -> Result<(), RegistryError>
     requires { HasBook registry.old }
@@ -131,10 +133,10 @@ pub fn register_helped(
     let (Ok(name), Ok(help)) = (String::from_str(alloc, name), String::from_str(alloc, help)) else {
         return Err(RegistryError::Memory);
     };
-    registry.register(alloc, name, help, metric)
+    registry.register_metric(alloc, name, help, unit, metric)
 }
 
-/// Registers a metric here, with the help `H`.
+/// Registers a metric here, with the help `H` and no unit.
 pub fn register(
     alloc: Global,
     registry: &mut Registry,
@@ -144,7 +146,7 @@ pub fn register(
     requires { HasBook registry.old }
     ensures { HasBook registry.new }
 {
-    register_helped(alloc, registry, name, "H", metric)
+    register_with(alloc, registry, name, "H", None, metric)
 }
 
 /// Registers a metric in a subsystem, which is made where it is not there.

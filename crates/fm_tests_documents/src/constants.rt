@@ -1,13 +1,12 @@
 //! Documents of constant metrics: numbers, times of creation and units.
-ghost use Rattle.fm_registry.specs.HasBook.{HasBook};
 
 use fastmetrics::encoder::EncodeMetric;
 use fastmetrics::metrics::counter::ConstCounter;
 use fastmetrics::metrics::gauge::ConstGauge;
 use fastmetrics::raw::{Fixed, MetricType, TypedMetric, Unit};
-use fastmetrics::registry::{Registry, RegistryError};
+use fastmetrics::registry::Registry;
 use fm_test_support::support::{document_alone, document_of, lines_of};
-use fm_test_support::trees::{gauge, register};
+use fm_test_support::trees::{gauge, register, register_with};
 use std::alloc::Global;
 use std::test::Fail;
 use std::time::Duration;
@@ -204,31 +203,14 @@ fn one_name_of_two_types(rt: HostRuntime) -> Result<(), Fail> {
     Ok(())
 }
 
-// Registers a gauge `g` in this unit.
-fn register_in(
-    alloc: Global,
-    registry: &mut Registry,
-    unit: Unit,
-    metric: Box<dyn EncodeMetric>,
-) -> Result<(), RegistryError>
-    requires { HasBook registry.old }
-    ensures { HasBook registry.new }
-{
-    let (Ok(name), Ok(help)) = (String::from_str(alloc, "g"), String::from_str(alloc, "H")) else {
-        return Err(RegistryError::Memory);
-    };
-    registry.register_with_unit(alloc, name, help, unit, metric)
-}
-
 #[test]
 fn one_name_with_two_units(rt: HostRuntime) -> Result<(), Fail> {
     let alloc = rt.alloc();
     let mut registry = Registry::default();
-    let metric = gauge(alloc, 1)?;
-    register_in(alloc, &mut registry, Unit::Seconds, metric)?;
-    let seconds = Unit::from(String::from_str(alloc, "seconds")?);
-    let metric = gauge(alloc, 2)?;
-    register_in(alloc, &mut registry, seconds, metric)?;
+    let unit = Some(Unit::Seconds);
+    register_with(alloc, &mut registry, "g", "H", unit, gauge(alloc, 1)?)?;
+    let unit = Some(Unit::from(String::from_str(alloc, "seconds")?));
+    register_with(alloc, &mut registry, "g", "H", unit, gauge(alloc, 2)?)?;
     assert_eq!(rt;
         document_of(alloc, &registry)?.as_str(),
         "# TYPE g_seconds gauge\n# HELP g_seconds H\n# UNIT g_seconds seconds\ng_seconds 1\n\

@@ -4,7 +4,7 @@ use fastmetrics::metrics::counter::ConstCounter;
 use fastmetrics::metrics::tally::Book;
 use fastmetrics::registry::{Registry, RegistryError};
 use fm_test_support::support::{document_alone, document_of};
-use fm_test_support::trees::register_helped;
+use fm_test_support::trees::register_with;
 use own_metric::{Queue, Waiting};
 use std::test::Fail;
 
@@ -84,9 +84,9 @@ fn repeated_registration(rt: HostRuntime) -> Result<(), Fail> {
     let alloc = rt.alloc();
     let mut registry = Registry::default();
     let counter = Box::new(alloc, ConstCounter::new(1u64))?;
-    register_helped(alloc, &mut registry, "a", "first", counter)?;
+    register_with(alloc, &mut registry, "a", "first", None, counter)?;
     let counter = Box::new(alloc, ConstCounter::new(2u64))?;
-    let again = register_helped(alloc, &mut registry, "a", "second", counter);
+    let again = register_with(alloc, &mut registry, "a", "second", None, counter);
     let name = String::from_str(alloc, "a")?;
     assert_eq!(rt; again, Err(RegistryError::AlreadyExists { name }));
     assert_eq!(rt;

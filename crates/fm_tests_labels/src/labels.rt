@@ -221,7 +221,11 @@ fn sets_are_visited_once_a_point(rt: HostRuntime) -> Result<(), Fail> {
         document_alone(alloc, "t", None, metric)?.as_str(),
         "# TYPE t counter\n# HELP t H\nt_total 7\nt_created 1.005\n# EOF\n"
     );
-    assert_eq!(rt; visits.load(Ordering::SeqCst), 1);
+    assert_eq!(rt;
+        visits.load(Ordering::SeqCst),
+        2,
+        "once in each of two encodings"
+    );
     Ok(())
 }
 

@@ -6,8 +6,6 @@ mod boxed;
 #[cfg(test)]
 mod calls;
 #[cfg(test)]
-mod listing;
-#[cfg(test)]
 mod registering;
 #[cfg(test)]
 mod tree;

@@ -8,6 +8,7 @@ use fastmetrics::raw::{MetricType, Unit};
 use fastmetrics::registry::{Registry, RegistryError, SetRegistryError};
 use fm_test_support::members::OneMember;
 use fm_test_support::support::document_of;
+use fm_test_support::trees::register_with;
 use std::alloc::Global;
 use std::test::Fail;
 
@@ -19,9 +20,7 @@ fn answer_to(
     metric: Box<dyn EncodeMetric>,
 ) -> Result<Result<(), RegistryError>, Fail> {
     let mut registry = Registry::default();
-    let name = String::from_str(alloc, name)?;
-    let help = String::from_str(alloc, "H")?;
-    let answer = registry.register_metric(alloc, name, help, unit, metric);
+    let answer = register_with(alloc, &mut registry, name, "H", unit, metric);
     let is_empty = document_of(alloc, &registry)?.as_str() == "# EOF\n";
     if is_empty == answer.is_ok() {
         return Err(Fail::new("the document does not fit the answer"));
