@@ -2,7 +2,7 @@
 ghost use Rattle.fm_registry.specs.HasBook.{HasBook};
 
 use fastmetrics::encoder::EncodeMetric;
-use fastmetrics::format::text::{EncodeError, encode};
+use fastmetrics::format::text::{EncodeError, collect, encode, encode_exposition};
 use fastmetrics::raw::Unit;
 use fastmetrics::registry::Registry;
 use std::alloc::Global;
@@ -79,13 +79,41 @@ pub fn text_of(bytes: Vec<u8>) -> Result<String, Fail> {
     }
 }
 
+// Collects a registry, and writes the exposition.
+fn write_collected(
+    alloc: Global,
+    writer: &mut Vec<u8>,
+    registry: &Registry,
+) -> Result<(), EncodeError>
+    requires { HasBook registry.now }
+{
+    let exposition = collect(alloc, registry)?;
+    encode_exposition(alloc, writer, &exposition)
+}
+
+/// What encoding a registry answers and writes. Collecting it and writing the exposition answers and writes the same.
+pub fn encoded_both_ways(
+    alloc: Global,
+    registry: &Registry,
+) -> Result<(Result<(), EncodeError>, String), Fail>
+    requires { HasBook registry.now }
+{
+    let mut bytes = Vec::new(alloc);
+    let answer = encode(alloc, &mut bytes, registry);
+    let mut collected = Vec::new(alloc);
+    if write_collected(alloc, &mut collected, registry) != answer || collected != bytes {
+        return Err(Fail::new("another document by way of an exposition"));
+    }
+    Ok((answer, text_of(bytes)?))
+}
+
 /// The document of a registry.
 pub fn document_of(alloc: Global, registry: &Registry) -> Result<String, Fail>
     requires { HasBook registry.now }
 {
-    let mut bytes = Vec::new(alloc);
-    encode(alloc, &mut bytes, registry)?;
-    text_of(bytes)
+    let (answer, document) = encoded_both_ways(alloc, registry)?;
+    answer?;
+    Ok(document)
 }
 
 /// What encoding a metric under this name and the help `H` answers, and what it writes.
@@ -99,9 +127,7 @@ pub fn encoded(
     let name = String::from_str(alloc, name)?;
     let help = String::from_str(alloc, "H")?;
     registry.register_metric(alloc, name, help, unit, metric)?;
-    let mut bytes = Vec::new(alloc);
-    let answer = encode(alloc, &mut bytes, &registry);
-    Ok((answer, text_of(bytes)?))
+    encoded_both_ways(alloc, &registry)
 }
 
 /// The document of a metric alone, under this name and the help `H`.
