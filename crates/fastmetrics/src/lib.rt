@@ -16,12 +16,14 @@ pub mod metrics {
 
     pub mod counter {
         //! Counters: numbers that never fall.
+        pub use fm_atomic::CounterValue;
         pub use fm_handles::counter::Counter;
         pub use fm_metrics::counter::ConstCounter;
     }
 
     pub mod gauge {
         //! Gauges: numbers that rise and fall.
+        pub use fm_atomic::GaugeValue;
         pub use fm_handles::gauge::Gauge;
         pub use fm_metrics::gauge::ConstGauge;
     }
@@ -39,11 +41,21 @@ pub mod metrics {
 
     pub mod histogram {
         //! Histograms: counts of observed values by bounds.
+        pub use fm_bucket::{
+            BUCKET_LABEL, Bound, Bucket, BucketError, DEFAULT_BUCKETS, ExponentialBuckets,
+            LinearBuckets, Probe, Steps, default_buckets, exponential_buckets,
+            exponential_buckets_range, find_bucket, linear_buckets,
+        };
         pub use fm_histogram::{Histogram, HistogramSnapshot};
     }
 
     pub mod gauge_histogram {
         //! What gauge histograms show: counts of current values by bounds.
+        pub use fm_bucket::{
+            BUCKET_LABEL, Bound, Bucket, BucketError, DEFAULT_BUCKETS, ExponentialBuckets,
+            LinearBuckets, Probe, Steps, default_buckets, exponential_buckets,
+            exponential_buckets_range, find_bucket, linear_buckets,
+        };
         pub use fm_histogram::GaugeHistogramSnapshot;
     }
 }

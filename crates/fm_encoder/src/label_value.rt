@@ -11,8 +11,12 @@ use fm_raw::fixed::{Fixed, FixedBuffer, FixedSum};
 use fm_text::EncodeError;
 
 /// Lends a text as a name or a value of a label.
-#[derive(Clone, Copy, Debug)]
+#[derive(Clone, Copy, Debug, PartialEq, Eq, PartialOrd, Ord, Hash)]
 pub struct LabelStr<'a>(pub &'a str);
+
+/// A text of the program itself as a name or a value of a label. It may stand in a metric that is boxed, where `LabelStr` may not.
+#[derive(Clone, Copy, Debug, PartialEq, Eq, PartialOrd, Ord, Hash)]
+pub struct StaticStr(pub &'static str);
 
 impl EncodeLabelName for LabelStr<'_> {
     ghost pieces = { λ s. NamePiece s.0.now ∷ [] };
@@ -29,6 +33,50 @@ impl EncodeLabelValue for LabelStr<'_> {
 
     fn encode(&self, encoder: &mut LabelEncoder) -> Result<(), EncodeError> {
         encoder.encode_str_value(self.0)
+    }
+
+    fn skip_encoding(&self) -> bool {
+        false
+    }
+}
+
+impl EncodeLabelName for StaticStr {
+    ghost pieces = { λ s. NamePiece s.0.now ∷ [] };
+
+    fn encode(&self, encoder: &mut LabelEncoder) -> Result<(), EncodeError> {
+        encoder.encode_label_name(self.0)
+    }
+}
+
+impl EncodeLabelValue for StaticStr {
+    ghost pieces = { λ s. ValuePiece s.0.now ∷ [] };
+
+    ghost is_skipped = { λ _. false };
+
+    fn encode(&self, encoder: &mut LabelEncoder) -> Result<(), EncodeError> {
+        encoder.encode_str_value(self.0)
+    }
+
+    fn skip_encoding(&self) -> bool {
+        false
+    }
+}
+
+impl EncodeLabelName for &str {
+    ghost pieces = { λ s. NamePiece s.now ∷ [] };
+
+    fn encode(&self, encoder: &mut LabelEncoder) -> Result<(), EncodeError> {
+        encoder.encode_label_name(self)
+    }
+}
+
+impl EncodeLabelValue for &str {
+    ghost pieces = { λ s. ValuePiece s.now ∷ [] };
+
+    ghost is_skipped = { λ _. false };
+
+    fn encode(&self, encoder: &mut LabelEncoder) -> Result<(), EncodeError> {
+        encoder.encode_str_value(self)
     }
 
     fn skip_encoding(&self) -> bool {

@@ -23,7 +23,7 @@ pub use exemplar::{EncodeExemplar, ExemplarEncoder};
 pub use fm_text::EncodeError;
 pub use label::{EncodeLabel, EncodeLabelName, EncodeLabelValue, LabelEncoder, LabelSetEncoder};
 pub use label_set::{EncodeLabelSet, LabelSlice};
-pub use label_value::LabelStr;
+pub use label_value::{LabelStr, StaticStr};
 pub use law::counts_add_up;
 pub use metric::{EncodeMetric, MetricEncoder};
 pub use point::{EncodePoint, PointEncoder};

@@ -12,6 +12,7 @@ use fm_encoder::{EncodeLabelSet, EncodeMetric, EncodePoint, MetricEncoder};
 use fm_raw::{MetricError, MetricType, TypedMetric};
 use fm_text::EncodeError;
 use std::alloc::{AllocError, Global};
+use std::fmt::{self, Debug, Formatter};
 use std::hash::{BuildHasher, Hash};
 use std::sync::{Arc, RwLock, Wait};
 use std::time::Duration;
@@ -134,6 +135,13 @@ impl<LS: Eq + Hash + Drop, M: Drop, MF: Drop, S: BuildHasher + Drop, H: Wait + C
         let shared = self.shared.clone()?;
         let wait = self.wait.clone()?;
         Ok(Family { shared, wait })
+    }
+}
+
+/// The name of the type alone: the members stand under the lock.
+impl<LS: Eq + Hash, M, MF, S: BuildHasher, H: Wait> Debug for Family<LS, M, MF, S, H> {
+    fn fmt<W: fmt::Write>(&self, f: &mut Formatter<W>) -> fmt::Result {
+        f.debug_struct("Family").finish_non_exhaustive()
     }
 }
 

@@ -4,8 +4,6 @@
 pub mod factory;
 pub mod family;
 pub mod members;
-#[cfg(test)]
-mod tests;
 
 pub use factory::{DefaultFactory, MetricFactory};
 pub use family::Family;

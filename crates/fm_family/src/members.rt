@@ -19,8 +19,12 @@ use std::hash::{BuildHasher, Hash};
 /// Metrics with pairwise different label sets, in the order in which they came.
 ///
 /// `S` makes the hashers of label sets. Take one that starts from a fixed state, such as `BuildHasherDefault<FoldHasher>`, where
-/// the program alone makes the label sets; it is the faster. Take `RandomState` where strangers choose label values, for they
-/// could choose many that one fixed hasher takes to the same place.
+/// the program alone makes the label sets; it is the faster. Take `RandomState` where strangers choose label values: they could
+/// choose many that a fixed hasher takes to the same place, and make the program slow.
+///
+/// A `RandomState` takes its keys from the system, by `RandomState::new(&rt)?`, and has no default value. So make the family by
+/// `with_hasher`, with `DefaultFactory::new(rt, alloc)` where `try_default` makes the metrics: `new` and `try_default` are refused there, as
+/// "the trait bound `RandomState: Default` is not satisfied".
 #[derive(Drop)]
 pub struct FamilyCore<LS: Eq + Hash, M, S: BuildHasher> {
     members: IndexMap<LS, M, S>,

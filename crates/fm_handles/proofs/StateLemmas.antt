@@ -1,5 +1,6 @@
 -- What follows from the laws of `==` for the states of a state set.
 use Rattle.std.proofs.Common.{◌≡◌, ◌≢◌, ℕ, zero, suc, ◌+◌, ◌<◌, Bool, true, false, cond, List, [], ◌∷◌, map, slice_get, Some, inl, inr, refl, sym, ap, ◌∙◌, count_by, below_more, arith}
+use Rattle.std.proofs.Math.Logic.{∥∥₁_map}
 use Rattle.std.proofs.lemmas.Bool.{cases_order}
 use Rattle.std.proofs.lemmas.List.Recursion.{is_count_by}
 use Rattle.std.specs.Cmp.{IsPartialEquivalence}
@@ -64,3 +65,7 @@ one_told {T} eq laws all text c told (i, x, at, equals) is apart =
       | inl same ↦ absurd (other same)
       | inr h ↦ elim h [ inl before ↦ apart j i y x before here at | inr after ↦ laws.symm y x ∙ apart i j x y after at here ]
     ]) (eq y c) refl
+
+-- what equals a state that is known is known
+pub known_equal : {T : Type 0} (eq : T → T → Bool) → IsPartialEquivalence eq → (all : List T) (state other : T) → eq state other ≡ true → ∥ IsState eq all state ∥₁ → ∥ IsState eq all other ∥₁
+known_equal eq laws all state other same known = ∥∥₁_map known (λ (here : IsState eq all state). (here.0, here.1, here.2, laws.trans here.1 state other here.3 same))

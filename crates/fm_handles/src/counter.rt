@@ -13,6 +13,7 @@ use fm_encoder::{EncodeCounterValue, EncodeMetric, EncodePoint, MetricEncoder, P
 use fm_raw::{MetricError, MetricType, Number, TypedMetric};
 use fm_text::EncodeError;
 use std::alloc::{AllocError, Global};
+use std::fmt::{self, Debug, Formatter};
 use std::sync::{Arc, Wait};
 use std::time::Duration;
 
@@ -110,6 +111,17 @@ impl<N: CounterValue> Clone for Counter<N> {
     fn clone(&self) -> Result<Counter<N>, AllocError> {
         let count = self.count.clone()?;
         Ok(Counter { count })
+    }
+}
+
+/// The total at this moment, and the time of creation.
+impl<N: CounterValue> Debug for Counter<N> {
+    fn fmt<W: fmt::Write>(&self, f: &mut Formatter<W>) -> fmt::Result {
+        let total = self.count.total.get();
+        f.debug_struct("Counter")
+            .field("total", &total)
+            .field("created", &self.count.created)
+            .finish()
     }
 }
 

@@ -10,6 +10,7 @@ use fm_encoder::{EncodeGaugeValue, EncodeMetric, EncodePoint, MetricEncoder, Poi
 use fm_raw::{MetricError, MetricType, TypedMetric};
 use fm_text::EncodeError;
 use std::alloc::{AllocError, Global};
+use std::fmt::{self, Debug, Formatter};
 use std::sync::{Arc, Wait};
 use std::time::Duration;
 
@@ -89,6 +90,14 @@ impl<N: GaugeValue> Clone for Gauge<N> {
     fn clone(&self) -> Result<Gauge<N>, AllocError> {
         let value = self.value.clone()?;
         Ok(Gauge { value })
+    }
+}
+
+/// The value at this moment.
+impl<N: GaugeValue> Debug for Gauge<N> {
+    fn fmt<W: fmt::Write>(&self, f: &mut Formatter<W>) -> fmt::Result {
+        let value = self.value.get();
+        f.debug_struct("Gauge").field("value", &value).finish()
     }
 }
 

@@ -5,8 +5,6 @@ pub mod counter;
 pub mod gauge;
 pub mod info;
 pub mod state_set;
-#[cfg(test)]
-mod tests;
 pub mod unknown;
 
 pub use counter::Counter;

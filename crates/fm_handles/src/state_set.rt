@@ -1,5 +1,5 @@
 //! Metrics that are in one of several named states.
-ghost use Rattle.std.specs.Prelude.{◌≡◌, ◌≤◌, ℕ, List, [], ◌∷◌, map, length, MatchResult, MatchOption, IfOk, IfErr, count_by};
+ghost use Rattle.std.specs.Prelude.{◌≡◌, ◌≤◌, ℕ, true, List, [], ◌∷◌, map, length, MatchResult, MatchOption, IfOk, IfErr, count_by};
 ghost use Rattle.std.specs.Arc.{arc_value};
 ghost use Rattle.fm_grammar.specs.declared.MetricType.TheVariants.{StateSet as StateSetType};
 ghost use Rattle.fm_raw.specs.declared.error.MetricError.TheVariants.{UnknownState, Memory};
@@ -12,6 +12,7 @@ use fm_encoder::{EncodeMetric, EncodePoint, MetricEncoder, PointEncoder};
 use fm_raw::{MetricError, MetricType, TypedMetric};
 use fm_text::EncodeError;
 use std::alloc::{AllocError, Global};
+use std::fmt::{self, Debug, Formatter};
 use std::marker::PhantomData;
 use std::sync::atomic::Ordering::SeqCst;
 use std::sync::atomic::{AtomicIn, Rule};
@@ -49,6 +50,14 @@ fn find_state<T: PartialEq>(all: &[T], state: &T) -> Option<usize>
         }
     }
     None
+}
+
+// What equals one of the states is one of them.
+fn equal_is_known<T: PartialEq>(state: &T, other: &T)
+    ensures { (all : List T) → T.eq state.now other.now ≡ true → ∥ IsState T.eq all state.now ∥₁ → ∥ IsState T.eq all other.now ∥₁ }
+{
+    let _state = state;
+    let _other = other;
 }
 
 // Lists all states where this is the current one. It is a trait, so that methods of other traits may call it.
@@ -167,6 +176,15 @@ impl<T: StateSetValue> Clone for StateSet<T> {
     }
 }
 
+/// The text of the current state.
+impl<T: StateSetValue + 'static> Debug for StateSet<T> {
+    fn fmt<W: fmt::Write>(&self, f: &mut Formatter<W>) -> fmt::Result {
+        f.debug_struct("StateSet")
+            .field("state", &self.current().as_str())
+            .finish()
+    }
+}
+
 impl<T: StateSetValue + 'static> TypedMetric for StateSet<T> {
     ghost TYPE = { StateSetType };
 
@@ -248,6 +266,32 @@ impl<T: StateSetValue + 'static> ConstStateSet<T> {
         ensures memory { IfErr result (λ e. e ≡ Memory) }
     {
         self.state.tell_states(self.alloc)
+    }
+}
+
+impl<T: StateSetValue + Clone + 'static> ConstStateSet<T> {
+    ghost use Rattle.fm_handles.specs.Handles.{kept_state};
+
+    /// The state set in a clone of the state, which has to equal the state. The clone may find no memory.
+    pub fn clone(&self) -> Result<ConstStateSet<T>, AllocError>
+        requires { (state : T) → T.is_clone (kept_state self.now) state → T.eq (kept_state self.now) state ≡ true }
+        ensures { IfOk result (λ s. T.is_clone (kept_state self.now) (kept_state s)) }
+    {
+        let state = self.state.clone()?;
+        equal_is_known(&self.state, &state);
+        Ok(ConstStateSet {
+            state,
+            alloc: self.alloc,
+        })
+    }
+}
+
+/// The text of the state.
+impl<T: StateSetValue> Debug for ConstStateSet<T> {
+    fn fmt<W: fmt::Write>(&self, f: &mut Formatter<W>) -> fmt::Result {
+        f.debug_struct("ConstStateSet")
+            .field("state", &self.state.as_str())
+            .finish()
     }
 }
 

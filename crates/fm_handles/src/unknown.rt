@@ -4,7 +4,7 @@ ghost use Rattle.fm_grammar.specs.declared.MetricType.TheVariants.{Unknown as Un
 ghost use Rattle.fm_encoder.specs.Points.{UnknownPoint};
 ghost use Rattle.fm_handles.specs.Handles.{value_of};
 
-use fm_atomic::UnknownValue;
+pub use fm_atomic::UnknownValue;
 use fm_encoder::{EncodeMetric, EncodePoint, EncodeUnknownValue, MetricEncoder, PointEncoder};
 use fm_raw::{MetricType, TypedMetric};
 use fm_text::EncodeError;

@@ -19,6 +19,7 @@ use fm_encoder::{EncodeMetric, EncodePoint, MetricEncoder, PointEncoder};
 use fm_raw::{Fixed, MetricError, MetricType, TypedMetric};
 use fm_text::EncodeError;
 use std::alloc::{AllocError, Global};
+use std::fmt::{self, Debug, Formatter};
 use std::sync::{Arc, Mutex, Wait};
 use std::time::Duration;
 
@@ -97,7 +98,8 @@ impl<H: Wait> Histogram<H> {
         self.locked.snapshot.lock(&self.wait).observe(value)
     }
 
-    /// Lends what was counted so far to `f`, under the lock, and answers what `f` does.
+    /// Lends what was counted so far to `f`, under the lock, and answers what `f` does. The lock is a `Mutex`, under which `observe`
+    /// is quickest: calls of one histogram follow each other. `f` must not use the same histogram: it would wait for ever.
     pub fn with_snapshot<R, F: FnOnce(&HistogramSnapshot) -> R>(&self, f: F) -> R
         requires { F.IsAlwaysCallable f }
         ensures { (snapshot : _) × FnOnceReturnsAt F.FnOnce f snapshot result }
@@ -141,6 +143,15 @@ impl<H: Wait + Clone> Clone for Histogram<H> {
         let locked = self.locked.clone()?;
         let wait = self.wait.clone()?;
         Ok(Histogram { locked, wait })
+    }
+}
+
+/// The time of creation. The counts stand under the lock, and are not shown.
+impl<H: Wait> Debug for Histogram<H> {
+    fn fmt<W: fmt::Write>(&self, f: &mut Formatter<W>) -> fmt::Result {
+        f.debug_struct("Histogram")
+            .field("created", &self.created())
+            .finish_non_exhaustive()
     }
 }
 

@@ -8,8 +8,6 @@ mod law;
 mod place;
 mod rising;
 pub mod snapshot;
-#[cfg(test)]
-mod tests;
 
 pub use histogram::Histogram;
 pub use law::merging_is_lawful;

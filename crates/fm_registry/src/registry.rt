@@ -13,6 +13,7 @@ use fm_raw::Metadata;
 use indexmap::IndexMap;
 pub use run::RegistryCall;
 use std::alloc::{AllocError, Global};
+use std::fmt::{self, Debug, Formatter};
 use std::marker::Model;
 pub use subsystem_builder::RegistrySubsystemBuilder;
 
@@ -72,6 +73,16 @@ impl<M> Default for Registry<M> {
             metrics: None,
             subsystems: None,
         }
+    }
+}
+
+/// The namespace and the constant labels. The metrics and subsystems are not shown.
+impl<M> Debug for Registry<M> {
+    fn fmt<W: fmt::Write>(&self, f: &mut Formatter<W>) -> fmt::Result {
+        f.debug_struct("Registry")
+            .field("namespace", &self.namespace())
+            .field("constant_labels", &self.constant_labels())
+            .finish_non_exhaustive()
     }
 }
 

@@ -1,39 +1,12 @@
-//! Handles in use by one thread.
-ghost use Rattle.std.specs.Prelude.{[], ◌∷◌, codes};
-ghost use Rattle.fm_handles.specs.declared.tests.Light.TheVariants.{Red, Green};
+//! Counters, gauges and state sets in use by one thread.
 
-use crate::counter::Counter;
-use crate::gauge::Gauge;
-use crate::state_set::{ConstStateSet, StateSet, StateSetValue};
-use fm_atomic::TryDefault;
-use fm_raw::{Fixed, MetricError};
+use crate::support::Job;
+use fastmetrics::metrics::counter::Counter;
+use fastmetrics::metrics::gauge::Gauge;
+use fastmetrics::metrics::state_set::{ConstStateSet, StateSet};
+use fastmetrics::raw::{Fixed, MetricError, TryDefault};
 use std::test::Fail;
 use std::time::Duration;
-
-#[derive(Clone, Copy, PartialEq, Eq, Debug)]
-enum Light {
-    Red,
-    Green,
-}
-
-static LIGHTS: [Light; 2] = [Light::Red, Light::Green];
-
-impl StateSetValue for Light {
-    ghost all = { Red ∷ Green ∷ [] };
-
-    ghost text = { elim [ Red ↦ codes "red" | Green ↦ codes "green" ] };
-
-    fn variants() -> &'static [Light] {
-        &LIGHTS
-    }
-
-    fn as_str(&self) -> &str {
-        match self {
-            Light::Red => "red",
-            Light::Green => "green",
-        }
-    }
-}
 
 #[test]
 fn counters_only_rise(rt: HostRuntime) -> Result<(), Fail> {
@@ -69,12 +42,12 @@ fn steps_wrap(rt: HostRuntime) -> Result<(), Fail> {
 
 #[test]
 fn clones_share_a_state(rt: HostRuntime) -> Result<(), Fail> {
-    let light = StateSet::new(rt.alloc(), Light::Red)?;
-    light.clone()?.set(Light::Green)?;
-    assert!(rt; *light.get() == Light::Green);
-    let states = light.states()?;
+    let job = StateSet::new(rt.alloc(), Job::Pending)?;
+    job.clone()?.set(Job::Running)?;
+    assert!(rt; *job.get() == Job::Running);
+    let states = job.states()?;
     assert!(rt; states.len() == 2 && !states[0].1 && states[1].1);
-    let fixed = ConstStateSet::new(rt.alloc(), Light::Red)?;
+    let fixed = ConstStateSet::new(rt.alloc(), Job::Pending)?;
     let states = fixed.states()?;
     assert!(rt; states.len() == 2 && states[0].1 && !states[1].1);
     Ok(())

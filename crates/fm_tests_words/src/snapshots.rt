@@ -1,8 +1,10 @@
 //! Histograms and their snapshots against values from outside.
-use crate::{GaugeHistogramSnapshot, Histogram, HistogramSnapshot};
-use fm_atomic::TryDefault;
-use fm_bucket::{Bound, Bucket, default_buckets};
-use fm_raw::{Fixed, FixedSum, MetricError};
+
+use fastmetrics::metrics::gauge_histogram::GaugeHistogramSnapshot;
+use fastmetrics::metrics::histogram::{
+    Bound, Bucket, Histogram, HistogramSnapshot, default_buckets,
+};
+use fastmetrics::raw::{Fixed, FixedSum, MetricError, TryDefault};
 use std::alloc::{AllocError, Global};
 use std::sync::Wait;
 use std::test::Fail;

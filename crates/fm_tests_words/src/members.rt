@@ -1,6 +1,7 @@
-//! Families and their factories, by what calls answer.
-use crate::{Family, FamilyCore};
-use fm_raw::MetricError;
+//! Families and their factories, by what calls return.
+
+use fastmetrics::metrics::family::{Family, FamilyCore};
+use fastmetrics::raw::MetricError;
 use std::hash::{BuildHasherDefault, FoldHasher};
 use std::sync::atomic::{AtomicU64, Ordering};
 use std::test::Fail;
