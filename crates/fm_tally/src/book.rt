@@ -50,7 +50,7 @@ impl Book {
         Book { sum: 0 }
     }
 
-    /// Adds a value where the sum stays within 2^64 - 1; else answers `Full`, and the sum is as before. The book doesn't
+    /// Adds a value where the sum stays within 2^64 - 1; else it returns `Full`, and the sum is as before. The book doesn't
     /// keep who added it. It takes no memory.
     pub fn add(&mut self, _who: usize, v: u64) -> Result<(), TallyError>
         ensures added { OnOk result (self.new ≡ self.old + v) }
@@ -75,7 +75,7 @@ impl Book {
     }
 
     /// Makes all events, one after another, and gives the reply to each. The replies' memory is asked first: where there is
-    /// none the answer is `Memory`, and nothing has changed.
+    /// none it returns `Memory`, and nothing has changed.
     pub fn run(&mut self, alloc: Global, events: &[Event]) -> Result<Vec<Reply>, TallyError>
         ensures replies { IfOk result (λ r. r.items ≡ replies self.old events.now) }
         ensures sum { OnOk result (self.new ≡ self.old + sum_of (accepted self.old events.now)) }
