@@ -18,8 +18,6 @@ mod shown;
 mod snapshots;
 pub mod support;
 #[cfg(test)]
-mod twice;
-#[cfg(test)]
 mod values;
 #[cfg(test)]
 mod words;

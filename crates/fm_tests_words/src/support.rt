@@ -40,15 +40,6 @@ pub fn document_alone(
     document_of(alloc, &registry)
 }
 
-/// The document of a metric alone, under the name `f` and the help `H`, and the same written again.
-pub fn documents(alloc: Global, metric: Box<dyn EncodeMetric>) -> Result<(String, String), Fail> {
-    let mut registry = Registry::default();
-    let (name, help) = (String::from_str(alloc, "f")?, String::from_str(alloc, "H")?);
-    registry.register(alloc, name, help, metric)?;
-    let first = document_of(alloc, &registry)?;
-    Ok((first, document_of(alloc, &registry)?))
-}
-
 /// How far a job is.
 #[derive(Clone, Copy, PartialEq, Eq, Debug)]
 pub enum Job {
