@@ -1,2 +1,3 @@
 mod CleanLemmas
 mod FaultLemmas
+mod FormedLemmas
