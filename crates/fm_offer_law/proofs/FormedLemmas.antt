@@ -1,0 +1,152 @@
+-- The samples of a point are well formed, where its numbers are in range and its labels and its parts are clean.
+use Rattle.std.proofs.Common.{◌≡◌, ℕ, ℤ, pos, ◌<◌, ◌+◌, ◌^◌, ◌++◌, List, [], ◌∷◌, map, Bool, true, false, Option, Some, None, IfSome, inl, inr, refl, sym, subst, append_assoc, append-nil, arith}
+use Rattle.std.specs.Prelude.{Contains}
+use Rattle.std.specs.List.{AllByRecursion}
+use Rattle.std.proofs.lemmas.List.Sums.{sum_by-append}
+use Rattle.fm_grammar.specs.declared.MetricType.{MetricType}
+use Rattle.fm_grammar.specs.declared.MetricType.TheVariants.{Unknown, Gauge, Counter, StateSet, Info as InfoType, Histogram}
+use Rattle.fm_grammar.specs.declared.SampleKind.TheVariants.{Plain, Total, Created, Info}
+use Rattle.fm_grammar.specs.Exposition.{Text, Label, Value, Whole, Fixed, Millis}
+use Rattle.fm_grammar.specs.Names.{IsSnakeCase}
+use Rattle.fm_grammar.specs.WellFormed.{kinds_of, AreLabels, ValueSuits, ValueFits, AreMillis, IsExemplar, IsSample}
+use Rattle.fm_grammar.proofs.Runs.{all_append}
+use Rattle.fm_bucket.specs.declared.bound.Bucket.{Bucket}
+use Rattle.fm_encoder.specs.Labels.{HandedLabel, AreFree, LabelsClean, label_names, all_written}
+use Rattle.fm_encoder.specs.Points.{HandedExemplar, Point, UnknownPoint, GaugePoint, CounterPoint, StateSetPoint, InfoPoint, HistogramPoint, Member, Setting, Context, ExemplarClean, BucketsClean, PartsClean, type_of, common_handed, common_written, values_in, plain_sample, written_exemplar, created_samples, total_sample, state_value, state_sample, bound_label, bucket_samples, count_sample, sum_sample, point_samples}
+use Rattle.fm_encoder.specs.Steps.{IsNumber}
+use Rattle.fm_encoder.proofs.NameLemmas.{AreLabels-written, AreLabels-behind, AreLabels-named, AreLabels-own, AreFree-written}
+use Rattle.fm_encoder.proofs.BucketLemmas.{le_is_label_name}
+use Rattle.fm_offer_law.specs.Ranges.{ExemplarNumbersFit, PointNumbersFit}
+use Rattle.fm_offer_law.proofs.FaultLemmas.{Forms, MemberForms}
+
+number_fits : (v : Value) → IsNumber v → ValueFits v
+number_fits (Whole z) fits = fits
+number_fits (Fixed z) fits = fits
+number_fits (Millis t) fits = absurd fits
+
+number_suits_plain : (v : Value) → IsNumber v → ValueSuits Plain v
+number_suits_plain (Whole z) fits = tt
+number_suits_plain (Fixed z) fits = tt
+number_suits_plain (Millis t) fits = absurd fits
+
+number_suits_total : (v : Value) → IsNumber v → ValueSuits Total v
+number_suits_total (Whole z) fits = tt
+number_suits_total (Fixed z) fits = tt
+number_suits_total (Millis t) fits = absurd fits
+
+state_fits : (is_on : Bool) → ValueFits (state_value is_on)
+state_fits true = omega arith
+state_fits false = omega arith
+
+exemplar_formed : (exemplars : List HandedExemplar) → AllByRecursion ExemplarNumbersFit exemplars → ExemplarClean exemplars → IfSome (written_exemplar exemplars) IsExemplar
+exemplar_formed exemplars fits (inl none) = subst (λ (es : List HandedExemplar). IfSome (written_exemplar es) IsExemplar) (sym none) tt
+exemplar_formed exemplars fits (inr (exemplar, one, clean, short)) =
+    let numbers = (subst (AllByRecursion ExemplarNumbersFit) one fits).0 in
+    subst (λ (es : List HandedExemplar). IfSome (written_exemplar es) IsExemplar) (sym one) (record {
+      labels = AreLabels-written Unknown exemplar.labels clean;
+      short = short;
+      value = numbers.value;
+      time = numbers.time;
+    })
+
+module _ (setting : Setting) (common : List Label) (labels : AreLabels common) (time : IfSome setting.time AreMillis) where
+  alone : AreLabels (common ++ [])
+  alone = subst AreLabels (sym (append-nil common)) labels
+
+  numbers_formed : (type : MetricType) → Contains (kinds_of type) Plain → (numbers : List Value) → AllByRecursion IsNumber numbers → AllByRecursion (IsSample type) (map (plain_sample setting common Plain []) numbers)
+  numbers_formed type kind [] fit = tt
+  numbers_formed type kind (number ∷ numbers) fit = (
+    record { kind = kind; labels = alone; suits = number_suits_plain number fit.0; value = number_fits number fit.0; time = time; allowed = refl; exemplar = tt },
+    numbers_formed type kind numbers fit.1,
+  )
+
+  created_formed : (type : MetricType) → Contains (kinds_of type) Created → (created : Option ℕ) → IfSome created AreMillis → AllByRecursion (IsSample type) (created_samples setting common created)
+  created_formed type kind None fits = tt
+  created_formed type kind (Some t) fits = (record { kind = kind; labels = alone; suits = tt; value = fits; time = time; allowed = refl; exemplar = tt }, tt)
+
+  totals_formed : (exemplars : List HandedExemplar) → IfSome (written_exemplar exemplars) IsExemplar → (numbers : List Value) → AllByRecursion IsNumber numbers → AllByRecursion (IsSample Counter) (map (total_sample setting common exemplars) numbers)
+  totals_formed exemplars formed [] fit = tt
+  totals_formed exemplars formed (number ∷ numbers) fit = (
+    record { kind = (0, omega arith, refl); labels = alone; suits = number_suits_total number fit.0; value = number_fits number fit.0; time = time; allowed = tt; exemplar = formed },
+    totals_formed exemplars formed numbers fit.1,
+  )
+
+  states_formed : IsSnakeCase setting.name → ¬ (Contains (label_names common) setting.name) → (states : List (Text × Bool)) → AllByRecursion (IsSample StateSet) (map (state_sample setting common) states)
+  states_formed name fresh [] = tt
+  states_formed name fresh (state ∷ states) = (
+    record {
+      kind = (0, omega arith, refl);
+      labels = AreLabels-named common _ (record { name = setting.name; value = state.0 }) labels name fresh refl;
+      suits = tt;
+      value = state_fits state.1;
+      time = time;
+      allowed = refl;
+      exemplar = tt;
+    },
+    states_formed name fresh states,
+  )
+
+  buckets_formed : AreFree Histogram common → (before buckets : List Bucket) (slots : List (List HandedExemplar)) → values_in (before ++ buckets) < 2 ^ 64
+      → AllByRecursion ExemplarClean slots → AllByRecursion (λ exemplars. AllByRecursion ExemplarNumbersFit exemplars) slots
+      → AllByRecursion (IsSample Histogram) (bucket_samples setting common before buckets slots)
+  buckets_formed free before [] slots few clean fit = tt
+  buckets_formed free before (bucket ∷ buckets) [] few clean fit = tt
+  buckets_formed free before (bucket ∷ buckets) (exemplars ∷ slots) few clean fit =
+      let same : (before ++ bucket ∷ []) ++ buckets ≡ before ++ (bucket ∷ buckets) = append_assoc before (bucket ∷ []) buckets in
+      let still : values_in ((before ++ bucket ∷ []) ++ buckets) < 2 ^ 64 = subst (λ (bs : List Bucket). values_in bs < 2 ^ 64) (sym same) few in
+      let split : values_in ((before ++ bucket ∷ []) ++ buckets) ≡ values_in (before ++ bucket ∷ []) + values_in buckets = sum_by-append (λ (b : Bucket). b.count) (before ++ bucket ∷ []) buckets in
+      let here : values_in (before ++ bucket ∷ []) < 2 ^ 64 = omega (arith, still, split) in (
+        record {
+          kind = (0, omega arith, refl);
+          labels = AreLabels-own Histogram common _ (bound_label bucket.upper_bound) labels free refl le_is_label_name refl;
+          suits = tt;
+          value = here;
+          time = time;
+          allowed = tt;
+          exemplar = exemplar_formed exemplars fit.0 clean.0;
+        },
+        buckets_formed free (before ++ bucket ∷ []) buckets slots still clean.1 fit.1,
+      )
+
+  histogram_formed : AreFree Histogram common → (buckets : List Bucket) (slots : List (List HandedExemplar)) (count : ℕ) (sum : ℤ) (created : Option ℕ)
+      → PointNumbersFit (HistogramPoint buckets slots count sum created) → BucketsClean buckets slots → AllByRecursion (IsSample Histogram) (point_samples setting common (HistogramPoint buckets slots count sum created))
+  histogram_formed free buckets slots count sum created (slots_fit, count_fits, sum_fits, created_fits) (even, few, clean) =
+      let counted : IsSample Histogram (count_sample setting common count) =
+      record { kind = (1, omega arith, refl); labels = alone; suits = tt; value = count_fits; time = time; allowed = refl; exemplar = tt } in
+      let summed : IsSample Histogram (sum_sample setting common sum) =
+      record { kind = (2, omega arith, refl); labels = alone; suits = tt; value = sum_fits; time = time; allowed = refl; exemplar = tt } in
+      all_append (IsSample Histogram) (bucket_samples setting common [] buckets slots) _ (buckets_formed free [] buckets slots few clean slots_fit)
+      (counted, (summed, created_formed Histogram (3, omega arith, refl) created created_fits))
+
+  info_formed : (type : MetricType) (handed : List HandedLabel) → LabelsClean type common handed → IsSample InfoType (plain_sample setting common Info (all_written handed) (Whole (pos 1)))
+  info_formed type handed clean = record {
+    kind = (0, omega arith, refl);
+    labels = AreLabels-behind type common _ handed labels clean refl;
+    suits = tt;
+    value = omega arith;
+    time = time;
+    allowed = refl;
+    exemplar = tt;
+  }
+
+  own_formed : IsSnakeCase setting.name → (point : Point) → AreFree (type_of point) common → PointNumbersFit point → PartsClean setting common point → AllByRecursion (IsSample (type_of point)) (point_samples setting common point)
+  own_formed name (UnknownPoint numbers) free fit clean = numbers_formed Unknown (0, omega arith, refl) numbers fit
+  own_formed name (GaugePoint numbers) free fit clean = numbers_formed Gauge (0, omega arith, refl) numbers fit
+  own_formed name (CounterPoint numbers exemplars created) free (numbers_fit, exemplars_fit, created_fits) (one, clean) =
+      all_append (IsSample Counter) (map (total_sample setting common exemplars) numbers) (created_samples setting common created)
+      (totals_formed exemplars (exemplar_formed exemplars exemplars_fit clean) numbers numbers_fit) (created_formed Counter (1, omega arith, refl) created created_fits)
+  own_formed name (StateSetPoint states) free fit (inl none) = subst (λ (ss : List (Text × Bool)). AllByRecursion (IsSample StateSet) (map (state_sample setting common) ss)) (sym none) tt
+  own_formed name (StateSetPoint states) free fit (inr fresh) = states_formed name fresh states
+  own_formed name (InfoPoint handed) free fit clean = (info_formed setting.metric_type handed clean, tt)
+  own_formed name (HistogramPoint buckets slots count sum created) free fit clean = histogram_formed free buckets slots count sum created fit clean
+
+point_forms : (setting : Setting) (common : List Label) → AreLabels common → AreFree setting.metric_type common → IfSome setting.time AreMillis → IsSnakeCase setting.name → (point : Point) → PointNumbersFit point → Forms setting common point
+point_forms setting common labels free time name point fit same clean =
+    subst (λ (type : MetricType). AllByRecursion (IsSample type) (point_samples setting common point)) same
+    (own_formed setting common labels time name point (subst (λ (type : MetricType). AreFree type common) (sym same) free) fit clean)
+
+pub member_forms : (context : Context) → IsSnakeCase context.setting.name → IfSome context.setting.time AreMillis → (member : Member) → PointNumbersFit member.point → MemberForms context member
+member_forms context name time member fit labels =
+    let type = context.setting.metric_type in
+    let handed = common_handed context member in
+    point_forms context.setting (common_written context member) (AreLabels-written type handed labels) (AreFree-written type [] handed labels) time name member.point fit

@@ -1,0 +1,3 @@
+mod CleanLemmas
+mod FaultLemmas
+mod FormedLemmas

@@ -1,0 +1,28 @@
+-- Offers whose numbers are in range. No line says that labels are valid or that samples are well formed.
+use Rattle.std.specs.Prelude.{◌<◌, ◌^◌, List, IfSome}
+use Rattle.std.specs.List.{AllByRecursion}
+use Rattle.fm_grammar.specs.Exposition.{Fixed}
+use Rattle.fm_grammar.specs.WellFormed.{IsBetween, AreMillis, ValueFits}
+use Rattle.fm_encoder.specs.Points.{HandedExemplar, Point, UnknownPoint, GaugePoint, CounterPoint, StateSetPoint, InfoPoint, HistogramPoint, Member, Context}
+use Rattle.fm_encoder.specs.Steps.{IsNumber}
+
+-- an exemplar's value and time
+pub record ExemplarNumbersFit (exemplar : HandedExemplar) : Type 0 where
+  pub value : IsBetween (2 ^ 63) (2 ^ 63) exemplar.value
+  pub time : IfSome exemplar.time AreMillis
+
+-- a point's numbers, its exemplars' values and times, and its time of creation
+abbrev pub PointNumbersFit : Point → Type 0
+PointNumbersFit (UnknownPoint numbers) = AllByRecursion IsNumber numbers
+PointNumbersFit (GaugePoint numbers) = AllByRecursion IsNumber numbers
+PointNumbersFit (CounterPoint numbers exemplars created) =
+    AllByRecursion IsNumber numbers × AllByRecursion ExemplarNumbersFit exemplars × IfSome created AreMillis
+PointNumbersFit (StateSetPoint states) = Unit {0}
+PointNumbersFit (InfoPoint labels) = Unit {0}
+PointNumbersFit (HistogramPoint buckets slots count sum created) =
+    AllByRecursion (λ exemplars. AllByRecursion ExemplarNumbersFit exemplars) slots × (count < 2 ^ 64) × ValueFits (Fixed sum) × IfSome created AreMillis
+
+-- the family's timestamp, and the numbers of each member's point
+pub record NumbersFit (context : Context) (members : List Member) : Type 0 where
+  pub time : IfSome context.setting.time AreMillis
+  pub points : AllByRecursion (λ member. PointNumbersFit member.point) members
