@@ -1,7 +1,7 @@
 //! Encodes a family of counters of two labels.
 #![tactic(auto)]
 
-use bench_support::labels::{Request, request};
+use bench_support::labels::{Request, numbered_request};
 use bench_support::measure::{measure, tenths};
 use bench_support::values::value;
 use fastmetrics::metrics::counter::Counter;
@@ -28,7 +28,7 @@ fn fill<H: Wait + Clone + Drop>(
     members: u64,
 ) -> Result<(), MetricError> {
     for i in 0..members {
-        let labels = request(alloc, i)?;
+        let labels = numbered_request(alloc, i)?;
         counters.with_or_new(&labels, |counter| counter.inc_by(value(i)))??;
     }
     Ok(())

@@ -1,7 +1,7 @@
 //! Encodes a family of histograms of 12 bounds and two labels: 15 lines a member.
 #![tactic(auto)]
 
-use bench_support::labels::{Request, request};
+use bench_support::labels::{Request, numbered_request};
 use bench_support::measure::{measure, tenths};
 use bench_support::values::{observation, twelve_bounds};
 use fastmetrics::metrics::family::Family;
@@ -42,7 +42,7 @@ fn main(rt: HostRuntime) -> anyhow::Result<()> {
         HostRuntime,
     >::new(rt, alloc, factory)?;
     for i in 0..members {
-        let labels = request(alloc, i)?;
+        let labels = numbered_request(alloc, i)?;
         sizes.with_or_new(&labels, |histogram| observe(histogram, i))??;
     }
     let mut registry = Registry::default();

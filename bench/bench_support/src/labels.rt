@@ -23,7 +23,7 @@ impl EncodeLabelSet for Request {
 }
 
 /// The request with this number.
-pub fn request(alloc: Global, i: u64) -> Result<Request, AllocError> {
+pub fn numbered_request(alloc: Global, i: u64) -> Result<Request, AllocError> {
     let method = match i % 4 {
         0 => "GET",
         1 => "POST",
