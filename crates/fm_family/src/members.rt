@@ -23,8 +23,8 @@ use std::hash::{BuildHasher, Hash};
 /// choose many that a fixed hasher takes to the same place, and make the program slow.
 ///
 /// A `RandomState` takes its keys from the system, by `RandomState::new(&rt)?`, and has no default value. So make the family by
-/// `with_hasher`, with `DefaultFactory::new(rt, alloc)` where `try_default` makes the metrics: `new` and `try_default` are refused there, as
-/// "the trait bound `RandomState: Default` is not satisfied".
+/// `with_hasher`, with `DefaultFactory::new(rt, alloc)` where `try_default` makes the metrics. There `new` is refused ("the item `new`
+/// exists .., but its bounds are not met"), and so is `try_default` ("no function or constant named `try_default` found").
 #[derive(Drop)]
 pub struct FamilyCore<LS: Eq + Hash, M, S: BuildHasher> {
     members: IndexMap<LS, M, S>,
