@@ -20,41 +20,47 @@ fn whole(n: i16) -> Fixed {
     Fixed::from_millionths(i64::from(n) * 1_000_000)
 }
 
-// Whether these are the buckets.
-fn are_buckets(buckets: &[Bucket], expected: &[(Bound, u64)]) -> bool {
-    buckets.len() == expected.len()
-        && buckets.iter().zip(expected).all(|(bucket, (bound, count))| *bucket
-            == Bucket::new(*bound, *count))
+// A bucket with this bound, and one without.
+fn finite(bound: i16, count: u64) -> Bucket {
+    Bucket::new(Bound::Finite(whole(bound)), count)
+}
+
+fn infinite(count: u64) -> Bucket {
+    Bucket::new(Bound::Inf, count)
 }
 
 #[test]
 fn no_bounds(rt: HostRuntime) -> Result<(), Fail> {
     let mut all = HistogramSnapshot::new(rt.alloc(), [].iter().copied())?;
-    assert!(rt; are_buckets(all.buckets(), &[(Bound::Inf, 0)]));
+    assert_eq!(rt; all.buckets(), [infinite(0)].as_slice());
     all.observe(whole(7))?;
-    assert!(rt; are_buckets(all.buckets(), &[(Bound::Inf, 1)]));
+    assert_eq!(rt; all.buckets(), [infinite(1)].as_slice());
     Ok(())
+}
+
+// The values 1, 2 and 3, by the bound 1 and this one.
+fn three_values(alloc: Global, bound: i16) -> Result<HistogramSnapshot, MetricError> {
+    let bounds = [whole(1), whole(bound)];
+    let mut all = HistogramSnapshot::new(alloc, bounds.iter().copied())?;
+    for value in [whole(1), whole(2), whole(3)] {
+        all.observe(value)?;
+    }
+    Ok(all)
 }
 
 #[test]
 fn merges_of_other_bounds(rt: HostRuntime) -> Result<(), Fail> {
     let alloc = rt.alloc();
-    let mut twos = HistogramSnapshot::new(alloc, [whole(1), whole(2)].iter().copied())?;
-    let mut threes = HistogramSnapshot::new(alloc, [whole(1), whole(3)].iter().copied())?;
-    for value in [whole(1), whole(2), whole(3)] {
-        twos.observe(value)?;
-        threes.observe(value)?;
-    }
+    let mut twos = three_values(alloc, 2)?;
+    let threes = three_values(alloc, 3)?;
     assert_eq!(rt; twos.merge(&threes), Err(MetricError::UnequalBounds));
-    let (one, two) = (Bound::Finite(whole(1)), Bound::Finite(whole(2)));
-    assert!(rt; are_buckets(twos.buckets(), &[(one, 1), (two, 1), (Bound::Inf, 1)]));
+    let kept = [finite(1, 1), finite(2, 1), infinite(1)];
+    assert_eq!(rt; twos.buckets(), kept.as_slice());
     assert_eq!(rt; (twos.count(), twos.sum()), (3, FixedSum::from(whole(6))));
-    let three = Bound::Finite(whole(3));
-    assert!(rt; are_buckets(threes.buckets(), &[(one, 1), (three, 2), (Bound::Inf, 0)]));
-    assert_eq!(rt;
-        (threes.count(), threes.sum()),
-        (3, FixedSum::from(whole(6)))
-    );
+    let kept = [finite(1, 1), finite(3, 2), infinite(0)];
+    assert_eq!(rt; threes.buckets(), kept.as_slice());
+    let sum = FixedSum::from(whole(6));
+    assert_eq!(rt; (threes.count(), threes.sum()), (3, sum));
     Ok(())
 }
 
@@ -206,7 +212,7 @@ struct FaultySlot {
 }
 
 impl EncodePoint for FaultySlot {
-    ghost points = { λ b ps. ps ≡ HistogramPoint b.buckets.items ([] ∷ [] ∷ []) 3 0 None ∷ [] };
+    ghost points = { λ b ps. ps ≡ HistogramPoint b.buckets ([] ∷ [] ∷ []) 3 0 None ∷ [] };
 
     ghost may_fault = { λ _. Unit {0} };
 

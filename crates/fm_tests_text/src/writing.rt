@@ -1,4 +1,4 @@
-ghost use Rattle.std.specs.Prelude.{◌≡◌, ◌++◌, [], IfOk};
+ghost use Rattle.std.specs.Prelude.{◌≡◌, ◌++◌, [], IfOk, OnOk};
 ghost use Rattle.std.specs.List.{AllByRecursion};
 ghost use Rattle.fm_grammar.specs.WellFormed.{AreLabels, IsSample};
 ghost use Rattle.fm_grammar.specs.declared.MetricType.TheVariants.{Counter};
@@ -172,6 +172,26 @@ impl Write for Counting {
     }
 }
 
+// One total more. Each with an even number begins a point.
+fn push_total(alloc: Global, store: &mut SampleStore, i: u32) -> Result<(), EncodeError>
+    requires common { AreLabels (store.old.common ++ []) }
+    requires samples { AllByRecursion (IsSample Counter) store.old.samples }
+    ensures common { store.new.common ≡ store.old.common }
+    ensures samples { OnOk result (AllByRecursion (IsSample Counter) store.new.samples) }
+{
+    if i % 2 == 0 {
+        store.end_point();
+    }
+    let own = Vec::new(alloc);
+    store.push(
+        SampleKind::Total,
+        own,
+        Value::Whole(i128::from(i)),
+        None,
+        None,
+    )
+}
+
 // So many totals, in points of two samples each that share these labels.
 fn totals(
     alloc: Global,
@@ -183,16 +203,7 @@ fn totals(
 {
     let mut store = SampleStore::new(alloc, Arc::new(alloc, common)?);
     for i in 0..count {
-        if i % 2 == 0 {
-            store.end_point();
-        }
-        store.push(
-            SampleKind::Total,
-            Vec::new(alloc),
-            Value::Whole(i128::from(i)),
-            None,
-            None,
-        )?;
+        push_total(alloc, &mut store, i)?;
     }
     Ok(store)
 }
