@@ -1,5 +1,5 @@
 //! Histograms from the calls to the document: bounds, reserved labels, and buckets of a user's own.
-ghost use Rattle.std.specs.Prelude.{◌≡◌, [], ◌∷◌, None};
+ghost use Rattle.std.specs.Prelude.{◌≡◌, [], ◌∷◌, None, pos};
 ghost use Rattle.fastmetrics.specs.Points.{HistogramPoint};
 
 use crate::own_buckets::OwnBuckets;
@@ -212,7 +212,7 @@ struct FaultySlot {
 }
 
 impl EncodePoint for FaultySlot {
-    ghost points = { λ b ps. ps ≡ HistogramPoint b.buckets ([] ∷ [] ∷ []) 3 0 None ∷ [] };
+    ghost points = { λ b ps. ps ≡ HistogramPoint b.buckets ([] ∷ [] ∷ []) 3 (pos 0) None ∷ [] };
 
     ghost may_fault = { λ _. Unit {0} };
 
