@@ -29,7 +29,6 @@ run() {
 }
 for members in 1000 100000; do
     run bench_counters "$members"
-    run bench_histograms "$((members / 10))"
-    run bench_gauges "$members"
 done
-for word in tally counter; do run bench_tally "$word"; done
+run bench_tally
+run bench_tally counter

@@ -101,14 +101,13 @@ fn by_counter<R: Threads + Wait + Sync>(
 fn main(rt: HostRuntime) -> anyhow::Result<()> {
     let alloc = rt.alloc();
     let start = nanos(&rt);
-    let (name, total) = match env::args(&rt)?.nth(1) {
-        Some(word) if word.as_str() == "counter" => {
-            let counter = Counter::<u64>::try_default(rt, alloc)?;
-            ("counter", by_counter(&rt, alloc, &counter)?)
-        }
-        _ => ("tally", by_tally::<Brand, _>(&rt, alloc, Blank::new(9))?),
+    let total = if env::args(&rt)?.count() > 1 {
+        let counter = Counter::<u64>::try_default(rt, alloc)?;
+        by_counter(&rt, alloc, &counter)?
+    } else {
+        by_tally::<Brand, _>(&rt, alloc, Blank::new(9))?
     };
     let time = tenths(nanos(&rt).saturating_sub(start), total);
-    println!(rt; "{name} 8 threads, {total} additions, tenths of ns each: {time}")?;
+    println!(rt; "8 threads, {total} additions, tenths of ns each: {time}")?;
     Ok(())
 }
