@@ -1,10 +1,10 @@
 -- One label more in a label set encoder.
-use Rattle.std.proofs.Common.{◌≡◌, ℕ, List, [], ◌∷◌, ◌++◌, Some, None, Result, Ok, Err, ◌⊎◌, inl, inr, refl, sym, ◌∙◌, ap, subst, append-nil}
+use Rattle.std.proofs.Common.{◌≡◌, ℕ, List, [], ◌∷◌, ◌++◌, Option, Some, None, is_some, true, Result, Ok, Err, ◌⊎◌, inl, inr, refl, sym, ◌∙◌, ap, subst, append-nil}
 use Rattle.fm_grammar.specs.declared.MetricType.{MetricType}
 use Rattle.fm_text.specs.declared.error.EncodeError.{EncodeError}
 use Rattle.fm_text.specs.declared.error.EncodeError.TheVariants.{Memory}
 use Rattle.fm_grammar.specs.Exposition.{Label}
-use Rattle.fm_encoder.specs.Labels.{HandedLabel, NamePiece, ValuePiece, NameFits, PieceFault, LabelFault}
+use Rattle.fm_encoder.specs.Labels.{HandedLabel, NameFits, PieceFault, LabelFault, pieces_of, written}
 use Rattle.fm_encoder.specs.Gathered.{GatheredPieces, GatheredLabels, OwnRefusal, own_refusal, answer}
 use Rattle.fm_encoder.specs.Hands.{HandsPieces, HandsLabels}
 use Rattle.fm_encoder.specs.Steps.{EndsLabel}
@@ -65,15 +65,17 @@ HandsLabels-one pieces F old mid new visited hands ends empty =
       ];
     }
 
--- a whole label is written
-pub EndsLabel-whole : (visited : Result (Unit {0}) EncodeError) (old new : GatheredPieces) (n t : List ℕ) → visited ≡ Ok tt → old.refused ≡ None → NameFits old.metric_type old.labels n → old.pieces ≡ NamePiece n ∷ ValuePiece t ∷ [] → new.metric_type ≡ old.metric_type → new.pieces ≡ [] → (new.refused ≡ None → new.labels ≡ old.labels ++ record { name = n; value = t } ∷ []) → ((k : EncodeError) → new.refused ≡ Some k → k ≡ Memory) → EndsLabel visited old new
-EndsLabel-whole visited old new n t v o fits whole type empty labels memory = record {
+-- a label that has a name and a value is written
+pub EndsLabel-both : (visited : Result (Unit {0}) EncodeError) (name text : Option (List ℕ)) (old new : GatheredPieces) → visited ≡ Ok tt → old.refused ≡ None → is_some name ≡ true → is_some text ≡ true → ((n : List ℕ) → name ≡ Some n → NameFits old.metric_type old.labels n) → old.pieces ≡ pieces_of name text → new.metric_type ≡ old.metric_type → (new.refused ≡ None → new.pieces ≡ []) → (new.refused ≡ None → new.labels ≡ old.labels ++ written old.pieces) → ((k : EncodeError) → new.refused ≡ Some k → k ≡ Memory) → EndsLabel visited old new
+EndsLabel-both visited None text old new v o named valued fits whole type empty labels memory = absurd cc
+EndsLabel-both visited (Some n) None old new v o named valued fits whole type empty labels memory = absurd cc
+EndsLabel-both visited (Some n) (Some t) old new v o named valued fits whole type empty labels memory = record {
   type_kept = type;
   kept = λ k e. absurd cc;
   visited_ok = λ _ _. v;
-  pieces = λ _ _. empty;
-  clean = λ _ _. inr (n, t, whole, fits);
-  labels = λ _ none. rw whole (labels none);
+  pieces = λ _ none. empty none;
+  clean = λ _ _. inr (n, t, whole, fits n refl);
+  labels = λ _ none. labels none;
   own = λ e _ w. absurd cc;
   refused = λ k _ _ r. inl (memory k r);
 }

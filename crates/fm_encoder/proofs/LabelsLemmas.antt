@@ -1,12 +1,12 @@
 -- Labels that are handed over one after the other.
-use Rattle.std.proofs.Common.{◌≡◌, ℕ, List, [], ◌∷◌, ◌++◌, None, Result, Ok, Err, inl, inr, refl, sym, ◌∙◌, ap, subst, append_assoc, append-nil, ◌<◌, ◌+◌, length, get_or, take, drop, map, Any}
+use Rattle.std.proofs.Common.{◌≡◌, ℕ, List, [], ◌∷◌, ◌++◌, None, Result, Ok, Err, MatchResult, ◌⊎◌, inl, inr, refl, sym, ◌∙◌, ap, subst, append_assoc, append-nil, ◌<◌, ◌+◌, length, get_or, take, drop, map, Any}
 use Rattle.std.proofs.lemmas.List.Elements.{Contains-append_left, Contains-append_right}
 use Rattle.std.proofs.lemmas.List.{map_more, map-append, take-append-drop}
 use Rattle.std.proofs.lemmas.Grind.{flat_map-append}
 use Rattle.fm_text.specs.declared.error.EncodeError.{EncodeError}
 use Rattle.fm_grammar.specs.declared.MetricType.{MetricType}
 use Rattle.fm_grammar.specs.Exposition.{Label}
-use Rattle.fm_encoder.specs.Labels.{HandedLabel, LabelsFault, LabelsClean, all_written, written}
+use Rattle.fm_encoder.specs.Labels.{HandedLabel, LabelsFault, LabelsClean, all_written, written, handed_again}
 use Rattle.fm_encoder.specs.Gathered.{GatheredLabels, OwnRefusal}
 use Rattle.fm_encoder.specs.Hands.{HandsLabels}
 use Rattle.fm_encoder.proofs.Cases.{option_cases}
@@ -117,3 +117,19 @@ Any-left P xs ys (i, x, within, is, here) = (let there = Contains-append_left xs
 
 pub Any-right : {X : Type 0} (P : X → Type 0) (xs ys : List X) → Any P ys → Any P (xs ++ ys)
 Any-right P xs ys (i, x, within, is, here) = (let there = Contains-append_right xs ys x (i, within, is) in (there.0, x, there.1, there.2, here))
+
+-- labels that were written and are handed over again are written again
+pub written_again : (ls : List Label) → all_written (handed_again ls) ≡ ls
+written_again [] = refl
+written_again (l ∷ ls) = ap (λ (more : List Label). l ∷ more) (written_again ls)
+
+-- labels that were gathered behind clean constant ones
+pub behind_constants : {L : Type 0} (items : L → List Label) (type : MetricType) (constants : List Label) (ls : List HandedLabel) (F : Type 0) (r : Result L EncodeError) → LabelsClean type [] (handed_again constants) → MatchResult r (λ t. LabelsClean type constants ls × (items t ≡ constants ++ all_written ls)) (λ k. OwnRefusal F k ⊎ LabelsFault k type constants ls) → MatchResult r (λ t. LabelsClean type [] (handed_again constants ++ ls) × (items t ≡ all_written (handed_again constants ++ ls))) (λ k. OwnRefusal F k ⊎ LabelsFault k type [] (handed_again constants ++ ls))
+behind_constants items type constants ls F (Ok t) clean h =
+    let again = written_again constants in (
+      LabelsClean-append type [] (handed_again constants) ls clean (subst (λ (before : List Label). LabelsClean type before ls) (sym again) h.0),
+      h.1 ∙ sym (all_written-append (handed_again constants) ls ∙ ap (λ (front : List Label). front ++ all_written ls) again),
+    )
+behind_constants items type constants ls F (Err k) clean (inl own) = inl own
+behind_constants items type constants ls F (Err k) clean (inr fault) =
+    inr (LabelsFault-after k type [] (handed_again constants) ls (subst (λ (before : List Label). LabelsFault k type before ls) (sym (written_again constants)) fault))

@@ -142,6 +142,12 @@ BeginsMember-read items all F old new (Err j) setting output refused taken fault
   deferred = λ k e. (let same : j ≡ k = cc in subst (λ (i : EncodeError). OwnRefusal F i ⊎ LabelsFault i old.setting.metric_type [] all) same fault);
 }
 
+-- the same, where the labels were read for a family of this type
+pub BeginsMember-typed : {L : Type 0} (items : L → List Label) (all : List HandedLabel) (F : Type 0) (type : MetricType) (old new : GatheredPoints) (read : Result L EncodeError) → type ≡ old.setting.metric_type → new.setting ≡ old.setting → new.output ≡ old.output → new.refused ≡ old.refused → MatchResult read (λ ls. ((new.deferred ≡ None) × (new.common ≡ items ls)) ⊎ (new.deferred ≡ Some Memory)) (λ k. new.deferred ≡ Some k) → MatchResult read (λ ls. LabelsClean type [] all × (items ls ≡ all_written all)) (λ k. OwnRefusal F k ⊎ LabelsFault k type [] all) → BeginsMember all F old new
+BeginsMember-typed items all F type old new read same setting output refused taken clean =
+    BeginsMember-read items all F old new read setting output refused taken
+    (subst (λ (t : MetricType). MatchResult read (λ ls. LabelsClean t [] all × (items ls ≡ all_written all)) (λ k. OwnRefusal F k ⊎ LabelsFault k t [] all)) same clean)
+
 MembersClean-append : (context : Context) (xs ys : List Member) → MembersClean context xs → MembersClean context ys → MembersClean context (xs ++ ys)
 MembersClean-append context [] ys h after = after
 MembersClean-append context (x ∷ xs) ys h after = (h.0, MembersClean-append context xs ys h.1 after)

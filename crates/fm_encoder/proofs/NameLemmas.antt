@@ -16,28 +16,6 @@ Pairs = List (String Global × String Global)
 Contains-cons : (x y : Text) (xs : List Text) → Contains xs x → Contains (y ∷ xs) x
 Contains-cons x y xs there = Contains-append_right (y ∷ []) xs x there
 
-Contains-one : (x y : Text) → Contains (y ∷ []) x → y ≡ x
-Contains-one x y (zero, within, is) = is
-Contains-one x y (suc i, within, is) = absurd (omega arith)
-
--- a label of the list has the name
-pub name_there : (ls : Pairs) (i : ℕ) (l : String Global × String Global) (name : Text) → i < length ls → l ≡ get_or ls i l → string_bytes l.0 ≡ name → Contains (label_names (labels_of ls)) name
-name_there [] i l name within is named = absurd (omega arith)
-name_there (x ∷ ls) zero l name within is named = (0, omega arith, ap (λ (p : String Global × String Global). string_bytes p.0) (sym is) ∙ named)
-name_there (x ∷ ls) (suc i) l name within is named = Contains-cons name _ _ (name_there ls i l name (omega arith) is named)
-
-names-append : (xs ys : Pairs) → label_names (labels_of (xs ++ ys)) ≡ label_names (labels_of xs) ++ label_names (labels_of ys)
-names-append [] ys = refl
-names-append (x ∷ xs) ys = ap (λ (ns : List Text). string_bytes x.0 ∷ ns) (names-append xs ys)
-
--- one label more, with another name
-pub name_absent : (ls : Pairs) (i : ℕ) (l : String Global × String Global) (name : Text) → i < length ls → l ≡ get_or ls i l → ¬ (string_bytes l.0 ≡ name) → ¬ (Contains (label_names (labels_of (take i ls))) name) → ¬ (Contains (label_names (labels_of (take (i + 1) ls))) name)
-name_absent ls i l name within is other before there =
-    let more : take (i + 1) ls ≡ take i ls ++ l ∷ [] = take_more ls i l within ∙ ap (λ (x : String Global × String Global). take i ls ++ x ∷ []) (sym is) in
-    let split : Contains (label_names (labels_of (take i ls)) ++ string_bytes l.0 ∷ []) name =
-    subst (λ (ns : List Text). Contains ns name) (ap (λ (xs : Pairs). label_names (labels_of xs)) more ∙ names-append (take i ls) (l ∷ [])) there in
-    elim (Contains-append_cases _ _ name split) [ inl h ↦ before h | inr h ↦ other (Contains-one name (string_bytes l.0) h) ]
-
 names_of-append : (xs ys : List Label) → label_names (xs ++ ys) ≡ label_names xs ++ label_names ys
 names_of-append [] ys = refl
 names_of-append (x ∷ xs) ys = ap (λ (ns : List Text). x.name ∷ ns) (names_of-append xs ys)
@@ -86,17 +64,13 @@ pub AreLabels-read : {L E : Type 0} (items : L → List Label) (type : MetricTyp
 AreLabels-read items type all Refused (Ok ls) h = subst AreLabels (sym h.1) (AreLabels-written type all h.0)
 AreLabels-read items type all Refused (Err e) h = tt
 
+-- own labels that stand behind the common ones in a list of both
+pub own_of_all : (common all own : List Label) → all ≡ common ++ own → drop (length common) all ≡ own
+own_of_all common all own is = ap (drop (length common)) is ∙ drop_at common own (length common) refl
+
 -- labels that are clean behind well-formed ones
 pub AreLabels-behind : (type : MetricType) (before ls : List Label) (labels : List HandedLabel) → AreLabels before → LabelsClean type before labels → ls ≡ before ++ all_written labels → AreLabels ls
 AreLabels-behind type before ls labels h clean is = subst AreLabels (sym is) (AreLabels-after type before labels h clean)
-
--- the labels behind copies of clean ones
-pub own_behind : (type : MetricType) (common copies all own : Pairs) (labels : List HandedLabel) → labels_of copies ≡ labels_of common → LabelsClean type (labels_of copies) labels → labels_of all ≡ labels_of copies ++ all_written labels → own ≡ drop (length common) all → LabelsClean type (labels_of common) labels × (labels_of own ≡ all_written labels)
-own_behind type common copies all own labels same clean is cut = (
-  subst (λ (before : List Label). LabelsClean type before labels) same clean,
-  ap labels_of cut ∙ sym (drop-map label_of (length common) all) ∙ ap (drop (length common)) (is ∙ ap (λ (before : List Label). before ++ all_written labels) same)
-      ∙ drop_at (labels_of common) (all_written labels) (length common) (length-map common label_of),
-)
 
 all_bytes-append : (xs ys : Text) → AllByRecursion IsLabelByte xs → AllByRecursion IsLabelByte ys → AllByRecursion IsLabelByte (xs ++ ys)
 all_bytes-append [] ys h more = more

@@ -10,3 +10,4 @@ pub mod Steps
 pub mod Buckets
 pub mod Offers
 pub mod Gathering
+pub mod Constants

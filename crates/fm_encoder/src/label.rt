@@ -1,18 +1,17 @@
 //! Labels: what hands them over, and the encoders that gather them.
-ghost use Rattle.std.specs.Prelude.{◌≡◌, ◌↔◌, IsTrue, IfOk, ℕ, List, [], ◌∷◌, ◌++◌, Bool, ◌⊎◌, Some, None, Ok, Err, string_bytes, MatchResult};
+ghost use Rattle.std.specs.Prelude.{◌≡◌, ◌↔◌, IsTrue, IfOk, ℕ, List, [], ◌∷◌, ◌++◌, Bool, ◌⊎◌, Some, None, Ok, Err, MatchResult};
 ghost use Rattle.fm_text.specs.declared.error.EncodeError.{EncodeError};
-ghost use Rattle.fm_text.specs.Samples.{labels_of, label_of};
-ghost use Rattle.fm_encoder.specs.Labels.{HandedLabel, NamePiece, ValuePiece};
+ghost use Rattle.fm_encoder.specs.Labels.{HandedLabel, NamePiece, ValuePiece, written};
 ghost use Rattle.fm_encoder.specs.Gathered.{GatheredPieces, GatheredLabels, answer, own_refusal};
 ghost use Rattle.fm_encoder.specs.Hands.{HandsPieces, HandsLabels};
 ghost use Rattle.fm_encoder.specs.Steps.{EndsLabel};
 
-use crate::names::{has_name, is_reserved};
+use crate::names::is_reserved;
 use crate::own::own_refusal;
 use fm_grammar::MetricType;
 use fm_raw::name::is_label_name;
+use fm_sink::LabelText;
 use fm_text::EncodeError;
-use std::alloc::Global;
 use std::marker::Model;
 
 /// Something that hands over the name of a label.
@@ -64,18 +63,13 @@ pub trait EncodeLabel {
 /// Gathers the pieces of one label behind the labels before it.
 #[derive(Drop)]
 pub struct LabelEncoder {
-    alloc: Global,
     metric_type: MetricType,
-    labels: Vec<(String, String)>,
-    name: Option<String>,
-    value: Option<String>,
+    labels: LabelText,
     refused: Option<EncodeError>,
 }
 
 impl Model for LabelEncoder {
-    ghost use Rattle.std.specs.Prelude.{◌≡◌, string_bytes, ℕ, List, Some};
-    ghost use Rattle.std.specs.Option.{option_map};
-    ghost use Rattle.fm_text.specs.Samples.{labels_of};
+    ghost use Rattle.std.specs.Prelude.{◌≡◌, ℕ, List, Some};
     ghost use Rattle.fm_encoder.specs.Labels.{NameFits, pieces_of};
     ghost use Rattle.fm_encoder.specs.Gathered.{GatheredPieces};
 
@@ -83,38 +77,16 @@ impl Model for LabelEncoder {
 
     ghost view = { λ e. record {
       metric_type = e.metric_type;
-      labels = labels_of e.labels.items;
-      pieces = pieces_of (option_map (λ s. string_bytes s) e.name) (option_map (λ s. string_bytes s) e.value);
+      labels = e.labels.labels;
+      pieces = pieces_of e.labels.name e.labels.value;
       refused = e.refused;
     } };
 
-    ghost invariant = { λ e. (n : List ℕ) → option_map (λ s. string_bytes s) e.name ≡ Some n
-        → NameFits e.metric_type (labels_of e.labels.items) n };
+    ghost invariant = { λ e. (n : List ℕ) → e.labels.name ≡ Some n
+        → NameFits e.metric_type e.labels.labels n };
 }
 
 impl LabelEncoder {
-    pub(crate) fn behind(
-        alloc: Global,
-        metric_type: MetricType,
-        labels: Vec<(String, String)>,
-    ) -> LabelEncoder
-        ensures { result ≡ record {
-          metric_type = metric_type;
-          labels = labels_of labels.items;
-          pieces = [];
-          refused = None;
-        } }
-    {
-        LabelEncoder {
-            alloc,
-            metric_type,
-            labels,
-            name: None,
-            value: None,
-            refused: None,
-        }
-    }
-
     fn refuse(&mut self, error: EncodeError) -> Result<(), EncodeError>
         ensures refused { self.new ≡ record self.old { refused = Some error } }
         ensures answered { result ≡ Err error }
@@ -133,7 +105,7 @@ impl LabelEncoder {
         if let Some(error) = self.refused {
             return Err(error);
         }
-        if self.name.is_some() || self.value.is_some() {
+        if self.labels.is_named() || self.labels.is_valued() {
             return self.refuse(EncodeError::MalformedLabel);
         }
         if !is_label_name(name) {
@@ -142,14 +114,11 @@ impl LabelEncoder {
         if is_reserved(self.metric_type, name) {
             return self.refuse(EncodeError::ReservedLabel);
         }
-        if has_name(self.labels.as_slice(), name) {
+        if self.labels.has_name(name) {
             return self.refuse(EncodeError::DuplicateLabel);
         }
-        match String::from_str(self.alloc, name) {
-            Ok(text) => {
-                self.name = Some(text);
-                Ok(())
-            }
+        match self.labels.set_name(name) {
+            Ok(()) => Ok(()),
             Err(_) => self.refuse(EncodeError::Memory),
         }
     }
@@ -163,32 +132,28 @@ impl LabelEncoder {
         if let Some(error) = self.refused {
             return Err(error);
         }
-        if self.name.is_none() || self.value.is_some() {
+        if !self.labels.is_named() || self.labels.is_valued() {
             return self.refuse(EncodeError::MalformedLabel);
         }
-        match String::from_str(self.alloc, value) {
-            Ok(text) => {
-                self.value = Some(text);
-                Ok(())
-            }
+        match self.labels.set_value(value) {
+            Ok(()) => Ok(()),
             Err(_) => self.refuse(EncodeError::Memory),
         }
     }
 
-    // Writes a label whose name fits.
-    fn write_label(&mut self, label: (String, String)) -> Result<(), EncodeError>
-        requires fresh { self.old.pieces ≡ [] }
+    // Writes the label under way, of which both pieces are there.
+    fn write_label(&mut self) -> Result<(), EncodeError>
         requires accepting { self.old.refused ≡ None }
         ensures type_kept { self.new.metric_type ≡ self.old.metric_type }
-        ensures pieces { self.new.pieces ≡ [] }
-        ensures labels { self.new.refused ≡ None → self.new.labels ≡ self.old.labels ++ label_of label ∷ [] }
+        ensures pieces { self.new.refused ≡ None → self.new.pieces ≡ [] }
+        ensures labels { self.new.refused ≡ None → self.new.labels ≡ self.old.labels ++ written self.old.pieces }
         ensures refused { (k : EncodeError) → self.new.refused ≡ Some k → k ≡ EncodeError.Memory }
         ensures answered { result ≡ answer self.new.refused }
     {
-        if let Err(_) = self.labels.push(label) {
-            return self.refuse(EncodeError::Memory);
+        match self.labels.end_label() {
+            Ok(()) => Ok(()),
+            Err(_) => self.refuse(EncodeError::Memory),
         }
-        Ok(())
     }
 
     // Ends the label under way, where what was visited answered `visited`.
@@ -202,18 +167,11 @@ impl LabelEncoder {
         if let Err(error) = visited {
             return self.refuse(own_refusal(error));
         }
-        match (self.name.take(), self.value.take()) {
-            (None, None) => Ok(()),
-            (Some(name), Some(value)) => self.write_label((name, value)),
+        match (self.labels.is_named(), self.labels.is_valued()) {
+            (false, false) => Ok(()),
+            (true, true) => self.write_label(),
             _ => self.refuse(EncodeError::MalformedLabel),
         }
-    }
-
-    fn into_labels(self) -> Vec<(String, String)>
-        ensures { labels_of result.items ≡ self.labels }
-    {
-        let LabelEncoder { labels, .. } = self;
-        labels
     }
 }
 
@@ -239,26 +197,21 @@ impl Model for LabelSetEncoder {
 }
 
 impl LabelSetEncoder {
-    pub(crate) fn new(alloc: Global, metric_type: MetricType) -> LabelSetEncoder
-        ensures { result ≡ record { metric_type = metric_type; labels = []; refused = None } }
-    {
-        LabelSetEncoder::behind(alloc, metric_type, Vec::new(alloc))
-    }
-
     // An encoder that has these labels already.
-    pub(crate) fn behind(
-        alloc: Global,
-        metric_type: MetricType,
-        labels: Vec<(String, String)>,
-    ) -> LabelSetEncoder
+    pub(crate) fn behind(metric_type: MetricType, labels: LabelText) -> LabelSetEncoder
+        requires { (labels.name ≡ None) × (labels.value ≡ None) }
         ensures { result ≡ record {
           metric_type = metric_type;
-          labels = labels_of labels.items;
+          labels = labels.labels;
           refused = None;
         } }
     {
         LabelSetEncoder {
-            label: LabelEncoder::behind(alloc, metric_type, labels),
+            label: LabelEncoder {
+                metric_type,
+                labels,
+                refused: None,
+            },
         }
     }
 
@@ -273,20 +226,22 @@ impl LabelSetEncoder {
     }
 
     // The labels, where nothing was refused and what was visited answered `visited`.
-    pub(crate) fn end(
-        self,
-        visited: Result<(), EncodeError>,
-    ) -> Result<Vec<(String, String)>, EncodeError>
+    pub(crate) fn end(self, visited: Result<(), EncodeError>) -> Result<LabelText, EncodeError>
         ensures { MatchResult result
-            (λ labels. (self.refused ≡ None) × (visited ≡ Ok tt) × (labels_of labels.items ≡ self.labels))
+            (λ ls. (self.refused ≡ None) × (visited ≡ Ok tt) × (ls.labels ≡ self.labels))
             (λ k. (self.refused ≡ Some k) ⊎ ((e : EncodeError) × (self.refused ≡ None) × (visited ≡ Err e) × (k ≡ own_refusal e))) }
     {
         let LabelSetEncoder { label } = self;
-        if let Some(error) = label.refused {
+        let LabelEncoder {
+            labels,
+            refused,
+            ..
+        } = label;
+        if let Some(error) = refused {
             return Err(error);
         }
         match visited {
-            Ok(()) => Ok(label.into_labels()),
+            Ok(()) => Ok(labels),
             Err(error) => Err(own_refusal(error)),
         }
     }

@@ -4,9 +4,10 @@
 //! `collect` relies on nothing else. An encoder keeps its first refusal, whatever a metric makes of it.
 #![tactic(auto)]
 
+mod constants;
 pub mod exemplar;
+mod gathered;
 pub mod label;
-mod label_copies;
 mod label_number;
 pub mod label_set;
 mod label_set_wrapper;

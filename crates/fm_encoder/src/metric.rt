@@ -12,10 +12,9 @@ ghost use Rattle.fm_encoder.specs.States.{state_of};
 ghost use Rattle.fm_encoder.specs.Gathered.{OwnRefusal, answer, own_refusal};
 ghost use Rattle.fm_encoder.specs.Hands.{HandsLabels, HandsMembers, MembersOf};
 
+use crate::constants::ConstantLabels;
 use crate::exemplar::EncodeExemplar;
-use crate::label::LabelSetEncoder;
-use crate::label_copies::cloned_labels;
-use crate::label_set::{EncodeLabelSet, encode_written};
+use crate::label_set::EncodeLabelSet;
 use crate::own::own_refusal;
 use crate::point::{EncodePoint, PointEncoder};
 use crate::value::{EncodeCounterValue, EncodeGaugeValue, EncodeUnknownValue};
@@ -66,38 +65,6 @@ pub trait EncodeMetric: Send + Sync + Drop {
     {
         false
     }
-}
-
-// Hands over the constant labels and then these.
-fn hand_labels<LS: EncodeLabelSet>(
-    constants: &[(String, String)],
-    labels: &LS,
-    encoder: &mut LabelSetEncoder,
-) -> Result<(), EncodeError>
-    ensures { HandsLabels (handed_again (labels_of constants.now) ++ LS.labels labels.now) (LS.may_fault labels.now) encoder.old encoder.new result }
-{
-    encode_written(constants, encoder)?;
-    if labels.is_empty() {
-        return Ok(());
-    }
-    labels.encode(encoder)
-}
-
-// The constant labels and then these, each of them clean.
-fn read_labels<LS: EncodeLabelSet>(
-    alloc: Global,
-    metric_type: MetricType,
-    constants: &[(String, String)],
-    labels: &LS,
-) -> Result<Vec<(String, String)>, EncodeError>
-    ensures { let all = handed_again (labels_of constants.now) ++ LS.labels labels.now in
-        MatchResult result
-        (λ ls. LabelsClean metric_type [] all × (labels_of ls.items ≡ all_written all))
-        (λ k. OwnRefusal (LS.may_fault labels.now) k ⊎ LabelsFault k metric_type [] all) }
-{
-    let mut encoder = LabelSetEncoder::new(alloc, metric_type);
-    let visited = hand_labels(constants, labels, &mut encoder);
-    encoder.end(visited)
 }
 
 // The point of an unknown metric's value.
@@ -175,21 +142,23 @@ impl<LS: EncodeLabelSet> EncodePoint for InfoLabels<'_, LS> {
 /// Puts the samples of a metric's family into a sink.
 #[derive(Drop)]
 pub struct MetricEncoder {
-    constants: Vec<(String, String)>,
+    constants: ConstantLabels,
     points: PointEncoder,
 }
 
 impl Model for MetricEncoder {
-    ghost use Rattle.fm_text.specs.Samples.{labels_of};
+    ghost use Rattle.std.specs.Prelude.{◌≡◌};
     ghost use Rattle.fm_encoder.specs.Gathered.{GatheredMembers};
 
     ghost Value = { GatheredMembers };
 
     ghost view = { λ e. record {
-      context = record { setting = e.points.setting; constants = labels_of e.constants.items };
+      context = record { setting = e.points.setting; constants = e.constants.labels };
       output = e.points.output;
       refused = e.points.refused;
     } };
+
+    ghost invariant = { λ e. e.constants.metric_type ≡ e.points.setting.metric_type };
 }
 
 impl MetricEncoder {
@@ -218,7 +187,7 @@ impl MetricEncoder {
         ensures memory { IfErr result (λ e. e ≡ EncodeError.Memory) }
     {
         Ok(MetricEncoder {
-            constants: cloned_labels(alloc, constants)?,
+            constants: ConstantLabels::new(alloc, metric_type, constants)?,
             points: PointEncoder::new(alloc, name, metric_type, time, sink),
         })
     }
@@ -236,12 +205,8 @@ impl MetricEncoder {
         if let Some(error) = self.points.refused() {
             return Err(error);
         }
-        let read = read_labels(
-            self.points.alloc(),
-            self.points.metric_type(),
-            self.constants.as_slice(),
-            labels,
-        );
+        let spare = self.points.take_spare();
+        let read = self.constants.followed_by(spare, labels);
         self.points.begin_member(read);
         let visited = point.encode(&mut self.points);
         self.points.end_points(visited)

@@ -1,12 +1,13 @@
 //! Points: what hands them over, and the encoder that puts their samples into a sink.
-ghost use Rattle.std.specs.Prelude.{◌≡◌, ◌⊎◌, ◌++◌, List, [], ◌∷◌, MatchResult, MatchOption, None, Some, IfOk, IfErr, IfSome, Contains, map, string_bytes};
+ghost use Rattle.std.specs.Prelude.{◌≡◌, ◌⊎◌, ◌++◌, List, [], ◌∷◌, MatchResult, MatchOption, None, Some, OnOk, IfOk, IfErr, IfSome, Contains, map, string_bytes};
 ghost use Rattle.std.specs.Option.{option_map, option_map_or};
 ghost use Rattle.fm_grammar.specs.Names.{IsSnakeCase};
 ghost use Rattle.fm_grammar.specs.declared.MetricType.{MetricType};
-ghost use Rattle.fm_grammar.specs.WellFormed.{AreLabels, AreMillis, kinds_of};
+ghost use Rattle.fm_grammar.specs.WellFormed.{AreLabels, AreMillis, IsSample, kinds_of};
 ghost use Rattle.fm_grammar.specs.declared.SampleKind.TheVariants.{Total as TotalKind, Created as CreatedKind};
 ghost use Rattle.fm_text.specs.declared.error.EncodeError.{EncodeError};
-ghost use Rattle.fm_text.specs.Samples.{labels_of, value_of, exemplar_of};
+ghost use Rattle.fm_text.specs.Samples.{shown_label, value_of, exemplar_of};
+ghost use Rattle.fm_sink.specs.Output.{appended};
 ghost use Rattle.fm_encoder.specs.Points.{Point, UnknownPoint, GaugePoint, CounterPoint, StateSetPoint, InfoPoint, plain_sample, state_sample, created_samples, millis};
 ghost use Rattle.fm_encoder.specs.Labels.{AreFree, label_names};
 ghost use Rattle.fm_encoder.specs.States.{state_of};
@@ -15,16 +16,15 @@ ghost use Rattle.fm_encoder.specs.Hands.{HandsPoints};
 ghost use Rattle.fm_encoder.specs.Steps.{FitsType, BeginsPoint, PushesSample, PushesSamples, TestsStates, EndsPoints, IsNumber};
 
 use crate::exemplar::{EncodeExemplar, exemplar_if_any};
-use crate::label_copies::{labels_behind, one_label};
+use crate::gathered::labels_behind;
 use crate::label_set::EncodeLabelSet;
-use crate::names::has_name;
 use crate::own::own_refusal;
 use crate::value::{
     EncodeCounterValue, EncodeGaugeValue, EncodeUnknownValue, counter_number, gauge_number,
     unknown_number,
 };
 use fm_grammar::{MetricType, SampleKind};
-use fm_sink::Sink;
+use fm_sink::{LabelText, Sink};
 use fm_text::{EncodeError, Exemplar, Value};
 use std::alloc::Global;
 use std::marker::Model;
@@ -74,6 +74,40 @@ impl Model for PointEncoder {
     ghost use Rattle.fm_encoder.specs.Gathering.{IsGathering};
 
     ghost invariant = { IsGathering };
+}
+
+// Puts a sample into a sink, whose own labels stand behind the common ones.
+fn push_to(
+    sink: &mut Sink,
+    name: &str,
+    metric_type: MetricType,
+    kind: SampleKind,
+    own: &[(&str, &str)],
+    value: Value,
+    time: Option<u128>,
+    exemplar: Option<Exemplar>,
+) -> Result<(), EncodeError>
+    requires labels { AreLabels (sink.old.common ++ map shown_label own.now) }
+    requires fits { FitsType metric_type kind (value_of value) (option_map exemplar_of exemplar) }
+    requires time { IfSome time AreMillis }
+    ensures common { sink.new.common ≡ sink.old.common }
+    ensures formed { IsSample metric_type (record {
+      kind = kind;
+      labels = sink.old.common ++ map shown_label own.now;
+      value = value_of value;
+      time = time;
+      exemplar = option_map exemplar_of exemplar;
+    }) }
+    ensures pushed { OnOk result (sink.new.output ≡ appended name.now sink.old.output (record {
+      kind = kind;
+      labels = sink.old.common ++ map shown_label own.now;
+      value = value_of value;
+      time = time;
+      exemplar = option_map exemplar_of exemplar;
+    } ∷ [])) }
+    ensures memory { IfErr result (λ e. e ≡ EncodeError.Memory) }
+{
+    sink.push(name, kind, own, value, time, exemplar)
 }
 
 impl PointEncoder {
@@ -136,26 +170,32 @@ impl PointEncoder {
     fn push_labeled(
         &mut self,
         kind: SampleKind,
-        own: Vec<(String, String)>,
+        own: &[(&str, &str)],
         value: Value,
         exemplar: Option<Exemplar>,
     ) -> Result<(), EncodeError>
         requires accepting { self.old.refused ≡ None }
-        requires labels { AreLabels (self.old.common ++ labels_of own.items) }
+        requires labels { AreLabels self.old.common → AreFree self.old.setting.metric_type self.old.common → AreLabels (self.old.common ++ map shown_label own.now) }
         requires fits { FitsType self.old.setting.metric_type kind (value_of value) (option_map exemplar_of exemplar) }
         ensures pushed { PushesSample (record {
           kind = kind;
-          labels = self.old.common ++ labels_of own.items;
+          labels = self.old.common ++ map shown_label own.now;
           value = value_of value;
           time = self.old.setting.time;
           exemplar = option_map exemplar_of exemplar;
         }) self.old self.new }
         ensures answered { result ≡ answer self.new.refused }
     {
-        match self
-            .sink
-            .push(self.name.as_str(), kind, own, value, self.time, exemplar)
-        {
+        match push_to(
+            &mut self.sink,
+            self.name.as_str(),
+            self.metric_type,
+            kind,
+            own,
+            value,
+            self.time,
+            exemplar,
+        ) {
             Ok(()) => Ok(()),
             Err(error) => self.refuse(error),
         }
@@ -179,7 +219,7 @@ impl PointEncoder {
         }) self.old self.new }
         ensures answered { result ≡ answer self.new.refused }
     {
-        self.push_labeled(kind, Vec::new(self.alloc), value, exemplar)
+        self.push_labeled(kind, &[], value, exemplar)
     }
 
     /// Takes an unknown metric's point. It is refused as `KindMismatch` in a family of another type, then for its
@@ -293,7 +333,7 @@ impl PointEncoder {
         ensures tested { TestsStates is_empty self.old self.new }
         ensures answered { result ≡ answer self.new.refused }
     {
-        if !is_empty && has_name(self.sink.common(), self.name.as_str()) {
+        if !is_empty && self.sink.common().has_name(self.name.as_str()) {
             return self.refuse(EncodeError::DuplicateLabel);
         }
         Ok(())
@@ -321,11 +361,21 @@ impl PointEncoder {
         ensures pushed { PushesSample (state_sample self.old.setting self.old.common (state_of state.now)) self.old self.new }
         ensures answered { result ≡ answer self.new.refused }
     {
-        let Ok(own) = one_label(self.alloc, self.name.as_str(), state.0) else {
-            return self.refuse(EncodeError::Memory);
-        };
         let value = Value::Whole(if state.1 { 1 } else { 0 });
-        self.push_labeled(SampleKind::Plain, own, value, None)
+        let own = [(self.name.as_str(), state.0)];
+        match push_to(
+            &mut self.sink,
+            self.name.as_str(),
+            self.metric_type,
+            SampleKind::Plain,
+            &own,
+            value,
+            self.time,
+            None,
+        ) {
+            Ok(()) => Ok(()),
+            Err(error) => self.refuse(error),
+        }
     }
 
     /// Takes an info's point: its labels, which stand behind the common ones. It is refused as `KindMismatch` in a family of
@@ -335,20 +385,22 @@ impl PointEncoder {
         ensures answered { result ≡ answer self.new.refused }
     {
         self.begin_point(MetricType::Info)?;
-        match labels_behind(self.alloc, self.metric_type, self.sink.common(), labels) {
-            Ok(own) => self.push_labeled(SampleKind::Info, own, Value::Whole(1), None),
-            Err(error) => self.refuse(error),
+        let spare = self.sink.take_spare();
+        let all = match labels_behind(spare, self.metric_type, self.sink.common(), labels) {
+            Ok(all) => all,
+            Err(error) => return self.refuse(error),
+        };
+        match all.pairs(self.alloc, self.sink.common().len()) {
+            Ok(own) => self.push_labeled(SampleKind::Info, &own, Value::Whole(1), None),
+            Err(_) => self.refuse(EncodeError::Memory),
         }
     }
 
-    pub(crate) fn alloc(&self) -> Global {
-        self.alloc
-    }
-
-    pub(crate) fn metric_type(&self) -> MetricType
-        ensures { result ≡ self.now.setting.metric_type }
+    // Memory for the labels of the next member: some labels, of which nothing is known.
+    pub(crate) fn take_spare(&mut self) -> LabelText
+        ensures { self.new ≡ self.old }
     {
-        self.metric_type
+        self.sink.take_spare()
     }
 
     pub(crate) fn refused(&self) -> Option<EncodeError>
@@ -358,14 +410,14 @@ impl PointEncoder {
     }
 
     // Takes the common labels of the next points, or keeps their refusal for the first of them.
-    pub(crate) fn begin_member(&mut self, read: Result<Vec<(String, String)>, EncodeError>)
-        requires labels { IfOk read (λ ls. AreLabels (labels_of ls.items)) }
-        requires free { IfOk read (λ ls. AreFree self.old.setting.metric_type (labels_of ls.items)) }
+    pub(crate) fn begin_member(&mut self, read: Result<LabelText, EncodeError>)
+        requires labels { IfOk read (λ ls. AreLabels (ls.labels)) }
+        requires free { IfOk read (λ ls. AreFree self.old.setting.metric_type (ls.labels)) }
         ensures setting { self.new.setting ≡ self.old.setting }
         ensures output { self.new.output ≡ self.old.output }
         ensures refused { self.new.refused ≡ self.old.refused }
         ensures read { MatchResult read
-            (λ ls. ((self.new.deferred ≡ None) × (self.new.common ≡ labels_of ls.items)) ⊎ (self.new.deferred ≡ Some EncodeError.Memory))
+            (λ ls. ((self.new.deferred ≡ None) × (self.new.common ≡ ls.labels)) ⊎ (self.new.deferred ≡ Some EncodeError.Memory))
             (λ k. self.new.deferred ≡ Some k) }
     {
         match read {

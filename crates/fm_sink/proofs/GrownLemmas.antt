@@ -44,6 +44,11 @@ left_more_seen view f ys i y old now next within is left grown =
     let next_is : Grown now next (f (get_or (map view ys) i (view y))) = rw (← seen_at view ys i y is) grown in
     left_more f (map view ys) i (view y) old now next (rw (length-map ys view) within) left next_is
 
+pub left_more_mapped : {X Y : Type 0} (view : Y → X) (f : X → List ℕ) (ys : List Y) (i : ℕ) (d : Y) (old now next : List ℕ) → i < length ys → IsLeft f (map view ys) i old now → Grown now next (f (view (get_or ys i d))) → IsLeft f (map view ys) (i + 1) old next
+left_more_mapped view f ys i d old now next within left grown =
+    let next_is : Grown now next (f (get_or (map view ys) i (view d))) = rw (get_or-map view ys i d) grown in
+    left_more f (map view ys) i (view d) old now next (rw (length-map ys view) within) left next_is
+
 -- a first label, and the others with a comma before each, are a list of labels
 pub list_whole : (a b : List ℕ) (first : Label) (others labels : List Label) → labels ≡ first ∷ others → Grown a b (label_text first ++ further_labels others) → Grown a b (label_list_text labels)
 list_whole a b first others labels is g = rw (is, label_list_is first others) g

@@ -1,3 +1,4 @@
 pub mod Grown
 pub mod Output
+pub mod LabelTexts
 pub mod Forms

@@ -1,13 +1,14 @@
 //! The lines of a document so far.
-ghost use Rattle.std.specs.Prelude.{◌≡◌, ◌++◌, [], OnOk, OnErr};
+ghost use Rattle.std.specs.Prelude.{◌≡◌, ◌++◌, [], map, OnOk, OnErr};
 ghost use Rattle.std.specs.Option.{option_map, option_copied};
 ghost use Rattle.fm_text.specs.Rows.{sample_row, head_rows};
-ghost use Rattle.fm_text.specs.Samples.{labels_of, value_of, exemplar_at};
+ghost use Rattle.fm_text.specs.Samples.{shown_label, value_of, exemplar_at};
 ghost use Rattle.fm_sink.specs.Grown.{Grown};
 
 use crate::growing::GrowingText;
 use crate::heads::append_heads;
-use crate::rendering::{append_label_list, append_sample_row};
+use crate::label_text::LabelText;
+use crate::sample_row::append_sample_row;
 use fm_grammar::{MetricType, SampleKind};
 use fm_text::{Exemplar, Value};
 use std::alloc::{AllocError, Global};
@@ -20,7 +21,7 @@ use std::mem;
 #[derive(Drop)]
 pub struct Lines {
     text: GrowingText,
-    common: Vec<(String, String)>,
+    common: LabelText,
     common_text: GrowingText,
     // The memory of the common labels' text before.
     spare: GrowingText,
@@ -29,14 +30,13 @@ pub struct Lines {
 impl Model for Lines {
     ghost use Rattle.std.specs.Prelude.{◌≡◌};
     ghost use Rattle.fm_grammar.specs.Spelling.{label_list_text};
-    ghost use Rattle.fm_text.specs.Samples.{labels_of};
     ghost use Rattle.fm_sink.specs.Output.{LinesState};
 
     ghost Value = { LinesState };
 
-    ghost view = { λ l. record { common = labels_of l.common.items; text = l.text } };
+    ghost view = { λ l. record { common = l.common.labels; text = l.text } };
 
-    ghost invariant = { λ l. l.common_text ≡ label_list_text (labels_of l.common.items) };
+    ghost invariant = { λ l. l.common_text ≡ label_list_text l.common.labels };
 }
 
 impl Lines {
@@ -46,7 +46,7 @@ impl Lines {
     {
         Lines {
             text: GrowingText::new(alloc),
-            common: Vec::new(alloc),
+            common: LabelText::new(alloc),
             common_text: GrowingText::new(alloc),
             spare: GrowingText::new(alloc),
         }
@@ -88,10 +88,10 @@ impl Lines {
     }
 
     /// The common labels of the next samples.
-    pub fn common(&self) -> &[(String, String)]
-        ensures { labels_of result.now ≡ self.now.common }
+    pub fn common(&self) -> &LabelText
+        ensures { result.now.labels ≡ self.now.common }
     {
-        self.common.as_slice()
+        &self.common
     }
 
     /// Forgets the common labels: the next samples have none.
@@ -102,17 +102,17 @@ impl Lines {
         self.common_text.clear();
     }
 
-    /// Takes the common labels of the next samples. Where there is no memory nothing changes.
-    pub fn share(&mut self, common: Vec<(String, String)>) -> Result<(), AllocError>
+    /// Takes the common labels of the next samples, and answers those before, for their memory. Where there is no memory nothing
+    /// changes.
+    pub fn share(&mut self, common: LabelText) -> Result<LabelText, AllocError>
         ensures text { self.new.text ≡ self.old.text }
-        ensures common { OnOk result (self.new.common ≡ labels_of common.items) }
+        ensures common { OnOk result (self.new.common ≡ common.labels) }
         ensures kept { OnErr result (self.new ≡ self.old) }
     {
         self.spare.clear();
-        append_label_list(&mut self.spare, &common)?;
+        common.append_to(&mut self.spare)?;
         mem::swap(&mut self.common_text, &mut self.spare);
-        self.common = common;
-        Ok(())
+        Ok(mem::replace(&mut self.common, common))
     }
 
     /// Appends the line of a sample whose own labels come after the common ones. It may find no memory.
@@ -120,7 +120,7 @@ impl Lines {
         &mut self,
         name: &str,
         kind: SampleKind,
-        own: &[(String, String)],
+        own: &[(&str, &str)],
         value: Value,
         time: Option<u128>,
         exemplar: Option<&Exemplar>,
@@ -128,7 +128,7 @@ impl Lines {
         ensures common { self.new.common ≡ self.old.common }
         ensures pushed { OnOk result (Grown self.old.text self.new.text (sample_row name.now (record {
           kind = kind;
-          labels = self.old.common ++ labels_of own.now;
+          labels = self.old.common ++ map shown_label own.now;
           value = value_of value;
           time = time;
           exemplar = option_map exemplar_at exemplar.entry;

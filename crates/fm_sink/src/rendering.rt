@@ -83,25 +83,9 @@ fn append_first(
     append_further_labels(text, others)
 }
 
-// Appends a text, and labels with a comma before each.
-#[tactic(auto, using(crate::proofs::GrownLemmas::grown))]
-fn append_after(
-    text: &mut GrowingText,
-    front: &[u8],
-    labels: &[(String, String)],
-) -> Result<(), AllocError>
-    ensures { OnOk result (Grown text.old text.new (front.now ++ further_labels (labels_of labels.now))) }
-{
-    text.append(front)?;
-    append_further_labels(text, labels)
-}
-
 // Appends labels with commas between them.
 #[tactic(auto, using(crate::proofs::GrownLemmas::grown))]
-pub(crate) fn append_label_list(
-    text: &mut GrowingText,
-    labels: &[(String, String)],
-) -> Result<(), AllocError>
+fn append_label_list(text: &mut GrowingText, labels: &[(String, String)]) -> Result<(), AllocError>
     ensures { OnOk result (Grown text.old text.new (label_list_text (labels_of labels.now))) }
 {
     match labels.split_first() {
@@ -118,57 +102,6 @@ fn append_in_braces(text: &mut GrowingText, labels: &[(String, String)]) -> Resu
     text.append(b"{")?;
     append_label_list(text, labels)?;
     text.append(b"}")
-}
-
-// Appends two lists of labels with commas between them, given the text of the first.
-#[tactic(auto, using(crate::proofs::GrownLemmas::grown, fm_text::proofs::RowLemmas::joined))]
-fn append_joined_list(
-    text: &mut GrowingText,
-    common: &[(String, String)],
-    common_text: &[u8],
-    own: &[(String, String)],
-) -> Result<(), AllocError>
-    requires { common_text.now ≡ label_list_text (labels_of common.now) }
-    ensures { OnOk result (Grown text.old text.new (label_list_text (labels_of common.now ++ labels_of own.now))) }
-{
-    if common.is_empty() {
-        append_label_list(text, own)
-    } else {
-        append_after(text, common_text, own)
-    }
-}
-
-// Appends two lists of labels in braces, given the text of the first.
-#[tactic(auto, using(crate::proofs::GrownLemmas::grown), unfolding(fm_grammar::specs::Spelling::in_braces))]
-fn append_joined_braces(
-    text: &mut GrowingText,
-    common: &[(String, String)],
-    common_text: &[u8],
-    own: &[(String, String)],
-) -> Result<(), AllocError>
-    requires { common_text.now ≡ label_list_text (labels_of common.now) }
-    ensures { OnOk result (Grown text.old text.new (in_braces (labels_of common.now ++ labels_of own.now))) }
-{
-    text.append(b"{")?;
-    append_joined_list(text, common, common_text, own)?;
-    text.append(b"}")
-}
-
-// Appends two lists of labels in braces, and nothing for none, given the text of the first.
-#[tactic(auto, using(crate::proofs::GrownLemmas::grown, crate::proofs::GrownLemmas::two_blocks))]
-fn append_joined_block(
-    text: &mut GrowingText,
-    common: &[(String, String)],
-    common_text: &[u8],
-    own: &[(String, String)],
-) -> Result<(), AllocError>
-    requires { common_text.now ≡ label_list_text (labels_of common.now) }
-    ensures { OnOk result (Grown text.old text.new (label_block_text (labels_of common.now ++ labels_of own.now))) }
-{
-    if common.is_empty() && own.is_empty() {
-        return Ok(());
-    }
-    append_joined_braces(text, common, common_text, own)
 }
 
 // Appends a value.
@@ -217,7 +150,7 @@ fn append_exemplar(text: &mut GrowingText, exemplar: Option<&Exemplar>) -> Resul
 
 // Appends a space, a value, a timestamp and an exemplar.
 #[tactic(auto, using(crate::proofs::GrownLemmas::grown))]
-fn append_reading(
+pub(crate) fn append_reading(
     text: &mut GrowingText,
     value: &Value,
     time: Option<u128>,
@@ -229,68 +162,4 @@ fn append_reading(
     append_value(text, value)?;
     append_time(text, time)?;
     append_exemplar(text, exemplar)
-}
-
-// Appends a sample's line without its line feed, given the text of its common labels.
-#[tactic(auto, using(crate::proofs::GrownLemmas::grown), unfolding(fm_grammar::specs::Spelling::sample_line))]
-fn append_sample_line(
-    text: &mut GrowingText,
-    name: &str,
-    kind: SampleKind,
-    common: &[(String, String)],
-    common_text: &[u8],
-    own: &[(String, String)],
-    value: &Value,
-    time: Option<u128>,
-    exemplar: Option<&Exemplar>,
-) -> Result<(), AllocError>
-    requires { common_text.now ≡ label_list_text (labels_of common.now) }
-    ensures { OnOk result (Grown text.old text.new (sample_line name.now (record {
-      kind = kind;
-      labels = labels_of common.now ++ labels_of own.now;
-      value = value_of value.now;
-      time = time;
-      exemplar = option_map exemplar_at exemplar.entry;
-    }))) }
-{
-    text.append(name.as_bytes())?;
-    text.append(kind.suffix().as_bytes())?;
-    append_joined_block(text, common, common_text, own)?;
-    append_reading(text, value, time, exemplar)
-}
-
-// Appends a sample's line, given the text of its common labels.
-#[tactic(auto, using(crate::proofs::GrownLemmas::grown))]
-pub(crate) fn append_sample_row(
-    text: &mut GrowingText,
-    name: &str,
-    kind: SampleKind,
-    common: &[(String, String)],
-    common_text: &[u8],
-    own: &[(String, String)],
-    value: &Value,
-    time: Option<u128>,
-    exemplar: Option<&Exemplar>,
-) -> Result<(), AllocError>
-    requires { common_text.now ≡ label_list_text (labels_of common.now) }
-    ensures { OnOk result (Grown text.old text.new (sample_row name.now (record {
-      kind = kind;
-      labels = labels_of common.now ++ labels_of own.now;
-      value = value_of value.now;
-      time = time;
-      exemplar = option_map exemplar_at exemplar.entry;
-    }))) }
-{
-    append_sample_line(
-        text,
-        name,
-        kind,
-        common,
-        common_text,
-        own,
-        value,
-        time,
-        exemplar,
-    )?;
-    text.append(b"\n")
 }

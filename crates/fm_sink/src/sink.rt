@@ -1,21 +1,47 @@
 //! Where encoders put the samples of a family.
-ghost use Rattle.std.specs.Prelude.{◌≡◌, ◌++◌, [], ◌∷◌, OnOk, OnErr, IfOk, IfErr};
+ghost use Rattle.std.specs.Prelude.{◌≡◌, ◌++◌, [], ◌∷◌, map, OnOk, OnErr, IfOk, IfErr};
 ghost use Rattle.std.specs.Option.{option_map};
 ghost use Rattle.fm_text.specs.declared.error.EncodeError.{EncodeError};
-ghost use Rattle.fm_text.specs.Samples.{labels_of, value_of, exemplar_of};
+ghost use Rattle.fm_text.specs.Samples.{labels_of, shared_labels, shown_label, value_of, exemplar_of};
 ghost use Rattle.fm_sink.specs.Output.{OutputSamples, OutputText, appended, stored_in, lines_in};
 
+use crate::label_text::LabelText;
 use crate::lines::Lines;
 use fm_grammar::SampleKind;
-use fm_text::{EncodeError, Exemplar, SampleStore, Value};
+use fm_text::{CommonLabels, EncodeError, Exemplar, SampleStore, Value};
 use std::alloc::{AllocError, Global};
 use std::marker::Model;
+use std::mem;
 use std::sync::Arc;
 
 #[derive(Drop)]
 enum Form {
-    Samples(SampleStore),
+    // The samples, and the common labels of the next ones.
+    Samples(SampleStore, LabelText),
     Lines(Lines),
+}
+
+// Labels of their own memory, equal to the lent ones.
+fn owned_labels(alloc: Global, labels: &[(&str, &str)]) -> Result<Vec<(String, String)>, AllocError>
+    ensures { IfOk result (λ owned. labels_of owned.items ≡ map shown_label labels.now) }
+{
+    let mut owned = Vec::new(alloc);
+    for label in labels {
+        owned.push((
+            String::from_str(alloc, label.0)?,
+            String::from_str(alloc, label.1)?,
+        ))?;
+    }
+    Ok(owned)
+}
+
+// The labels, for samples to share.
+fn shared(alloc: Global, labels: &LabelText) -> Result<CommonLabels, AllocError>
+    ensures { IfOk result (λ shared. shared_labels shared ≡ labels.now.labels) }
+{
+    let pairs = labels.pairs(alloc, 0)?;
+    let shared = Arc::new(alloc, owned_labels(alloc, &pairs)?)?;
+    Ok(shared)
 }
 
 /// Keeps samples, or appends their lines to a text.
@@ -23,15 +49,19 @@ enum Form {
 pub struct Sink {
     alloc: Global,
     form: Form,
+    // The memory of the common labels before.
+    spare: LabelText,
 }
 
 impl Model for Sink {
     ghost use Rattle.fm_sink.specs.Output.{SinkState};
-    ghost use Rattle.fm_sink.specs.Forms.{state_of};
+    ghost use Rattle.fm_sink.specs.Forms.{state_of, SharesLabels};
 
     ghost Value = { SinkState };
 
     ghost view = { λ s. state_of s.form };
+
+    ghost invariant = { λ s. SharesLabels s.form };
 }
 
 impl Sink {
@@ -42,7 +72,8 @@ impl Sink {
         let common = Arc::new(alloc, Vec::new(alloc))?;
         Ok(Sink {
             alloc,
-            form: Form::Samples(SampleStore::new(alloc, common)),
+            form: Form::Samples(SampleStore::new(alloc, common), LabelText::new(alloc)),
+            spare: LabelText::new(alloc),
         })
     }
 
@@ -55,40 +86,48 @@ impl Sink {
         Sink {
             alloc,
             form: Form::Lines(lines),
+            spare: LabelText::new(alloc),
         }
     }
 
     /// The labels that the next samples share.
-    pub fn common(&self) -> &[(String, String)]
-        ensures { labels_of result.now ≡ self.now.common }
+    pub fn common(&self) -> &LabelText
+        ensures { result.now.labels ≡ self.now.common }
     {
         match &self.form {
-            Form::Samples(store) => store.common(),
+            Form::Samples(_, common) => common,
             Form::Lines(lines) => lines.common(),
         }
     }
 
+    /// Memory for labels that are to be shared: some labels, of which nothing is known.
+    pub fn take_spare(&mut self) -> LabelText
+        ensures { self.new ≡ self.old }
+    {
+        mem::replace(&mut self.spare, LabelText::new(self.alloc))
+    }
+
     /// Ends the point. The samples of the next points share these labels. Where there is no memory the common labels stay.
-    pub fn share(&mut self, common: Vec<(String, String)>) -> Result<(), AllocError>
+    pub fn share(&mut self, common: LabelText) -> Result<(), AllocError>
         ensures output { self.new.output ≡ self.old.output }
-        ensures common { OnOk result (self.new.common ≡ labels_of common.items) }
+        ensures common { OnOk result (self.new.common ≡ common.labels) }
         ensures kept { OnErr result (self.new ≡ self.old) }
     {
         match &mut self.form {
-            Form::Samples(store) => {
-                let common = Arc::new(self.alloc, common)?;
-                store.share(common);
-                Ok(())
+            Form::Samples(store, before) => {
+                store.share(shared(self.alloc, &common)?);
+                self.spare = mem::replace(before, common);
             }
-            Form::Lines(lines) => lines.share(common),
+            Form::Lines(lines) => self.spare = lines.share(common)?,
         }
+        Ok(())
     }
 
     /// Ends the point: the next sample begins another one, under the same common labels.
     pub fn end_point(&mut self)
         ensures { self.new ≡ self.old }
     {
-        if let Form::Samples(store) = &mut self.form {
+        if let Form::Samples(store, _) = &mut self.form {
             store.end_point();
         }
     }
@@ -101,7 +140,7 @@ impl Sink {
         &mut self,
         name: &str,
         kind: SampleKind,
-        own: Vec<(String, String)>,
+        own: &[(&str, &str)],
         value: Value,
         time: Option<u128>,
         exemplar: Option<Exemplar>,
@@ -109,7 +148,7 @@ impl Sink {
         ensures common { self.new.common ≡ self.old.common }
         ensures pushed { OnOk result (self.new.output ≡ appended name.now self.old.output (record {
           kind = kind;
-          labels = self.old.common ++ labels_of own.items;
+          labels = self.old.common ++ map shown_label own.now;
           value = value_of value;
           time = time;
           exemplar = option_map exemplar_of exemplar;
@@ -117,18 +156,16 @@ impl Sink {
         ensures memory { IfErr result (λ e. e ≡ EncodeError.Memory) }
     {
         match &mut self.form {
-            Form::Samples(store) => store.push(kind, own, value, time, exemplar),
-            Form::Lines(lines) => match lines.push(
-                name,
-                kind,
-                &own,
-                value,
-                time,
-                exemplar.as_ref(),
-            ) {
-                Ok(()) => Ok(()),
+            Form::Samples(store, _) => match owned_labels(self.alloc, own) {
+                Ok(own) => store.push(kind, own, value, time, exemplar),
                 Err(_) => Err(EncodeError::Memory),
             },
+            Form::Lines(lines) => {
+                match lines.push(name, kind, own, value, time, exemplar.as_ref()) {
+                    Ok(()) => Ok(()),
+                    Err(_) => Err(EncodeError::Memory),
+                }
+            }
         }
     }
 
@@ -136,8 +173,9 @@ impl Sink {
     pub fn into_samples(self) -> Option<SampleStore>
         ensures { result ≡ stored_in self }
     {
-        match self.form {
-            Form::Samples(store) => Some(store),
+        let Sink { form, .. } = self;
+        match form {
+            Form::Samples(store, _) => Some(store),
             Form::Lines(_) => None,
         }
     }
@@ -146,8 +184,9 @@ impl Sink {
     pub fn into_lines(self) -> Option<Lines>
         ensures { result ≡ lines_in self }
     {
-        match self.form {
-            Form::Samples(_) => None,
+        let Sink { form, .. } = self;
+        match form {
+            Form::Samples(_, _) => None,
             Form::Lines(lines) => Some(lines),
         }
     }

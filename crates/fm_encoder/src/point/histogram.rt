@@ -14,7 +14,6 @@ ghost use Rattle.fm_encoder.specs.Steps.{PushesSample, PushesSamples};
 ghost use Rattle.fm_encoder.specs.Buckets.{HasBuckets, slots_of, MaySlotsFault, BeginsBuckets, PushesBucket, PushesBuckets};
 
 use crate::exemplar::{EncodeExemplar, exemplar_if_any};
-use crate::label_copies::one_label;
 use crate::point::PointEncoder;
 use fm_bucket::{BUCKET_LABEL, Bound, Bucket};
 use fm_grammar::{MetricType, SampleKind};
@@ -132,11 +131,9 @@ impl PointEncoder {
     {
         let mut buffer = FixedBuffer::new();
         let text = bound.format(&mut buffer);
-        let Ok(own) = one_label(self.alloc, BUCKET_LABEL, text) else {
-            return self.refuse(EncodeError::Memory);
-        };
         let value = Value::Whole(i128::from(values));
-        self.push_labeled(SampleKind::Bucket, own, value, exemplar)
+        let own = [(BUCKET_LABEL, text)];
+        self.push_labeled(SampleKind::Bucket, &own, value, exemplar)
     }
 
     // Adds the samples of how many values a histogram has, of their sum, and of its time of creation.

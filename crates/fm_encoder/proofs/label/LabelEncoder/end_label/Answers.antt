@@ -1,17 +1,14 @@
-use Rattle.std.proofs.Common.{◌≡◌, ◌∙◌, sym, ap, refl, [], ◌∷◌, Option, Some}
-use Rattle.std.proofs.Common.{string_bytes, String, Global}
-use Rattle.std.specs.Option.{option_map}
-use Rattle.fm_encoder.specs.Labels.{pieces_of, NamePiece, ValuePiece}
-use Rattle.fm_encoder.proofs.LabelSetLemmas.{EndsLabel-whole}
+use Rattle.std.proofs.Common.{◌≡◌, ◌∙◌, ℕ, List, Some, sym, ap, subst}
+use Rattle.fm_encoder.specs.Labels.{NameFits}
+use Rattle.fm_encoder.specs.Gathered.{GatheredPieces}
+use Rattle.fm_encoder.proofs.LabelSetLemmas.{EndsLabel-both}
 use Rattle.fm_encoder.proofs.Cases.{none_from_not, ok_from_not}
 use Rattle.fm_encoder.proofs.label.LabelEncoder.end_label.Goals as goal
 
-pub returns-in-Some-Some-clause-ended : goal.returns-in-Some-Some-clause-ended
-returns-in-Some-Some-clause-ended c =
-    let inside = c.self.inside in
-    let named : inside.name ≡ Some c.in-Some-Some.name = sym c.take.ensures.value ∙ c.in-Some-Some.is-0 in
-    let valued : inside.value ≡ Some c.in-Some-Some.value = sym c.take-2.ensures.value ∙ c.in-Some-Some.is-1 in
-    let bytes = λ (o : Option (String Global)). option_map (λ (s : String Global). string_bytes s) o in
-    let whole : pieces_of (bytes inside.name) (bytes inside.value) ≡ NamePiece (string_bytes c.in-Some-Some.name) ∷ ValuePiece (string_bytes c.in-Some-Some.value) ∷ [] = rw (ap bytes named, ap bytes valued) refl in
+pub returns-in-true-true-clause-ended : goal.returns-in-true-true-clause-ended
+returns-in-true-true-clause-ended c =
+    let labels = c.self.inside.labels in
     let w = c.write_label.ensures in
-    rw (← c.self.view_is) (EndsLabel-whole _ _ _ _ _ (ok_from_not _ c.in_default-visited.not-Err) (none_from_not _ c.in_default.not-Some) (c.self.invariant _ (ap bytes named)) whole w.type_kept w.pieces w.labels w.refused)
+    let accepting = ap (λ (p : GatheredPieces). p.refused) (sym c.self.view_is) ∙ none_from_not _ c.in_default.not-Some in
+    let fits = subst (λ (p : GatheredPieces). (n : List ℕ) → labels.name ≡ Some n → NameFits p.metric_type p.labels n) c.self.view_is c.self.invariant in
+    EndsLabel-both _ labels.name labels.value _ _ (ok_from_not _ c.in_default-visited.not-Err) accepting (sym c.is_named.ensures ∙ c.in-true-true.if-is_named-true) (sym c.is_valued.ensures ∙ c.in-true-true.if-is_valued-true) fits (ap (λ (p : GatheredPieces). p.pieces) (sym c.self.view_is)) w.type_kept w.pieces w.labels w.refused

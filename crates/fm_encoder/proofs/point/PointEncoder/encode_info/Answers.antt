@@ -1,13 +1,16 @@
-use Rattle.std.proofs.Common.{◌++◌, subst, ap}
-use Rattle.fm_grammar.specs.WellFormed.{AreLabels}
-use Rattle.fm_text.specs.Samples.{labels_of}
-use Rattle.fm_encoder.specs.Gathered.{GatheredPoints}
-use Rattle.fm_encoder.proofs.NameLemmas.{AreLabels-behind}
+use Rattle.std.proofs.Common.{◌++◌, ℕ, ap, ◌∙◌, drop, length, map}
+use Rattle.fm_text.specs.Samples.{shown_label}
+use Rattle.fm_grammar.specs.Exposition.{Label}
+use Rattle.fm_encoder.specs.Labels.{all_written}
+use Rattle.fm_encoder.proofs.NameLemmas.{AreLabels-behind, own_of_all}
 use Rattle.fm_encoder.proofs.point.PointEncoder.encode_info.Goals as goal
 
 pub push_labeled-requires-clause-labels : goal.push_labeled-requires-clause-labels
-push_labeled-requires-clause-labels g c =
-    let before = c.self.inside.sink.common in
+push_labeled-requires-clause-labels g c = λ h _.
+    (let common = c.take_spare-spare.new.self.common in
+    let handed = g.LS.EncodeLabelSet.labels c.args.labels.now in
+    let all = c.in-Ok.all.labels in
     let behind = rw (c.common.ensures) at c.in-Ok.ensures in
-    subst (λ (p : GatheredPoints). AreLabels (p.common ++ labels_of c.in-Ok.own.items)) c.self.view_is
-    (AreLabels-behind _ before _ (g.LS.EncodeLabelSet.labels c.args.labels.now) c.self.invariant.labels behind.0 (ap (λ ls. before ++ ls) behind.1))
+    let count = c.len.ensures ∙ ap length c.common-2.ensures in
+    let own = ap (map shown_label) c.deref.ensures.value ∙ (c.in-Ok-pairs.ensures ∙ (ap (λ (n : ℕ). drop n all) count ∙ own_of_all common all (all_written handed) behind.1)) in
+    AreLabels-behind _ common _ handed h behind.0 (ap (λ ls. common ++ ls) own))

@@ -1,0 +1,19 @@
+use Rattle.std.proofs.Common.{◌≡◌, List, [], subst, sym, ◌∙◌}
+use Rattle.fm_grammar.specs.Exposition.{Label}
+use Rattle.fm_text.specs.Samples.{labels_of}
+use Rattle.fm_encoder.specs.Labels.{LabelsClean, handed_again}
+use Rattle.fm_encoder.proofs.LabelsLemmas.{written_again}
+use Rattle.fm_encoder.proofs.constants.ConstantLabels.new.Goals as goal
+
+pub invariant_of-result : goal.invariant_of-result
+invariant_of-result c =
+    let same = c.in-Ok.ensures.1 ∙ written_again (labels_of c.args.labels.now) in
+    record {
+      clean = λ _. subst (λ (ls : List Label). LabelsClean c.args.metric_type [] (handed_again ls)) (sym same) c.in-Ok.ensures.0;
+      fault = λ k some. absurd cc;
+    }
+
+pub returns-in-Ok-clause-made : goal.returns-in-Ok-clause-made
+returns-in-Ok-clause-made c =
+    let same = c.in-Ok.ensures.1 ∙ written_again (labels_of c.args.labels.now) in
+    λ i. record { metric_type = c.args.metric_type; labels = same i }

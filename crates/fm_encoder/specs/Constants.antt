@@ -1,0 +1,16 @@
+-- The constant labels of a family.
+use Rattle.std.specs.Prelude.{◌≡◌, List, [], Option, Some, None}
+use Rattle.fm_grammar.specs.declared.MetricType.{MetricType}
+use Rattle.fm_grammar.specs.Exposition.{Label}
+use Rattle.fm_text.specs.declared.error.EncodeError.{EncodeError}
+use Rattle.fm_encoder.specs.Labels.{LabelsClean, LabelsFault, handed_again}
+
+-- the family's type, and its constant labels
+pub record FamilyConstants : Type 0 where
+  pub metric_type : MetricType
+  pub labels : List Label
+
+-- the labels were tested: they may stand in a family of the type, or this is why they may not
+pub record AreTested (type : MetricType) (labels : List Label) (refusal : Option EncodeError) : Type 0 where
+  pub clean : refusal ≡ None → LabelsClean type [] (handed_again labels)
+  pub fault : (k : EncodeError) → refusal ≡ Some k → LabelsFault k type [] (handed_again labels)

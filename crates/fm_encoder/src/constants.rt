@@ -1,0 +1,119 @@
+// The constant labels of a family.
+ghost use Rattle.std.specs.Prelude.{◌≡◌, ◌⊎◌, ◌++◌, [], ◌∷◌, None, OnOk, IfOk, IfErr, MatchResult};
+ghost use Rattle.fm_text.specs.declared.error.EncodeError.{EncodeError};
+ghost use Rattle.fm_text.specs.Samples.{label_of, labels_of};
+ghost use Rattle.fm_encoder.specs.Labels.{LabelsClean, LabelsFault, all_written, handed_again};
+ghost use Rattle.fm_encoder.specs.Gathered.{OwnRefusal};
+
+use crate::gathered::labels_behind;
+use crate::label::LabelSetEncoder;
+use crate::label_set::{EncodeLabelSet, encode_written};
+use fm_grammar::MetricType;
+use fm_sink::LabelText;
+use fm_text::EncodeError;
+use std::alloc::{AllocError, Global};
+use std::marker::Model;
+
+// Adds a label without a test.
+fn push_label(text: &mut LabelText, label: &(String, String)) -> Result<(), AllocError>
+    ensures { OnOk result (text.new ≡ record {
+      labels = text.old.labels ++ label_of label.now ∷ [];
+      name = None;
+      value = None;
+    }) }
+{
+    text.set_name(label.0.as_str())?;
+    text.set_value(label.1.as_str())?;
+    text.end_label()
+}
+
+// Copies of the labels, without a test.
+fn copied(alloc: Global, labels: &[(String, String)]) -> Result<LabelText, AllocError>
+    ensures { IfOk result (λ text. text.labels ≡ labels_of labels.now) }
+{
+    let mut text = LabelText::new(alloc);
+    for label in labels {
+        push_label(&mut text, label)?;
+    }
+    Ok(text)
+}
+
+// Copies of the labels, where each of them may stand in a family of this type.
+fn tested(
+    alloc: Global,
+    metric_type: MetricType,
+    labels: &[(String, String)],
+) -> Result<LabelText, EncodeError>
+    ensures { MatchResult result
+        (λ ls. LabelsClean metric_type [] (handed_again (labels_of labels.now)) × (ls.labels ≡ all_written (handed_again (labels_of labels.now))))
+        (λ k. OwnRefusal ⊥ k ⊎ LabelsFault k metric_type [] (handed_again (labels_of labels.now))) }
+{
+    let mut encoder = LabelSetEncoder::behind(metric_type, LabelText::new(alloc));
+    let visited = encode_written(labels, &mut encoder);
+    encoder.end(visited)
+}
+
+// The constant labels of a family, which are tested once.
+#[derive(Drop)]
+pub(crate) struct ConstantLabels {
+    metric_type: MetricType,
+    labels: LabelText,
+    // Why no point may stand under them, where one of them isn't clean.
+    refusal: Option<EncodeError>,
+}
+
+impl Model for ConstantLabels {
+    ghost use Rattle.fm_encoder.specs.Constants.{FamilyConstants, AreTested};
+
+    ghost Value = { FamilyConstants };
+
+    ghost view = { λ c. record { metric_type = c.metric_type; labels = c.labels.labels } };
+
+    ghost invariant = { λ c. AreTested c.metric_type c.labels.labels c.refusal };
+}
+
+impl ConstantLabels {
+    // Copies of these labels, for a family of this type.
+    pub(crate) fn new(
+        alloc: Global,
+        metric_type: MetricType,
+        labels: &[(String, String)],
+    ) -> Result<ConstantLabels, EncodeError>
+        ensures made { IfOk result (λ constants. constants ≡ record { metric_type = metric_type; labels = labels_of labels.now }) }
+        ensures memory { IfErr result (λ e. e ≡ EncodeError.Memory) }
+    {
+        match tested(alloc, metric_type, labels) {
+            Ok(labels) => Ok(ConstantLabels {
+                metric_type,
+                labels,
+                refusal: None,
+            }),
+            Err(EncodeError::Memory) => Err(EncodeError::Memory),
+            Err(error) => match copied(alloc, labels) {
+                Ok(labels) => Ok(ConstantLabels {
+                    metric_type,
+                    labels,
+                    refusal: Some(error),
+                }),
+                Err(_) => Err(EncodeError::Memory),
+            },
+        }
+    }
+
+    // The constant labels and these behind them, each of them clean. They take the memory of `text`.
+    pub(crate) fn followed_by<LS: EncodeLabelSet>(
+        &self,
+        text: LabelText,
+        labels: &LS,
+    ) -> Result<LabelText, EncodeError>
+        ensures { let all = handed_again self.now.labels ++ LS.labels labels.now in
+            MatchResult result
+            (λ ls. LabelsClean self.now.metric_type [] all × (ls.labels ≡ all_written all))
+            (λ k. OwnRefusal (LS.may_fault labels.now) k ⊎ LabelsFault k self.now.metric_type [] all) }
+    {
+        if let Some(error) = self.refusal {
+            return Err(error);
+        }
+        labels_behind(text, self.metric_type, &self.labels, labels)
+    }
+}

@@ -1,0 +1,10 @@
+use Rattle.std.proofs.Common.{ap}
+use Rattle.fm_text.proofs.ResultLemmas.{on_ok_more}
+use Rattle.fm_sink.specs.LabelTexts.{label_in, labels_in}
+use Rattle.fm_sink.proofs.GrownLemmas.{list_whole}
+use Rattle.fm_sink.proofs.label_list.append_placed_list.Goals as goal
+
+pub returns-in-Some : goal.returns-in-Some
+returns-in-Some c =
+    let raw = c.args.raw.now in
+    on_ok_more c.append_first_place.result _ _ (λ g. list_whole _ _ (label_in raw c.in-Some.first.now) (labels_in raw c.in-Some.others.now) _ (ap (labels_in raw) c.in-Some.ensures.cases.0) g) c.append_first_place.ensures

@@ -1,0 +1,14 @@
+use Rattle.std.proofs.Common.{ap, ◌∙◌, Some}
+use Rattle.fm_sink.specs.LabelTexts.{LabelsState}
+use Rattle.fm_sink.proofs.LabelTextLemmas.{parts_valued, shown_valued}
+use Rattle.fm_sink.proofs.label_text.LabelText.set_value.Goals as goal
+
+pub invariant_of-self-2 : goal.invariant_of-self-2
+invariant_of-self-2 c =
+    let e = c.in_ok-append_part.ensures in
+    parts_valued _ _ _ _ _ _ _ e.grown c.self.invariant e.part.0
+
+pub returns-clause-set : goal.returns-clause-set
+returns-clause-set c =
+    let e = c.in_ok-append_part.ensures in
+    shown_valued _ _ _ _ _ _ c.in_ok-append_part.field-0 _ e.grown c.self.invariant e.part.1 ∙ ap (λ (l : LabelsState). record l { value = Some c.args.value.now }) c.self.view_is

@@ -1,0 +1,263 @@
+//! Labels in one text.
+ghost use Rattle.std.specs.Prelude.{◌≡◌, ◌++◌, ◌≤◌, ◌↔◌, IsTrue, [], ◌∷◌, length, drop, map, Contains, OnOk, OnErr, IfOk, Some, None, is_some};
+ghost use Rattle.std.specs.Option.{option_map};
+ghost use Rattle.std.specs.List.{AllByRecursion};
+ghost use Rattle.fm_grammar.specs.Spelling.{label_list_text};
+ghost use Rattle.fm_text.specs.Samples.{shown_label};
+ghost use Rattle.fm_sink.specs.Grown.{Grown};
+ghost use Rattle.fm_sink.specs.LabelTexts.{part_in, label_in, labels_in, IsPart, IsPlace, names_in, whole_label, whole_place};
+
+use crate::growing::GrowingText;
+use crate::label_list::append_placed_list;
+use std::alloc::{AllocError, Global};
+use std::marker::Model;
+
+/// Where a name or a value stands in a text.
+#[derive(Clone, Copy, Debug)]
+pub(crate) struct Part {
+    pub(crate) start: usize,
+    pub(crate) end: usize,
+}
+
+/// Where a label stands in a text.
+#[derive(Clone, Copy, Debug)]
+pub(crate) struct Place {
+    pub(crate) name: Part,
+    pub(crate) value: Part,
+}
+
+// Appends a name or a value, and answers where it stands.
+fn append_part(text: &mut GrowingText, part: &str) -> Result<Part, AllocError>
+    ensures grown { OnOk result (Grown text.old text.new part.now) }
+    ensures part { IfOk result (λ p. IsPart text.new p × (part_in text.new p ≡ part.now)) }
+    ensures kept { OnErr result (text.new ≡ text.old) }
+{
+    let start = text.as_slice().len();
+    text.append(part.as_bytes())?;
+    Ok(Part {
+        start,
+        end: text.as_slice().len(),
+    })
+}
+
+// The bytes of a name or a value.
+fn part_at(text: &[u8], part: Part) -> &[u8]
+    requires { IsPart text.now part }
+    ensures { result.now ≡ part_in text.now part }
+{
+    &text[part.start..part.end]
+}
+
+// The text of a name or a value.
+fn str_at(text: &[u8], part: Part) -> &str
+    requires { IsPart text.now part }
+    ensures { result.now ≡ part_in text.now part }
+{
+    match str::from_utf8(part_at(text, part)) {
+        Ok(found) => found,
+        Err(_) => unreachable!(),
+    }
+}
+
+// Whether one of the labels has this name.
+fn is_named(text: &[u8], place: &Place, name: &[u8]) -> bool
+    requires { IsPlace text.now place.now }
+    ensures { IsTrue result ↔ ((label_in text.now place.now).name ≡ name.now) }
+{
+    part_at(text, place.name) == name
+}
+
+// Whether one of the labels has this name.
+fn has_name(text: &[u8], places: &[Place], name: &[u8]) -> bool
+    requires { AllByRecursion (IsPlace text.now) places.now }
+    ensures { IsTrue result ↔ Contains (names_in text.now places.now) name.now }
+{
+    for place in places {
+        if is_named(text, place, name) {
+            return true;
+        }
+    }
+    false
+}
+
+// Adds the place of a label that has a name and a value.
+fn push_place(
+    places: &mut Vec<Place>,
+    name: Option<Part>,
+    value: Option<Part>,
+) -> Result<(), AllocError>
+    ensures pushed { OnOk result (places.new.items ≡ places.old.items ++ whole_place name value) }
+    ensures kept { OnErr result (places.new.items ≡ places.old.items) }
+{
+    match (name, value) {
+        (Some(name), Some(value)) => {
+            places.push(Place { name, value })?;
+            Ok(())
+        }
+        _ => Ok(()),
+    }
+}
+
+// Puts these places in place of others, or none where there is no memory.
+fn replace_places(places: &mut Vec<Place>, others: &[Place]) -> Result<(), AllocError>
+    ensures replaced { OnOk result (places.new.items ≡ others.now) }
+    ensures none { OnErr result (places.new.items ≡ []) }
+{
+    places.clear();
+    places.extend_from_slice(others)
+}
+
+// The names and values of the labels.
+fn pairs_at<'a>(
+    alloc: Global,
+    text: &'a [u8],
+    places: &[Place],
+) -> Result<Vec<(&'a str, &'a str)>, AllocError>
+    requires { AllByRecursion (IsPlace text.now) places.now }
+    ensures { IfOk result (λ pairs. map shown_label pairs.items ≡ labels_in text.now places.now) }
+{
+    let mut pairs = Vec::new(alloc);
+    for place in places {
+        pairs.push((str_at(text, place.name), str_at(text, place.value)))?;
+    }
+    Ok(pairs)
+}
+
+/// Labels in one text, and the name and the value of a label under way.
+#[derive(Drop)]
+pub struct LabelText {
+    // The names and values as they are, one behind the other.
+    text: GrowingText,
+    places: Vec<Place>,
+    // Those of the label under way.
+    name: Option<Part>,
+    value: Option<Part>,
+}
+
+impl Model for LabelText {
+    ghost use Rattle.std.specs.Option.{option_map};
+    ghost use Rattle.fm_sink.specs.LabelTexts.{LabelsState, labels_in, part_in, AreParts};
+
+    ghost Value = { LabelsState };
+
+    ghost view = { λ l. record {
+      labels = labels_in l.text l.places.items;
+      name = option_map (part_in l.text) l.name;
+      value = option_map (part_in l.text) l.value;
+    } };
+
+    ghost invariant = { λ l. AreParts l.text l.places.items l.name l.value };
+}
+
+impl LabelText {
+    /// No labels.
+    pub fn new(alloc: Global) -> LabelText
+        ensures { result ≡ record { labels = []; name = None; value = None } }
+    {
+        LabelText {
+            text: GrowingText::new(alloc),
+            places: Vec::new(alloc),
+            name: None,
+            value: None,
+        }
+    }
+
+    /// How many labels there are.
+    pub fn len(&self) -> usize
+        ensures { result ≡ length self.now.labels }
+    {
+        self.places.len()
+    }
+
+    /// Whether the label under way has a name.
+    pub fn is_named(&self) -> bool
+        ensures { result ≡ is_some self.now.name }
+    {
+        self.name.is_some()
+    }
+
+    /// Whether the label under way has a value.
+    pub fn is_valued(&self) -> bool
+        ensures { result ≡ is_some self.now.value }
+    {
+        self.value.is_some()
+    }
+
+    /// Whether one of the labels has this name.
+    pub fn has_name(&self, name: &str) -> bool
+        ensures { IsTrue result ↔ Contains (map (λ label. label.name) self.now.labels) name.now }
+    {
+        has_name(self.text.as_slice(), &self.places, name.as_bytes())
+    }
+
+    /// Removes all labels, and keeps the memory for further ones.
+    pub fn clear(&mut self)
+        ensures { self.new ≡ record { labels = []; name = None; value = None } }
+    {
+        self.text.clear();
+        self.places.clear();
+        self.name = None;
+        self.value = None;
+    }
+
+    /// Takes copies of these labels in place of its own. It may find no memory; then it has any labels.
+    pub fn assign(&mut self, labels: &LabelText) -> Result<(), AllocError>
+        ensures { OnOk result (self.new ≡ record { labels = labels.now.labels; name = None; value = None }) }
+    {
+        self.places.clear();
+        self.name = None;
+        self.value = None;
+        self.text.clear();
+        self.text.append(labels.text.as_slice())?;
+        replace_places(&mut self.places, labels.places.as_slice())
+    }
+
+    /// Begins a label with this name. It may find no memory; then nothing changes.
+    pub fn set_name(&mut self, name: &str) -> Result<(), AllocError>
+        ensures set { OnOk result (self.new ≡ record self.old { name = Some name.now }) }
+        ensures kept { OnErr result (self.new ≡ self.old) }
+    {
+        self.name = Some(append_part(&mut self.text, name)?);
+        Ok(())
+    }
+
+    /// Gives the label under way this value. It may find no memory; then nothing changes.
+    pub fn set_value(&mut self, value: &str) -> Result<(), AllocError>
+        ensures set { OnOk result (self.new ≡ record self.old { value = Some value.now }) }
+        ensures kept { OnErr result (self.new ≡ self.old) }
+    {
+        self.value = Some(append_part(&mut self.text, value)?);
+        Ok(())
+    }
+
+    /// Ends the label under way: one that has a name and a value is the last of the labels, another one is forgotten. It may find
+    /// no memory; then nothing changes.
+    pub fn end_label(&mut self) -> Result<(), AllocError>
+        ensures ended { OnOk result (self.new ≡ record {
+          labels = self.old.labels ++ whole_label self.old.name self.old.value;
+          name = None;
+          value = None;
+        }) }
+        ensures kept { OnErr result (self.new ≡ self.old) }
+    {
+        push_place(&mut self.places, self.name, self.value)?;
+        self.name = None;
+        self.value = None;
+        Ok(())
+    }
+
+    /// The labels from an index on, lent as pairs. It may find no memory.
+    pub fn pairs(&self, alloc: Global, from: usize) -> Result<Vec<(&str, &str)>, AllocError>
+        requires { from ≤ length self.now.labels }
+        ensures { IfOk result (λ pairs. map shown_label pairs.items ≡ drop from self.now.labels) }
+    {
+        pairs_at(alloc, self.text.as_slice(), &self.places[from..])
+    }
+
+    /// Appends the labels with commas between them. It may find no memory.
+    pub(crate) fn append_to(&self, text: &mut GrowingText) -> Result<(), AllocError>
+        ensures { OnOk result (Grown text.old text.new (label_list_text self.now.labels)) }
+    {
+        append_placed_list(text, self.text.as_slice(), &self.places)
+    }
+}
