@@ -1,2 +1,3 @@
 pub mod GrownLemmas
 pub mod OutputLemmas
+pub mod PartLemmas

@@ -7,7 +7,7 @@ ghost use Rattle.fm_sink.specs.Grown.{Grown};
 
 use crate::growing::GrowingText;
 use crate::heads::append_heads;
-use crate::rendering::{append_label_list, append_sample_row};
+use crate::rendering::{append_sample_row, render_label_list};
 use fm_grammar::{MetricType, SampleKind};
 use fm_text::{Exemplar, Value};
 use std::alloc::{AllocError, Global};
@@ -108,8 +108,7 @@ impl Lines {
         ensures common { OnOk result (self.new.common ≡ labels_of common.items) }
         ensures kept { OnErr result (self.new ≡ self.old) }
     {
-        self.spare.clear();
-        append_label_list(&mut self.spare, &common)?;
+        render_label_list(&mut self.spare, &common)?;
         mem::swap(&mut self.common_text, &mut self.spare);
         self.common = common;
         Ok(())
@@ -139,7 +138,7 @@ impl Lines {
             name,
             kind,
             &self.common,
-            self.common_text.as_slice(),
+            &self.common_text,
             own,
             &value,
             time,
