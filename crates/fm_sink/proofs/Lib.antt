@@ -1,3 +1,4 @@
 pub mod GrownLemmas
 pub mod OutputLemmas
 pub mod LabelTextLemmas
+pub mod PartLemmas

@@ -1,5 +1,5 @@
 // A text that grows.
-ghost use Rattle.std.specs.Prelude.{◌≡◌, ◌≤◌, [], length, take, OnOk, OnErr};
+ghost use Rattle.std.specs.Prelude.{◌≡◌, ◌≤◌, [], length, take, IfOk, OnOk, OnErr};
 ghost use Rattle.fm_sink.specs.Grown.{Grown};
 
 use std::alloc::{AllocError, Global};
@@ -48,6 +48,15 @@ impl GrowingText {
             bytes: Vec::new(alloc),
             end: 0,
         }
+    }
+
+    /// A text of nothing, with room for so many bytes. It may find no memory.
+    pub fn with_room(alloc: Global, room: usize) -> Result<GrowingText, AllocError>
+        ensures { IfOk result (λ text. text ≡ []) }
+    {
+        let mut bytes = Vec::new(alloc);
+        bytes.resize(room, 0)?;
+        Ok(GrowingText { bytes, end: 0 })
     }
 
     /// The bytes so far.

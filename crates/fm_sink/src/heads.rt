@@ -1,83 +1,87 @@
-// The lines of a family that stand before its samples, appended to a text that grows.
+// The lines of a family that stand before its samples, appended to an output.
 ghost use Rattle.std.specs.Prelude.{◌≡◌, [], OnOk};
 ghost use Rattle.std.specs.Option.{option_copied};
 ghost use Rattle.fm_grammar.specs.Spelling.{type_line, help_line, unit_line};
 ghost use Rattle.fm_text.specs.Rows.{ended, unit_row, head_rows};
-ghost use Rattle.fm_sink.specs.Grown.{Grown};
+ghost use Rattle.fm_sink.specs.Grown.{Grows};
 
-use crate::growing::GrowingText;
+use crate::output::Output;
 use crate::rendering::append_escaped;
 use fm_grammar::MetricType;
 use std::alloc::AllocError;
 
 // Appends a type line without its line feed.
 #[tactic(auto, using(crate::proofs::GrownLemmas::grown), unfolding(fm_grammar::specs::Spelling::type_line))]
-fn append_type_line(
-    text: &mut GrowingText,
+fn append_type_line<O: Output>(
+    text: &mut O,
     name: &str,
     metric_type: MetricType,
 ) -> Result<(), AllocError>
-    ensures { OnOk result (Grown text.old text.new (type_line name.now metric_type)) }
+    ensures { OnOk result (Grows (O.stands_for text.old) (O.stands_for text.new) (type_line name.now metric_type)) }
 {
-    text.append(b"# TYPE ")?;
-    text.append(name.as_bytes())?;
-    text.append(b" ")?;
-    text.append(metric_type.as_str().as_bytes())
+    text.put(b"# TYPE ")?;
+    text.put(name.as_bytes())?;
+    text.put(b" ")?;
+    text.put(metric_type.as_str().as_bytes())
 }
 
 // Appends a help line without its line feed.
 #[tactic(auto, using(crate::proofs::GrownLemmas::grown), unfolding(fm_grammar::specs::Spelling::help_line))]
-fn append_help_line(text: &mut GrowingText, name: &str, help: &str) -> Result<(), AllocError>
-    ensures { OnOk result (Grown text.old text.new (help_line name.now help.now)) }
+fn append_help_line<O: Output>(text: &mut O, name: &str, help: &str) -> Result<(), AllocError>
+    ensures { OnOk result (Grows (O.stands_for text.old) (O.stands_for text.new) (help_line name.now help.now)) }
 {
-    text.append(b"# HELP ")?;
-    text.append(name.as_bytes())?;
-    text.append(b" ")?;
+    text.put(b"# HELP ")?;
+    text.put(name.as_bytes())?;
+    text.put(b" ")?;
     append_escaped(text, help.as_bytes())
 }
 
 // Appends a unit line without its line feed.
 #[tactic(auto, using(crate::proofs::GrownLemmas::grown), unfolding(fm_grammar::specs::Spelling::unit_line))]
-fn append_unit_line(text: &mut GrowingText, name: &str, unit: &str) -> Result<(), AllocError>
-    ensures { OnOk result (Grown text.old text.new (unit_line name.now unit.now)) }
+fn append_unit_line<O: Output>(text: &mut O, name: &str, unit: &str) -> Result<(), AllocError>
+    ensures { OnOk result (Grows (O.stands_for text.old) (O.stands_for text.new) (unit_line name.now unit.now)) }
 {
-    text.append(b"# UNIT ")?;
-    text.append(name.as_bytes())?;
-    text.append(b" ")?;
-    text.append(unit.as_bytes())
+    text.put(b"# UNIT ")?;
+    text.put(name.as_bytes())?;
+    text.put(b" ")?;
+    text.put(unit.as_bytes())
 }
 
 // Appends a type line.
 #[tactic(auto, using(crate::proofs::GrownLemmas::grown))]
-fn append_type_row(
-    text: &mut GrowingText,
+fn append_type_row<O: Output>(
+    text: &mut O,
     name: &str,
     metric_type: MetricType,
 ) -> Result<(), AllocError>
-    ensures { OnOk result (Grown text.old text.new (ended (type_line name.now metric_type))) }
+    ensures { OnOk result (Grows (O.stands_for text.old) (O.stands_for text.new) (ended (type_line name.now metric_type))) }
 {
     append_type_line(text, name, metric_type)?;
-    text.append(b"\n")
+    text.put(b"\n")
 }
 
 // Appends a help line.
 #[tactic(auto, using(crate::proofs::GrownLemmas::grown))]
-fn append_help_row(text: &mut GrowingText, name: &str, help: &str) -> Result<(), AllocError>
-    ensures { OnOk result (Grown text.old text.new (ended (help_line name.now help.now))) }
+fn append_help_row<O: Output>(text: &mut O, name: &str, help: &str) -> Result<(), AllocError>
+    ensures { OnOk result (Grows (O.stands_for text.old) (O.stands_for text.new) (ended (help_line name.now help.now))) }
 {
     append_help_line(text, name, help)?;
-    text.append(b"\n")
+    text.put(b"\n")
 }
 
 // Appends a unit line, and nothing for no unit.
 #[tactic(auto, using(crate::proofs::GrownLemmas::grown))]
-fn append_unit_row(text: &mut GrowingText, name: &str, unit: Option<&str>) -> Result<(), AllocError>
-    ensures { OnOk result (Grown text.old text.new (unit_row name.now (option_copied unit.entry))) }
+fn append_unit_row<O: Output>(
+    text: &mut O,
+    name: &str,
+    unit: Option<&str>,
+) -> Result<(), AllocError>
+    ensures { OnOk result (Grows (O.stands_for text.old) (O.stands_for text.new) (unit_row name.now (option_copied unit.entry))) }
 {
     match unit {
         Some(unit) => {
             append_unit_line(text, name, unit)?;
-            text.append(b"\n")
+            text.put(b"\n")
         }
         None => Ok(()),
     }
@@ -85,14 +89,14 @@ fn append_unit_row(text: &mut GrowingText, name: &str, unit: Option<&str>) -> Re
 
 // Appends the lines of a family that stand before its samples.
 #[tactic(auto, using(crate::proofs::GrownLemmas::grown))]
-pub(crate) fn append_heads(
-    text: &mut GrowingText,
+pub(crate) fn append_heads<O: Output>(
+    text: &mut O,
     name: &str,
     metric_type: MetricType,
     help: &str,
     unit: Option<&str>,
 ) -> Result<(), AllocError>
-    ensures { OnOk result (Grown text.old text.new (head_rows (record {
+    ensures { OnOk result (Grows (O.stands_for text.old) (O.stands_for text.new) (head_rows (record {
       name = name.now;
       metric_type = metric_type;
       help = help.now;

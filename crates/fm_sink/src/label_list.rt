@@ -1,40 +1,40 @@
-// The texts of labels, appended to a text that grows.
+// The texts of labels in one text, appended to an output.
 ghost use Rattle.std.specs.Prelude.{◌≡◌, ◌++◌, map, OnOk};
 ghost use Rattle.std.specs.List.{AllByRecursion};
 ghost use Rattle.fm_grammar.specs.Spelling.{label_text, label_list_text, in_braces, label_block_text};
 ghost use Rattle.fm_text.specs.Rows.{further_label, further_labels};
 ghost use Rattle.fm_text.specs.Samples.{shown_label};
-ghost use Rattle.fm_sink.specs.Grown.{Grown};
+ghost use Rattle.fm_sink.specs.Grown.{Grows};
 ghost use Rattle.fm_sink.specs.LabelTexts.{label_in, labels_in, IsPlace};
 
-use crate::growing::GrowingText;
 use crate::label_text::{LabelText, Place};
+use crate::output::Output;
 use crate::rendering::append_escaped;
 use std::alloc::AllocError;
 
 // Appends a label.
 #[tactic(auto, using(crate::proofs::GrownLemmas::grown), unfolding(fm_grammar::specs::Spelling::label_text))]
-fn append_label(text: &mut GrowingText, name: &[u8], value: &[u8]) -> Result<(), AllocError>
-    ensures { OnOk result (Grown text.old text.new (label_text (record { name = name.now; value = value.now }))) }
+fn append_label<O: Output>(text: &mut O, name: &[u8], value: &[u8]) -> Result<(), AllocError>
+    ensures { OnOk result (Grows (O.stands_for text.old) (O.stands_for text.new) (label_text (record { name = name.now; value = value.now }))) }
 {
-    text.append(name)?;
-    text.append(b"=\"")?;
+    text.put(name)?;
+    text.put(b"=\"")?;
     append_escaped(text, value)?;
-    text.append(b"\"")
+    text.put(b"\"")
 }
 
 // Appends a comma and a label.
 #[tactic(auto, using(crate::proofs::GrownLemmas::grown))]
-fn append_further_label(text: &mut GrowingText, name: &[u8], value: &[u8]) -> Result<(), AllocError>
-    ensures { OnOk result (Grown text.old text.new (further_label (record { name = name.now; value = value.now }))) }
+fn append_further_label<O: Output>(text: &mut O, name: &[u8], value: &[u8]) -> Result<(), AllocError>
+    ensures { OnOk result (Grows (O.stands_for text.old) (O.stands_for text.new) (further_label (record { name = name.now; value = value.now }))) }
 {
-    text.append(b",")?;
+    text.put(b",")?;
     append_label(text, name, value)
 }
 
 // Appends labels with a comma before each.
-fn append_further_labels(text: &mut GrowingText, labels: &[(&str, &str)]) -> Result<(), AllocError>
-    ensures { OnOk result (Grown text.old text.new (further_labels (map shown_label labels.now))) }
+fn append_further_labels<O: Output>(text: &mut O, labels: &[(&str, &str)]) -> Result<(), AllocError>
+    ensures { OnOk result (Grows (O.stands_for text.old) (O.stands_for text.new) (further_labels (map shown_label labels.now))) }
 {
     for label in labels {
         append_further_label(text, label.0.as_bytes(), label.1.as_bytes())?;
@@ -44,12 +44,12 @@ fn append_further_labels(text: &mut GrowingText, labels: &[(&str, &str)]) -> Res
 
 // Appends a label, and others with a comma before each.
 #[tactic(auto, using(crate::proofs::GrownLemmas::grown))]
-fn append_first(
-    text: &mut GrowingText,
+fn append_first<O: Output>(
+    text: &mut O,
     first: &(&str, &str),
     others: &[(&str, &str)],
 ) -> Result<(), AllocError>
-    ensures { OnOk result (Grown text.old text.new (label_text (shown_label first.now) ++ further_labels (map shown_label others.now))) }
+    ensures { OnOk result (Grows (O.stands_for text.old) (O.stands_for text.new) (label_text (shown_label first.now) ++ further_labels (map shown_label others.now))) }
 {
     append_label(text, first.0.as_bytes(), first.1.as_bytes())?;
     append_further_labels(text, others)
@@ -57,8 +57,8 @@ fn append_first(
 
 // Appends labels with commas between them.
 #[tactic(auto, using(crate::proofs::GrownLemmas::grown))]
-fn append_label_list(text: &mut GrowingText, labels: &[(&str, &str)]) -> Result<(), AllocError>
-    ensures { OnOk result (Grown text.old text.new (label_list_text (map shown_label labels.now))) }
+fn append_label_list<O: Output>(text: &mut O, labels: &[(&str, &str)]) -> Result<(), AllocError>
+    ensures { OnOk result (Grows (O.stands_for text.old) (O.stands_for text.new) (label_list_text (map shown_label labels.now))) }
 {
     match labels.split_first() {
         Some((first, others)) => append_first(text, first, others),
@@ -67,9 +67,9 @@ fn append_label_list(text: &mut GrowingText, labels: &[(&str, &str)]) -> Result<
 }
 
 // Appends a label that stands in another text.
-fn append_placed(text: &mut GrowingText, raw: &[u8], place: &Place) -> Result<(), AllocError>
+fn append_placed<O: Output>(text: &mut O, raw: &[u8], place: &Place) -> Result<(), AllocError>
     requires { IsPlace raw.now place.now }
-    ensures { OnOk result (Grown text.old text.new (label_text (label_in raw.now place.now))) }
+    ensures { OnOk result (Grows (O.stands_for text.old) (O.stands_for text.new) (label_text (label_in raw.now place.now))) }
 {
     append_label(
         text,
@@ -80,26 +80,26 @@ fn append_placed(text: &mut GrowingText, raw: &[u8], place: &Place) -> Result<()
 
 // Appends a comma and a label that stands in another text.
 #[tactic(auto, using(crate::proofs::GrownLemmas::grown))]
-fn append_further_placed(
-    text: &mut GrowingText,
+fn append_further_placed<O: Output>(
+    text: &mut O,
     raw: &[u8],
     place: &Place,
 ) -> Result<(), AllocError>
     requires { IsPlace raw.now place.now }
-    ensures { OnOk result (Grown text.old text.new (further_label (label_in raw.now place.now))) }
+    ensures { OnOk result (Grows (O.stands_for text.old) (O.stands_for text.new) (further_label (label_in raw.now place.now))) }
 {
-    text.append(b",")?;
+    text.put(b",")?;
     append_placed(text, raw, place)
 }
 
 // Appends labels that stand in another text, with a comma before each.
-fn append_further_places(
-    text: &mut GrowingText,
+fn append_further_places<O: Output>(
+    text: &mut O,
     raw: &[u8],
     places: &[Place],
 ) -> Result<(), AllocError>
     requires { AllByRecursion (IsPlace raw.now) places.now }
-    ensures { OnOk result (Grown text.old text.new (further_labels (labels_in raw.now places.now))) }
+    ensures { OnOk result (Grows (O.stands_for text.old) (O.stands_for text.new) (further_labels (labels_in raw.now places.now))) }
 {
     for place in places {
         append_further_placed(text, raw, place)?;
@@ -109,15 +109,15 @@ fn append_further_places(
 
 // Appends a label that stands in another text, and others with a comma before each.
 #[tactic(auto, using(crate::proofs::GrownLemmas::grown))]
-fn append_first_place(
-    text: &mut GrowingText,
+fn append_first_place<O: Output>(
+    text: &mut O,
     raw: &[u8],
     first: &Place,
     others: &[Place],
 ) -> Result<(), AllocError>
     requires first { IsPlace raw.now first.now }
     requires others { AllByRecursion (IsPlace raw.now) others.now }
-    ensures { OnOk result (Grown text.old text.new (label_text (label_in raw.now first.now) ++ further_labels (labels_in raw.now others.now))) }
+    ensures { OnOk result (Grows (O.stands_for text.old) (O.stands_for text.new) (label_text (label_in raw.now first.now) ++ further_labels (labels_in raw.now others.now))) }
 {
     append_placed(text, raw, first)?;
     append_further_places(text, raw, others)
@@ -125,13 +125,13 @@ fn append_first_place(
 
 // Appends labels that stand in another text, with commas between them.
 #[tactic(auto, using(crate::proofs::GrownLemmas::grown))]
-pub(crate) fn append_placed_list(
-    text: &mut GrowingText,
+pub(crate) fn append_placed_list<O: Output>(
+    text: &mut O,
     raw: &[u8],
     places: &[Place],
 ) -> Result<(), AllocError>
     requires { AllByRecursion (IsPlace raw.now) places.now }
-    ensures { OnOk result (Grown text.old text.new (label_list_text (labels_in raw.now places.now))) }
+    ensures { OnOk result (Grows (O.stands_for text.old) (O.stands_for text.new) (label_list_text (labels_in raw.now places.now))) }
 {
     match places.split_first() {
         Some((first, others)) => append_first_place(text, raw, first, others),
@@ -141,27 +141,27 @@ pub(crate) fn append_placed_list(
 
 // Appends a text, and labels with a comma before each.
 #[tactic(auto, using(crate::proofs::GrownLemmas::grown))]
-fn append_after(
-    text: &mut GrowingText,
+fn append_after<O: Output>(
+    text: &mut O,
     front: &[u8],
     labels: &[(&str, &str)],
 ) -> Result<(), AllocError>
-    ensures { OnOk result (Grown text.old text.new (front.now ++ further_labels (map shown_label labels.now))) }
+    ensures { OnOk result (Grows (O.stands_for text.old) (O.stands_for text.new) (front.now ++ further_labels (map shown_label labels.now))) }
 {
-    text.append(front)?;
+    text.put(front)?;
     append_further_labels(text, labels)
 }
 
 // Appends two lists of labels with commas between them, given the text of the first.
 #[tactic(auto, using(crate::proofs::GrownLemmas::grown, fm_text::proofs::RowLemmas::joined))]
-fn append_joined_list(
-    text: &mut GrowingText,
+fn append_joined_list<O: Output>(
+    text: &mut O,
     common: &LabelText,
     common_text: &[u8],
     own: &[(&str, &str)],
 ) -> Result<(), AllocError>
     requires { common_text.now ≡ label_list_text common.now.labels }
-    ensures { OnOk result (Grown text.old text.new (label_list_text (common.now.labels ++ map shown_label own.now))) }
+    ensures { OnOk result (Grows (O.stands_for text.old) (O.stands_for text.new) (label_list_text (common.now.labels ++ map shown_label own.now))) }
 {
     if common.len() == 0 {
         append_label_list(text, own)
@@ -172,30 +172,30 @@ fn append_joined_list(
 
 // Appends two lists of labels in braces, given the text of the first.
 #[tactic(auto, using(crate::proofs::GrownLemmas::grown), unfolding(fm_grammar::specs::Spelling::in_braces))]
-fn append_joined_braces(
-    text: &mut GrowingText,
+fn append_joined_braces<O: Output>(
+    text: &mut O,
     common: &LabelText,
     common_text: &[u8],
     own: &[(&str, &str)],
 ) -> Result<(), AllocError>
     requires { common_text.now ≡ label_list_text common.now.labels }
-    ensures { OnOk result (Grown text.old text.new (in_braces (common.now.labels ++ map shown_label own.now))) }
+    ensures { OnOk result (Grows (O.stands_for text.old) (O.stands_for text.new) (in_braces (common.now.labels ++ map shown_label own.now))) }
 {
-    text.append(b"{")?;
+    text.put(b"{")?;
     append_joined_list(text, common, common_text, own)?;
-    text.append(b"}")
+    text.put(b"}")
 }
 
 // Appends two lists of labels in braces, and nothing for none, given the text of the first.
 #[tactic(auto, using(crate::proofs::GrownLemmas::grown, crate::proofs::GrownLemmas::two_blocks))]
-pub(crate) fn append_joined_block(
-    text: &mut GrowingText,
+pub(crate) fn append_joined_block<O: Output>(
+    text: &mut O,
     common: &LabelText,
     common_text: &[u8],
     own: &[(&str, &str)],
 ) -> Result<(), AllocError>
     requires { common_text.now ≡ label_list_text common.now.labels }
-    ensures { OnOk result (Grown text.old text.new (label_block_text (common.now.labels ++ map shown_label own.now))) }
+    ensures { OnOk result (Grows (O.stands_for text.old) (O.stands_for text.new) (label_block_text (common.now.labels ++ map shown_label own.now))) }
 {
     if common.len() == 0 && own.is_empty() {
         return Ok(());

@@ -1,4 +1,4 @@
-//! Where encoders put samples: a sink keeps them, or appends their lines to a text.
+//! Rendering: a sink keeps samples or appends their lines to a text, and `encode_exposition` writes an exposition.
 #![tactic(auto)]
 
 mod growing;
@@ -6,11 +6,14 @@ mod heads;
 mod label_list;
 pub mod label_text;
 pub mod lines;
+mod output;
 mod rendering;
 mod sample_row;
 pub mod sink;
+mod writing;
 
 pub use growing::GrowingText;
 pub use label_text::LabelText;
 pub use lines::Lines;
 pub use sink::Sink;
+pub use writing::encode_exposition;

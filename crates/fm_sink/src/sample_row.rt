@@ -1,14 +1,14 @@
-// A sample's line, appended to a text that grows.
+// A sample's line, appended to an output.
 ghost use Rattle.std.specs.Prelude.{◌≡◌, ◌++◌, map, OnOk};
 ghost use Rattle.std.specs.Option.{option_map};
 ghost use Rattle.fm_grammar.specs.Spelling.{label_list_text, sample_line};
 ghost use Rattle.fm_text.specs.Rows.{sample_row};
 ghost use Rattle.fm_text.specs.Samples.{shown_label, value_of, exemplar_at};
-ghost use Rattle.fm_sink.specs.Grown.{Grown};
+ghost use Rattle.fm_sink.specs.Grown.{Grows};
 
-use crate::growing::GrowingText;
 use crate::label_list::append_joined_block;
 use crate::label_text::LabelText;
+use crate::output::Output;
 use crate::rendering::append_reading;
 use fm_grammar::SampleKind;
 use fm_text::{Exemplar, Value};
@@ -16,8 +16,8 @@ use std::alloc::AllocError;
 
 // Appends a sample's line without its line feed, given the text of its common labels.
 #[tactic(auto, using(crate::proofs::GrownLemmas::grown), unfolding(fm_grammar::specs::Spelling::sample_line))]
-fn append_sample_line(
-    text: &mut GrowingText,
+fn append_sample_line<O: Output>(
+    text: &mut O,
     name: &str,
     kind: SampleKind,
     common: &LabelText,
@@ -28,7 +28,7 @@ fn append_sample_line(
     exemplar: Option<&Exemplar>,
 ) -> Result<(), AllocError>
     requires { common_text.now ≡ label_list_text common.now.labels }
-    ensures { OnOk result (Grown text.old text.new (sample_line name.now (record {
+    ensures { OnOk result (Grows (O.stands_for text.old) (O.stands_for text.new) (sample_line name.now (record {
       kind = kind;
       labels = common.now.labels ++ map shown_label own.now;
       value = value_of value.now;
@@ -36,16 +36,16 @@ fn append_sample_line(
       exemplar = option_map exemplar_at exemplar.entry;
     }))) }
 {
-    text.append(name.as_bytes())?;
-    text.append(kind.suffix().as_bytes())?;
+    text.put(name.as_bytes())?;
+    text.put(kind.suffix().as_bytes())?;
     append_joined_block(text, common, common_text, own)?;
     append_reading(text, value, time, exemplar)
 }
 
 // Appends a sample's line, given the text of its common labels.
 #[tactic(auto, using(crate::proofs::GrownLemmas::grown))]
-pub(crate) fn append_sample_row(
-    text: &mut GrowingText,
+pub(crate) fn append_sample_row<O: Output>(
+    text: &mut O,
     name: &str,
     kind: SampleKind,
     common: &LabelText,
@@ -56,7 +56,7 @@ pub(crate) fn append_sample_row(
     exemplar: Option<&Exemplar>,
 ) -> Result<(), AllocError>
     requires { common_text.now ≡ label_list_text common.now.labels }
-    ensures { OnOk result (Grown text.old text.new (sample_row name.now (record {
+    ensures { OnOk result (Grows (O.stands_for text.old) (O.stands_for text.new) (sample_row name.now (record {
       kind = kind;
       labels = common.now.labels ++ map shown_label own.now;
       value = value_of value.now;
@@ -75,5 +75,5 @@ pub(crate) fn append_sample_row(
         time,
         exemplar,
     )?;
-    text.append(b"\n")
+    text.put(b"\n")
 }

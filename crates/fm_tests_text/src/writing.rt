@@ -6,7 +6,8 @@ ghost use Rattle.fm_text.specs.Samples.{label_of, labels_of};
 
 use fm_grammar::{MetricType, SampleKind};
 use fm_raw::fixed::Fixed;
-use fm_text::{EncodeError, Exposition, SampleStore, Value, encode_exposition, make};
+use fm_sink::encode_exposition;
+use fm_text::{EncodeError, Exposition, SampleStore, Value, make};
 use std::alloc::{AllocError, Global};
 use std::io::{self, ErrorKind, Write};
 use std::sync::Arc;
@@ -208,7 +209,7 @@ fn totals(
     Ok(store)
 }
 
-// The writer takes no memory, so the only requests after those of the exposition are the two of its writing: a line, and
+// The writer takes no memory, so the only requests after those of the exposition are the two of its writing: the document, and
 // the labels that the samples of a point share.
 #[test]
 fn two_growths(rt: HostRuntime) -> Result<(), Fail> {

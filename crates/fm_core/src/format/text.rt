@@ -17,9 +17,8 @@ use crate::family::MetricFamilyEncoder;
 use fm_encoder::EncodeMetric;
 pub use fm_grammar::SampleKind;
 use fm_registry::{ListedMetric, Registry};
-pub use fm_text::{
-    EncodeError, Exemplar, Exposition, FamilySamples, Sample, Value, encode_exposition,
-};
+pub use fm_sink::encode_exposition;
+pub use fm_text::{EncodeError, Exemplar, Exposition, FamilySamples, Sample, Value};
 use std::alloc::Global;
 use std::io::Write;
 

@@ -1,5 +1,5 @@
 //! A document of 1,000 sample lines with a common label, for which writing asks for memory twice and no more: once for
-//! a line, and once for the common labels.
+//! the document, and once for the common labels.
 
 use super::{BEFORE, Patience, add_up, collected, patient_root};
 use fastmetrics::encoder::{EncodeError, EncodePoint, PointEncoder};

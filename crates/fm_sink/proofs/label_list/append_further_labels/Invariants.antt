@@ -5,4 +5,4 @@ use Rattle.fm_sink.specs.Grown.{IsLeft}
 use Rattle.fm_sink.proofs.label_list.append_further_labels.Given as goal
 
 abbrev pub invariant-loop-label : goal.invariant-loop-label
-invariant-loop-label l = IsLeft further_label (map shown_label l.labels) l.label-index l.fn.text l.text
+invariant-loop-label g l = IsLeft further_label (map shown_label l.labels) l.label-index (g.O.Output.stands_for l.fn.text) (g.O.Output.stands_for l.text)

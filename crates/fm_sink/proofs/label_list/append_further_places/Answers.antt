@@ -5,7 +5,7 @@ use Rattle.fm_sink.proofs.LabelTextLemmas.{all_at}
 use Rattle.fm_sink.proofs.label_list.append_further_places.Goals as goal
 
 pub append_further_placed-requires : goal.append_further_placed-requires
-append_further_placed-requires c = all_at (IsPlace c.args.raw.now) c.args.places.now c.loop-place.place-index _ c.requires c.loop-place-test.true
+append_further_placed-requires g c = all_at (IsPlace c.args.raw.now) c.args.places.now c.loop-place.place-index _ c.requires c.loop-place-test.true
 
 pub loop-place-preserved : goal.loop-place-preserved
-loop-place-preserved c = left_more_mapped (label_in c.args.raw.now) further_label _ _ _ _ _ _ c.loop-place-test.true c.loop-place.invariant (rw c.in_ok-append_further_placed.was at c.append_further_placed.ensures)
+loop-place-preserved g c = left_more_mapped (label_in c.args.raw.now) further_label _ _ _ _ _ _ c.loop-place-test.true c.loop-place.invariant (rw c.in_ok-append_further_placed.was at c.append_further_placed.ensures)

@@ -4,4 +4,4 @@ use Rattle.fm_sink.specs.LabelTexts.{labels_in}
 use Rattle.fm_sink.proofs.label_list.append_further_places.Given as goal
 
 abbrev pub invariant-loop-place : goal.invariant-loop-place
-invariant-loop-place l = IsLeft further_label (labels_in l.raw l.places) l.place-index l.fn.text l.text
+invariant-loop-place g l = IsLeft further_label (labels_in l.raw l.places) l.place-index (g.O.Output.stands_for l.fn.text) (g.O.Output.stands_for l.text)

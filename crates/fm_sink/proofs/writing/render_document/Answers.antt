@@ -1,0 +1,6 @@
+use Rattle.std.proofs.Common.{[]}
+use Rattle.fm_text.proofs.ResultLemmas.{on_ok_more}
+use Rattle.fm_sink.proofs.writing.render_document.Goals as goal
+
+pub returns : goal.returns
+returns g c = on_ok_more c.append_document.result _ _ (λ grown. grown.grows [] c.reset.ensures) c.append_document.ensures
