@@ -139,7 +139,7 @@ impl Lines {
             name,
             kind,
             &self.common,
-            &self.common_text,
+            self.common_text.as_slice(),
             own,
             &value,
             time,
