@@ -1,13 +1,13 @@
 -- The names of labels, and that clean labels have valid and different names.
-use Rattle.std.proofs.Common.{◌≡◌, ◌≢◌, ℕ, ◌<◌, ◌+◌, zero, suc, List, [], ◌∷◌, ◌++◌, length, get_or, take, drop, map, ◌⊎◌, inl, inr, refl, sym, ap, subst, ◌∙◌, arith, append-nil, append_assoc, String, Global, string_bytes, Contains, Result, Ok, Err, MatchResult, IfOk, codes}
+use Rattle.std.proofs.Common.{◌≡◌, ◌≢◌, zero, suc, List, [], ◌∷◌, ◌++◌, length, drop, map, ◌⊎◌, inl, inr, refl, sym, ap, subst, ◌∙◌, arith, append-nil, append_assoc, String, Global, string_bytes, Contains, Result, Ok, Err, MatchResult, IfOk, codes}
 use Rattle.std.specs.List.{AllByRecursion}
-use Rattle.std.proofs.lemmas.List.{take_more, drop-map, drop_at, length-map}
-use Rattle.std.proofs.lemmas.List.Elements.{Contains-append_right, Contains-append_cases}
+use Rattle.std.proofs.lemmas.List.{drop_at}
+use Rattle.std.proofs.lemmas.List.Elements.{Contains-append_right}
 use Rattle.fm_grammar.specs.declared.MetricType.{MetricType}
 use Rattle.fm_grammar.specs.Exposition.{Text, Label}
 use Rattle.fm_grammar.specs.Names.{IsLowerLetter, IsDigit, IsWord, BeginsWithLetter, further_words, IsSnakeCase, IsLabelByte, IsLabelName, AllDifferent}
 use Rattle.fm_grammar.specs.WellFormed.{AreLabels}
-use Rattle.fm_text.specs.Samples.{label_of, labels_of}
+use Rattle.fm_text.specs.Samples.{labels_of}
 use Rattle.fm_encoder.specs.Labels.{HandedLabel, NamePiece, ValuePiece, IsReserved, AreFree, label_names, NameFits, LabelClean, LabelsClean, written, all_written, handed_again}
 
 abbrev pub Pairs : Type 0

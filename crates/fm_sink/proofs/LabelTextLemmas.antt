@@ -1,5 +1,5 @@
 -- Labels in a text that grows.
-use Rattle.std.proofs.Common.{◌≡◌, ℕ, zero, suc, List, [], ◌∷◌, ◌++◌, ◌≤◌, ◌<◌, ◌+◌, refl, sym, ap, subst, ◌∙◌, arith, length, length-append, take, drop, map, get_or, Option, Some, None, IfSome, Contains, ◌⊎◌, inl, inr, Result, Ok, Err, OnOk, OnErr, IfOk, ◌-◌, length-drop}
+use Rattle.std.proofs.Common.{◌≡◌, ℕ, zero, suc, List, [], ◌∷◌, ◌++◌, ◌≤◌, ◌<◌, ◌+◌, refl, sym, ap, subst, ◌∙◌, arith, length, length-append, take, drop, get_or, Option, Some, None, IfSome, Contains, inl, inr, Result, Ok, Err, OnOk, OnErr, IfOk, ◌-◌, length-drop}
 use Rattle.std.specs.List.{between, AllByRecursion}
 use Rattle.std.specs.Str.{IsUtf8}
 use Rattle.std.proofs.lemmas.Slice.{between_is}

@@ -1,5 +1,5 @@
 -- Labels in one text: where their parts stand, and what contracts see of them.
-use Rattle.std.specs.Prelude.{◌≡◌, ℕ, ◌≤◌, List, [], ◌∷◌, length, map, Option, Some, None, IfSome}
+use Rattle.std.specs.Prelude.{◌≤◌, List, [], ◌∷◌, length, map, Option, Some, IfSome}
 use Rattle.std.specs.List.{between, AllByRecursion}
 use Rattle.std.specs.Str.{IsUtf8}
 use Rattle.fm_grammar.specs.Exposition.{Text, Label}

@@ -1,4 +1,4 @@
-use Rattle.std.proofs.Common.{◌<◌, length, arith, refl, sym, true≢false, ◌∙◌}
+use Rattle.std.proofs.Common.{refl, sym, true≢false, ◌∙◌}
 use Rattle.std.proofs.lemmas.List.{take_all}
 use Rattle.fm_sink.specs.LabelTexts.{IsPlace}
 use Rattle.fm_sink.proofs.LabelTextLemmas.{all_at, name_there, name_absent}

@@ -1,4 +1,4 @@
-use Rattle.std.proofs.Common.{◌≡◌, List, [], subst, sym, ◌∙◌}
+use Rattle.std.proofs.Common.{List, [], subst, sym, ◌∙◌}
 use Rattle.fm_grammar.specs.Exposition.{Label}
 use Rattle.fm_text.specs.Samples.{labels_of}
 use Rattle.fm_encoder.specs.Labels.{LabelsClean, handed_again}

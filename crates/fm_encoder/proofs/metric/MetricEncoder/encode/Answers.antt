@@ -1,10 +1,10 @@
-use Rattle.std.proofs.Common.{◌≡◌, ◌++◌, sym, ap, subst, ◌∙◌, Result, IfOk}
+use Rattle.std.proofs.Common.{◌≡◌, ◌++◌, sym, ap, subst, ◌∙◌, IfOk}
 use Rattle.fm_grammar.specs.declared.MetricType.{MetricType}
 use Rattle.fm_encoder.specs.Labels.{AreFree, handed_again}
 use Rattle.fm_encoder.specs.Gathered.{GatheredPoints}
 use Rattle.fm_encoder.proofs.NameLemmas.{AreLabels-read, AreFree-read}
 use Rattle.fm_encoder.proofs.Cases.{none_from_not}
-use Rattle.fm_encoder.proofs.MemberLemmas.{HandsMembers-one, BeginsMember-typed, shown}
+use Rattle.fm_encoder.proofs.MemberLemmas.{HandsMembers-one, BeginsMember-typed}
 use Rattle.fm_encoder.proofs.metric.MetricEncoder.encode.Goals as goal
 
 pub returns-clause-handed : goal.returns-clause-handed

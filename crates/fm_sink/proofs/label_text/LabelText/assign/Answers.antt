@@ -1,6 +1,3 @@
-use Rattle.std.proofs.Common.{◌≡◌, None, ap}
-use Rattle.fm_text.proofs.ResultLemmas.{on_ok_more}
-use Rattle.fm_sink.specs.LabelTexts.{LabelsState}
 use Rattle.fm_sink.proofs.LabelTextLemmas.{parts_assigned, shown_assigned}
 use Rattle.fm_sink.proofs.label_text.LabelText.assign.Goals as goal
 
