@@ -2,10 +2,11 @@
 use Rattle.std.proofs.Common.{◌≡◌, ℕ, ◌+◌, nat_le, Bool, true, false, not, List, [], ◌∷◌, ◌++◌, map, length, Option, None, Some, is_some, ◌⊎◌, inl, inr, if◌then◌else◌, refl, sym, ap, ◌∙◌, true≢false, ◌&&◌, arith}
 use Rattle.fm_grammar.specs.NameTests.{is_snake_case, is_label_name}
 use Rattle.fm_grammar.specs.declared.MetricType.{MetricType}
-use Rattle.fm_book.specs.Texts.{Text, has_name}
+use Rattle.fm_book.specs.Texts.{Text, Path, Labels, has_name}
+use Rattle.fm_book.specs.Taken.{tail_of, tails_of, is_tail_taken, is_child_taken}
 use Rattle.fm_book.specs.Registration.{Registration, SeenUnit, takes_no_unit, text_of_unit}
-use Rattle.fm_book.specs.Book.{Call, Subsystem, Register, Book, children_at, in_front, book_below, calls_below}
-use Rattle.fm_book.specs.Answer.{Refusal, InvalidNameFormat, MustHaveAnEmptyUnitString, OtherUnitFormatMustBeLowercase, AlreadyExists, InvalidNamespace, InvalidSubsystemName, InvalidLabelName, DuplicateLabel, NoSuchSubsystem, TooDeep, IsAnswered, first_of, or_then, is_bad_unit, name_refusal, has_metric, metric_refusal, name_or_depth_refusal, subsystem_refusal, namespace_refusal, label_refusal_behind, missing_name, answer, gained}
+use Rattle.fm_book.specs.Book.{Call, Subsystem, Register, Book, metrics_at, children_at, missing_along, in_front, book_below, calls_below}
+use Rattle.fm_book.specs.Answer.{Refusal, InvalidNameFormat, MustHaveAnEmptyUnitString, OtherUnitFormatMustBeLowercase, AlreadyExists, InvalidNamespace, InvalidSubsystemName, InvalidLabelName, DuplicateLabel, NoSuchSubsystem, TooDeep, NameTaken, IsAnswered, MayTakeMemory, first_of, or_then, is_bad_unit, name_refusal, has_metric, standing_refusal, metric_refusal, name_or_depth_refusal, first_bad_label, asking_refusal, new_name_refusal, child_refusal, subsystem_refusal, namespace_refusal, label_refusal_behind, missing_name, answer, gained}
 use Rattle.fm_book.proofs.BookLemmas.{metrics_at-calls_below, children_at-calls_below, missing_along-calls_below}
 
 some_not_none : {T : Type 0} {x : T} → Some x ≡ None → ⊥
@@ -13,7 +14,7 @@ some_not_none e = cc
 
 -- a call that is not refused was to be accepted
 pub accepted : (wanted : Option Refusal) → IsAnswered None wanted → wanted ≡ None
-accepted wanted h = elim h as (λ _. wanted ≡ None) [ inl e ↦ absurd (some_not_none (sym e)) | inr e ↦ sym e ]
+accepted wanted h = elim h as (λ _. wanted ≡ None) [ inl e ↦ absurd (some_not_none (sym e.0)) | inr e ↦ sym e ]
 
 pub none_from : {T : Type 0} (o : Option T) → is_some o ≡ false → o ≡ None
 none_from None h = refl
@@ -81,39 +82,90 @@ name_tests name metric_type unit =
     ∷ (is_bad_unit unit, OtherUnitFormatMustBeLowercase (text_of_unit unit))
     ∷ []
 
--- where the name and the unit pass, the metrics that are there decide
-pub metric_refusal-named : {M : Type 0} (there : List (Registration M)) (r : Registration M) → None ≡ name_refusal r.name r.metric_type r.unit
-    → metric_refusal there r ≡ (if has_metric there r then Some (AlreadyExists r.name) else None)
-metric_refusal-named there r h = first_of-++ (name_tests r.name r.metric_type r.unit) ((has_metric there r, AlreadyExists r.name) ∷ []) h
+-- a refusal of the first tests stays
+first_of-stays : (ts us : List (Bool × Refusal)) (why : Refusal) → Some why ≡ first_of ts → first_of (ts ++ us) ≡ Some why
+first_of-stays [] us why h = absurd (some_not_none h)
+first_of-stays (t ∷ ts) us why h =
+    elim t.0 as (λ c. Some why ≡ (if c then Some t.1 else first_of ts) → (if c then Some t.1 else first_of (ts ++ us)) ≡ Some why)
+    [ true ↦ λ e. sym e | false ↦ λ e. first_of-stays ts us why e ] h
 
--- where the name or the unit does not pass, no metric does
-pub metric_refusal-refused : {M : Type 0} (there : List (Registration M)) (r : Registration M) (why : Refusal) → Some why ≡ name_refusal r.name r.metric_type r.unit → metric_refusal there r ≡ Some why
-metric_refusal-refused there r why h = by (name_tests r.name r.metric_type r.unit) h
-  where
-    by : (ts : List (Bool × Refusal)) → Some why ≡ first_of ts → first_of (ts ++ (has_metric there r, AlreadyExists r.name) ∷ []) ≡ Some why
-    by [] e = absurd (some_not_none e)
-    by (t ∷ ts) e =
-        elim t.0 as (λ c. Some why ≡ (if c then Some t.1 else first_of ts) → (if c then Some t.1 else first_of (ts ++ (has_metric there r, AlreadyExists r.name) ∷ [])) ≡ Some why)
-        [ true ↦ λ f. sym f | false ↦ λ f. by ts f ] e
+-- where no test refuses, the first ones don't
+first_of-front : (ts us : List (Bool × Refusal)) → first_of (ts ++ us) ≡ None → first_of ts ≡ None
+first_of-front [] us h = refl
+first_of-front (t ∷ ts) us h =
+    elim t.0 as (λ c. (if c then Some t.1 else first_of (ts ++ us)) ≡ None → (if c then Some t.1 else first_of ts) ≡ None)
+    [ true ↦ λ e. e | false ↦ λ e. first_of-front ts us e ] h
 
--- a metric that is not refused has a name and a unit that pass
-pub name_refusal-none : {M : Type 0} (there : List (Registration M)) (r : Registration M) → metric_refusal there r ≡ None → name_refusal r.name r.metric_type r.unit ≡ None
-name_refusal-none there r h = by (name_tests r.name r.metric_type r.unit) h
+module _ {M : Type 0} (there : List (Registration M)) (children : List Text) (r : Registration M) where
+  -- where the name and the unit pass, what is there decides
+  pub metric_refusal-named : None ≡ name_refusal r.name r.metric_type r.unit → metric_refusal there children r ≡ standing_refusal there children r
+  metric_refusal-named h = first_of-++ (name_tests r.name r.metric_type r.unit) ((has_metric there r, AlreadyExists r.name) ∷ (is_tail_taken (tails_of there) children (tail_of r), NameTaken r.name) ∷ []) h
+
+  -- where the name or the unit does not pass, nothing else decides
+  pub metric_refusal-refused : (why : Refusal) → Some why ≡ name_refusal r.name r.metric_type r.unit → metric_refusal there children r ≡ Some why
+  metric_refusal-refused why h = first_of-stays (name_tests r.name r.metric_type r.unit) ((has_metric there r, AlreadyExists r.name) ∷ (is_tail_taken (tails_of there) children (tail_of r), NameTaken r.name) ∷ []) why h
+
+  -- a metric that is not refused has a name and a unit that pass
+  pub name_refusal-none : metric_refusal there children r ≡ None → name_refusal r.name r.metric_type r.unit ≡ None
+  name_refusal-none h = first_of-front (name_tests r.name r.metric_type r.unit) ((has_metric there r, AlreadyExists r.name) ∷ (is_tail_taken (tails_of there) children (tail_of r), NameTaken r.name) ∷ []) h
+
+  -- and its tail is free
+  pub tail_free : metric_refusal there children r ≡ None → is_tail_taken (tails_of there) children (tail_of r) ≡ false
+  tail_free h = (two_pass (has_metric there r) (is_tail_taken (tails_of there) children (tail_of r)) (AlreadyExists r.name) (NameTaken r.name) (sym (metric_refusal-named (sym (name_refusal-none h))) ∙ h)).1
+
+-- what is there is found with memory
+pub standing_may : {M : Type 0} (there : List (Registration M)) (children : List Text) (r : Registration M) → MayTakeMemory (standing_refusal there children r)
+standing_may there children r = two_may (has_metric there r) (is_tail_taken (tails_of there) children (tail_of r))
   where
-    by : (ts : List (Bool × Refusal)) → first_of (ts ++ (has_metric there r, AlreadyExists r.name) ∷ []) ≡ None → first_of ts ≡ None
-    by [] e = refl
-    by (t ∷ ts) e =
-        elim t.0 as (λ c. (if c then Some t.1 else first_of (ts ++ (has_metric there r, AlreadyExists r.name) ∷ [])) ≡ None → (if c then Some t.1 else first_of ts) ≡ None)
-        [ true ↦ λ f. f | false ↦ λ f. by ts f ] e
+    two_may : (c d : Bool) → MayTakeMemory (first_of ((c, AlreadyExists r.name) ∷ (d, NameTaken r.name) ∷ []))
+    two_may true d = tt
+    two_may false true = tt
+    two_may false false = tt
+
+-- a subsystem that is not refused has a name, a depth and labels that pass, and a name that is free
+module _ {M : Type 0} (depth : ℕ) (there : List (Registration M)) (children : List Text) (n : Text) (labels : Labels) where
+  pub name_allowed : subsystem_refusal depth there children n labels ≡ None → name_or_depth_refusal depth n ≡ None
+  name_allowed h = (or_then-none _ _ (or_then-none (asking_refusal depth n labels) (child_refusal there children n) h).0).0
+
+  pub labels_allowed : subsystem_refusal depth there children n labels ≡ None → first_bad_label labels ≡ None
+  labels_allowed h = (or_then-none _ _ (or_then-none (asking_refusal depth n labels) (child_refusal there children n) h).0).1
+
+  pub child_free : subsystem_refusal depth there children n labels ≡ None → has_name children n ≡ false → is_child_taken (tails_of there) children n ≡ false
+  child_free h absent = by (is_child_taken (tails_of there) children n) (sym here ∙ (or_then-none (asking_refusal depth n labels) (child_refusal there children n) h).1)
+    where
+      here : child_refusal there children n ≡ first_of ((is_child_taken (tails_of there) children n, NameTaken n) ∷ [])
+      here = rw absent refl
+
+      by : (c : Bool) → first_of ((c, NameTaken n) ∷ []) ≡ None → c ≡ false
+      by true e = absurd (some_not_none e)
+      by false e = refl
+
+module _ {M : Type 0} (there : List (Registration M)) (children : List Text) (n : Text) where
+  -- a subsystem that is there is not refused for its name
+  pub child_refusal-there : has_name children n ≡ true → child_refusal there children n ≡ None
+  child_refusal-there h = rw h refl
+
+  pub child_refusal-new : has_name children n ≡ false → child_refusal there children n ≡ new_name_refusal there children n
+  child_refusal-new h = rw h refl
 
 module _ {M : Type 0} where
+  -- a registration that is not refused has a free tail in its registry
+  pub registered_free : (b : Book M) (p : Path) (r : Registration M) → answer b (Register p r) ≡ None → is_tail_taken (tails_of (metrics_at b.calls p)) (children_at b.calls p) (tail_of r) ≡ false
+  registered_free b p r h =
+      tail_free (metrics_at b.calls p) (children_at b.calls p) r (or_then-none (missing_name (missing_along b.calls [] p)) (metric_refusal (metrics_at b.calls p) (children_at b.calls p) r) h).1
+
+  -- what a subsystem that is not refused passed
+  pub asked_passed : (b : Book M) (p : Path) (n : Text) (labels : Labels) → answer b (Subsystem p n labels) ≡ None → subsystem_refusal (b.depth + length p) (metrics_at b.calls p) (children_at b.calls p) n labels ≡ None
+  asked_passed b p n labels h =
+      (or_then-none (missing_name (missing_along b.calls [] p)) (subsystem_refusal (b.depth + length p) (metrics_at b.calls p) (children_at b.calls p) n labels) h).1
+
   -- what a book answers to a call below a subsystem is what the subsystem's book answers
   pub answer-in_front : (b : Book M) (n : Text) (call : Call M) → has_name (children_at b.calls []) n ≡ true → answer b (in_front n call) ≡ answer (book_below b n) call
   answer-in_front b n (Register p r) there =
-      rw there (λ i. or_then (missing_name (missing_along-calls_below b.calls n [] p i)) (metric_refusal (metrics_at-calls_below b.calls n p i) r))
+      rw there (λ i. or_then (missing_name (missing_along-calls_below b.calls n [] p i)) (metric_refusal (metrics_at-calls_below b.calls n p i) (children_at-calls_below b.calls n p i) r))
   answer-in_front b n (Subsystem p m labels) there =
       let depths : b.depth + length (n ∷ p) ≡ (b.depth + 1) + length p = omega arith in
-      rw there (λ i. or_then (missing_name (missing_along-calls_below b.calls n [] p i)) (subsystem_refusal (depths i) m labels))
+      rw there (λ i. or_then (missing_name (missing_along-calls_below b.calls n [] p i)) (subsystem_refusal (depths i) (metrics_at-calls_below b.calls n p i) (children_at-calls_below b.calls n p i) m labels))
 
   pub gained-in_front : (b : Book M) (n : Text) (call : Call M) → gained b (in_front n call) ≡ map (in_front n) (gained (book_below b n) call)
   gained-in_front b n (Register p r) = refl

@@ -13,4 +13,5 @@ pub mod OrderLemmas
 pub mod RootLemmas
 pub mod ListableLemmas
 pub mod MetricLemmas
+pub mod NameLemmas
 mod Examples

@@ -1,10 +1,11 @@
 -- Which calls are accepted, and what each refusal carries.
-use Rattle.std.specs.Prelude.{◌≡◌, ℕ, ◌+◌, Bool, true, false, ◌&&◌, not, List, [], ◌∷◌, ◌++◌, Option, None, Some, Result, Ok, Err, length, if◌then◌else◌, nat_le, is_some, ◌⊎◌}
+use Rattle.std.specs.Prelude.{◌≡◌, ⊤, ℕ, ◌+◌, Bool, true, false, ◌&&◌, not, List, [], ◌∷◌, ◌++◌, Option, None, Some, Result, Ok, Err, length, if◌then◌else◌, nat_le, is_some, ◌⊎◌}
 use Rattle.std.specs.String.{string_bytes}
 use Rattle.fm_grammar.specs.NameTests.{is_snake_case, is_word, is_label_name}
 use Rattle.fm_grammar.specs.declared.MetricType.{MetricType}
 use Rattle.fm_book.specs.Texts.{Text, Labels, has_name}
 use Rattle.fm_book.specs.Registration.{Registration, SeenUnit, takes_no_unit, is_same_metric, text_of_unit}
+use Rattle.fm_book.specs.Taken.{tail_of, tails_of, is_tail_taken, is_child_taken}
 use Rattle.fm_book.specs.Book.{Call, Subsystem, Register, Book, metrics_at, children_at, missing_along, with_more}
 use Rattle.fm_book.specs.declared.RegistryError as errors
 
@@ -21,6 +22,7 @@ pub data Refusal : Type 0 where
   DuplicateLabel : Text → Refusal
   NoSuchSubsystem : Text → Refusal
   TooDeep : Text → Refusal
+  NameTaken : Text → Refusal
 
 -- an error, with its text as bytes
 abbrev pub seen_error : errors.RegistryError → Refusal
@@ -35,6 +37,7 @@ seen_error (errors.TheVariants.InvalidLabelName name) = InvalidLabelName (string
 seen_error (errors.TheVariants.DuplicateLabel name) = DuplicateLabel (string_bytes name)
 seen_error (errors.TheVariants.NoSuchSubsystem name) = NoSuchSubsystem (string_bytes name)
 seen_error (errors.TheVariants.TooDeep name) = TooDeep (string_bytes name)
+seen_error (errors.TheVariants.NameTaken name) = NameTaken (string_bytes name)
 
 -- the refusal that a result carries
 abbrev pub refusal_of : {T : Type 0} → Result T errors.RegistryError → Option Refusal
@@ -76,23 +79,42 @@ module _ {M : Type 0} where
   has_metric [] registration = false
   has_metric (other ∷ others) registration = if is_same_metric registration other then true else has_metric others registration
 
-  -- why a registry with these metrics refuses a registration
-  abbrev pub metric_refusal : List (Registration M) → Registration M → Option Refusal
-  metric_refusal there registration =
+  -- why the metrics and subsystems that are there refuse a registration
+  abbrev pub standing_refusal : List (Registration M) → List Text → Registration M → Option Refusal
+  standing_refusal there children registration =
+      first_of ((has_metric there registration, AlreadyExists registration.name) ∷ (is_tail_taken (tails_of there) children (tail_of registration), NameTaken registration.name) ∷ [])
+
+  -- why a registry with these metrics and subsystems refuses a registration
+  abbrev pub metric_refusal : List (Registration M) → List Text → Registration M → Option Refusal
+  metric_refusal there children registration =
       first_of (
       (not (is_snake_case registration.name), InvalidNameFormat registration.name)
       ∷ (is_some registration.unit && takes_no_unit registration.metric_type, MustHaveAnEmptyUnitString registration.name)
       ∷ (is_bad_unit registration.unit, OtherUnitFormatMustBeLowercase (text_of_unit registration.unit))
       ∷ (has_metric there registration, AlreadyExists registration.name)
+      ∷ (is_tail_taken (tails_of there) children (tail_of registration), NameTaken registration.name)
       ∷ [])
 
 -- why a registry at this depth refuses a subsystem, whatever its labels are
 abbrev pub name_or_depth_refusal : ℕ → Text → Option Refusal
 name_or_depth_refusal depth name = first_of ((not (is_snake_case name), InvalidSubsystemName name) ∷ (nat_le 64 depth, TooDeep name) ∷ [])
 
--- why a registry at this depth refuses a subsystem
-abbrev pub subsystem_refusal : ℕ → Text → Labels → Option Refusal
-subsystem_refusal depth name labels = or_then (name_or_depth_refusal depth name) (first_bad_label labels)
+-- why a name, a depth and labels are refused for a subsystem, whatever else is there
+abbrev pub asking_refusal : ℕ → Text → Labels → Option Refusal
+asking_refusal depth name labels = or_then (name_or_depth_refusal depth name) (first_bad_label labels)
+
+module _ {M : Type 0} where
+  -- why a registry with these metrics and subsystems refuses the name of a new subsystem
+  abbrev pub new_name_refusal : List (Registration M) → List Text → Text → Option Refusal
+  new_name_refusal there children name = first_of ((is_child_taken (tails_of there) children name, NameTaken name) ∷ [])
+
+  -- the same of any subsystem: one that is there is answered with it
+  abbrev pub child_refusal : List (Registration M) → List Text → Text → Option Refusal
+  child_refusal there children name = if has_name children name then None else new_name_refusal there children name
+
+  -- why a registry at this depth, with these metrics and subsystems, refuses a subsystem
+  abbrev pub subsystem_refusal : ℕ → List (Registration M) → List Text → Text → Labels → Option Refusal
+  subsystem_refusal depth there children name labels = or_then (asking_refusal depth name labels) (child_refusal there children name)
 
 -- why a root refuses its namespace
 abbrev pub namespace_refusal : Text → Option Refusal
@@ -119,8 +141,8 @@ missing_name (Some name) = Some (NoSuchSubsystem name)
 module _ {M : Type 0} where
   -- the answer to a call, read from the book alone
   abbrev pub answer : Book M → Call M → Option Refusal
-  answer b (Subsystem path name labels) = or_then (missing_name (missing_along b.calls [] path)) (subsystem_refusal (b.depth + length path) name labels)
-  answer b (Register path registration) = or_then (missing_name (missing_along b.calls [] path)) (metric_refusal (metrics_at b.calls path) registration)
+  answer b (Subsystem path name labels) = or_then (missing_name (missing_along b.calls [] path)) (subsystem_refusal (b.depth + length path) (metrics_at b.calls path) (children_at b.calls path) name labels)
+  answer b (Register path registration) = or_then (missing_name (missing_along b.calls [] path)) (metric_refusal (metrics_at b.calls path) (children_at b.calls path) registration)
 
   -- what an accepted call adds to the book: nothing where it asks for a subsystem that is there
   abbrev pub gained : Book M → Call M → List (Call M)
@@ -136,6 +158,14 @@ module _ {M : Type 0} where
   abbrev pub after : Book M → Call M → Book M
   after b call = after_if (answer b call) b call
 
--- a call got the wanted answer, or found no memory
+-- whether a call may run out of memory before it finds this answer: a name that is not in snake case, a unit, a depth, a label and
+-- a path are refused without any
+abbrev pub MayTakeMemory : Option Refusal → Type 0
+MayTakeMemory None = ⊤
+MayTakeMemory (Some (AlreadyExists name)) = ⊤
+MayTakeMemory (Some (NameTaken name)) = ⊤
+MayTakeMemory (Some _) = ⊥
+
+-- a call got the wanted answer, or found no memory where it may have taken some
 abbrev pub IsAnswered : Option Refusal → Option Refusal → Type 0
-IsAnswered got wanted = (got ≡ Some Memory) ⊎ (got ≡ wanted)
+IsAnswered got wanted = ((got ≡ Some Memory) × MayTakeMemory wanted) ⊎ (got ≡ wanted)

@@ -1,7 +1,13 @@
 //! The tree of registries against the book of accepted calls.
 #![tactic(auto)]
 
-ghost use Rattle.std.specs.Prelude.{◌≡◌};
+ghost use Rattle.std.specs.Prelude.{◌≡◌, map};
+ghost use Rattle.fm_grammar.specs.Names.{AllDifferent};
+ghost use Rattle.fm_book.specs.Texts.{Path};
+ghost use Rattle.fm_book.specs.Taken.{AreSeparate, tails_of};
+ghost use Rattle.fm_book.specs.Book.{Book, metrics_at, children_at};
+ghost use Rattle.fm_book.specs.Accepted.{IsBook};
+ghost use Rattle.fm_book.specs.Listing.{listed_name, order};
 ghost use Rattle.fm_book.specs.Errors.{error_number};
 
 use thiserror::Error;
@@ -42,6 +48,9 @@ pub enum RegistryError {
     /// The subsystem would lie deeper than 64 registries below a root.
     #[error("TooDeep")]
     TooDeep { name: String },
+    /// A name that is printed here, or below, could be that of a metric or a subsystem that is there.
+    #[error("NameTaken")]
+    NameTaken { name: String },
 }
 
 impl RegistryError {
@@ -61,6 +70,14 @@ impl RegistryError {
             RegistryError::DuplicateLabel { .. } => 9,
             RegistryError::NoSuchSubsystem { .. } => 10,
             RegistryError::TooDeep { .. } => 11,
+            RegistryError::NameTaken { .. } => 12,
         }
     }
 }
+
+/// In every book of accepted calls the rules of names hold in each registry, and no two of all its metrics are printed
+/// under one name.
+pub fn names_are_different<M>()
+    ensures rules { (b : Book M) (path : Path) → IsBook b → AreSeparate (tails_of (metrics_at b.calls path)) (children_at b.calls path) }
+    ensures names { (b : Book M) → IsBook b → AllDifferent (map listed_name (order b)) }
+{}

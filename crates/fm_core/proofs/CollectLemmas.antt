@@ -1,17 +1,24 @@
 -- One metric more in a collection.
-use Rattle.std.proofs.Common.{◌≡◌, ℕ, ◌<◌, ◌+◌, zero, suc, List, [], ◌∷◌, ◌++◌, Option, ◌⊎◌, length, get_or, take, inl, inr, refl, sym, ap, subst, ◌∙◌, arith}
+use Rattle.std.proofs.Common.{◌≡◌, ◌≢◌, ℕ, ◌<◌, ◌+◌, zero, suc, List, [], ◌∷◌, ◌++◌, map, Option, None, Some, Result, IfErr, ◌⊎◌, length, get_or, take, inl, inr, refl, sym, ap, subst, ◌∙◌, arith}
 use Rattle.std.specs.List.{AllByRecursion}
 use Rattle.std.proofs.lemmas.List.{take_more, map-append}
-use Rattle.fm_grammar.specs.Exposition.{Family, Exposition}
+use Rattle.fm_grammar.specs.Names.{AllDifferent}
+use Rattle.fm_grammar.specs.Exposition.{Text, Family, Exposition}
+use Rattle.fm_grammar.specs.Reading.{IsNewName}
 use Rattle.fm_text.specs.declared.error.EncodeError.{EncodeError}
 use Rattle.fm_text.specs.declared.error.EncodeError.TheVariants.{Memory}
 use Rattle.fm_text.specs.Written.{IsWritersFault}
-use Rattle.fm_book.specs.Listing.{Listed, listed_name, IsListable}
+use Rattle.fm_book.specs.Book.{Book}
+use Rattle.fm_book.specs.Tree.{Tree, Reads}
+use Rattle.fm_book.specs.Listing.{Listed, listed_name, IsListable, order}
+use Rattle.fm_book.proofs.NameLemmas.{printed_names-different}
 use Rattle.fm_encoder.specs.Points.{Member}
+use Rattle.fm_encoder.specs.Gathered.{answer}
 use Rattle.fm_encoder.proofs.FaultLemmas.{MetricHasFault-not_writing}
 use Rattle.fm_registry.specs.Seen.{seen_list, seen_listed}
 use Rattle.fm_registry.specs.declared.listing.ListedMetric.{ListedMetric}
-use Rattle.fm_core.specs.Admits.{IsFamilyOf, Admits, AdmitsNext, FaultOf, Fault}
+use Rattle.fm_core.specs.Heading.{Heading}
+use Rattle.fm_core.specs.Admits.{IsFamilyOf, Admits, AdmitsNext, FaultUnder, FaultOf, Fault}
 
 module _ {M : Type 0} (Offers : M → List Member → Type 0) (Stamps : M → Option ℕ → Type 0) (Empty : M → Type 0) where
   Admits-left_out : (ls : List (Listed M)) (l : Listed M) (e : Exposition) → Admits Offers Stamps Empty ls e → Empty l.registration.metric → Admits Offers Stamps Empty (ls ++ l ∷ []) e
@@ -35,7 +42,41 @@ module _ {M : Type 0} (Offers : M → List Member → Type 0) (Stamps : M → Op
         | inr (f, longer, own) ↦ subst (λ (fs : Exposition). Admits Offers Stamps Empty (seen_list (take i xs) ++ seen_listed x ∷ []) fs) (sym longer) (Admits-family (seen_list (take i xs)) (seen_listed x) old f h own)
       ])
 
+  -- what holds of each listed name holds of each family's
+  collected_all : (P : Text → Type 0) (ls : List (Listed M)) (e : Exposition) → AllByRecursion P (map listed_name ls) → Admits Offers Stamps Empty ls e → AllByRecursion (λ family. P family.name) e
+  collected_all P [] e h admits = subst (λ (fs : Exposition). AllByRecursion (λ family. P family.name) fs) (sym admits) tt
+  collected_all P (l ∷ ls) e h (inl left_out) = collected_all P ls e h.1 left_out.1
+  collected_all P (l ∷ ls) e h (inr (f, rest, is, own, admits)) = subst (λ (fs : Exposition). AllByRecursion (λ family. P family.name) fs) (sym is) (subst P (sym own.name) h.0, collected_all P ls rest h.1 admits)
+
+  -- of names that differ, one is new behind those before it
+  before_next : (names : List Text) (n : Text) (rest : List Text) → AllDifferent (names ++ n ∷ rest) → AllByRecursion (λ m. m ≢ n) names
+  before_next [] n rest h = tt
+  before_next (m ∷ names) n rest h = ((λ same. at names h.0 (sym same)), before_next names n rest h.1)
+    where
+      at : (ms : List Text) → AllByRecursion (λ other. other ≢ m) (ms ++ n ∷ rest) → n ≢ m
+      at [] k = k.0
+      at (x ∷ ms) k = at ms k.1
+
+  split_at : (xs : List (ListedMetric M)) (i : ℕ) (x : ListedMetric M) → i < length xs → x ≡ get_or xs i x → (rest : List (ListedMetric M)) × (xs ≡ take i xs ++ x ∷ rest)
+  split_at [] i x within is = absurd (omega arith)
+  split_at (y ∷ xs) zero x within is = (xs, ap (λ z. z ∷ xs) (sym is))
+  split_at (y ∷ xs) (suc i) x within is = let split = split_at xs i x (omega arith) is in (split.0, ap (λ zs. y ∷ zs) split.1)
+
+  -- where all listed names differ, the next one is that of no family so far
+  pub next_new : (xs : List (ListedMetric M)) (i : ℕ) (x : ListedMetric M) (e : Exposition) → i < length xs → x ≡ get_or xs i x → AllDifferent (map listed_name (seen_list xs)) → Admits Offers Stamps Empty (seen_list (take i xs)) e
+      → IsNewName (listed_name (seen_listed x)) e
+  next_new xs i x e within is differ admits =
+      let split = split_at xs i x within is in
+      let parts : map listed_name (seen_list xs) ≡ map listed_name (seen_list (take i xs)) ++ listed_name (seen_listed x) ∷ map listed_name (seen_list split.0) =
+      ap (λ ys. map listed_name (seen_list ys)) split.1 ∙ ap (map listed_name) (map-append seen_listed (take i xs) (x ∷ split.0)) ∙ map-append listed_name (seen_list (take i xs)) (seen_listed x ∷ seen_list split.0) in
+      collected_all (λ name. name ≢ listed_name (seen_listed x)) (seen_list (take i xs)) e
+      (before_next (map listed_name (seen_list (take i xs))) (listed_name (seen_listed x)) (map listed_name (seen_list split.0)) (subst AllDifferent parts differ)) admits
+
 module _ {M : Type 0} where
+  -- the names that a tree with a book lists differ
+  pub names_differ : (t : Tree M) (b : Book M) (ls : List (Listed M)) → Reads t b → ls ≡ order b → AllDifferent (map listed_name ls)
+  names_differ t b ls reads is = subst (λ (ms : List (Listed M)). AllDifferent (map listed_name ms)) (sym is) (printed_names-different b reads.book)
+
   -- a fault in one metric of the list
   pub Fault-at : (k : EncodeError) (Offers : M → List Member → Type 0) (Stamps : M → Option ℕ → Type 0) (MayFault : M → Type 0) (xs : List (ListedMetric M)) (i : ℕ) (x : ListedMetric M) → i < length xs → x ≡ get_or xs i x → FaultOf k Offers Stamps MayFault (seen_listed x) → Fault k Offers Stamps MayFault (seen_list xs)
   Fault-at k Offers Stamps MayFault [] i x within is fault = absurd (omega arith)
@@ -47,6 +88,16 @@ module _ {M : Type 0} where
   IsListable-at [] i x within is all = absurd (omega arith)
   IsListable-at (y ∷ xs) zero x within is all = subst (λ (z : ListedMetric M). IsListable (seen_listed z)) (sym is) all.0
   IsListable-at (y ∷ xs) (suc i) x within is all = IsListable-at xs i x (omega arith) is all.1
+
+-- what holds of a refusal that is kept holds of the one that is answered
+refused_answer : (r : Result (Unit {0}) EncodeError) (refused : Option EncodeError) (P : EncodeError → Type 0) → r ≡ answer refused → ((k : EncodeError) → refused ≡ Some k → P k) → IfErr r P
+refused_answer r None P is h = subst (λ s. IfErr s P) (sym is) tt
+refused_answer r (Some k) P is h = subst (λ s. IfErr s P) (sym is) (h k refl)
+
+pub refused_under : (Offers : List Member → Type 0) (Stamps : Option ℕ → Type 0) (MayFault : Type 0) (above heading : Heading) (r : Result (Unit {0}) EncodeError) (refused : Option EncodeError) → above ≡ heading → r ≡ answer refused
+    → ((k : EncodeError) → refused ≡ Some k → (k ≡ Memory) ⊎ FaultUnder Offers Stamps k MayFault above) → IfErr r (λ k. (k ≡ Memory) ⊎ FaultUnder Offers Stamps k MayFault heading)
+refused_under Offers Stamps MayFault above heading r refused same is faults =
+    refused_answer r refused (λ k. (k ≡ Memory) ⊎ FaultUnder Offers Stamps k MayFault heading) is (λ k e. subst (λ d. (k ≡ Memory) ⊎ FaultUnder Offers Stamps k MayFault d) same (faults k e))
 
 -- no refusal in collecting is the writer's
 pub refusal-not_writing : {M : Type 0} (k : EncodeError) (Offers : M → List Member → Type 0) (Stamps : M → Option ℕ → Type 0) (MayFault : M → Type 0) (l : Listed M) → (k ≡ Memory) ⊎ FaultOf k Offers Stamps MayFault l → ¬ (IsWritersFault k)

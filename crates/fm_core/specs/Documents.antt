@@ -1,7 +1,8 @@
 -- The text of a document, as it grows metric by metric.
 use Rattle.std.specs.Prelude.{◌≡◌, ℕ, List, [], ◌++◌, Option, ◌⊎◌}
 use Rattle.fm_grammar.specs.Exposition.{Text, Family, Exposition}
-use Rattle.fm_grammar.specs.WellFormed.{IsFamily, IsWellFormed}
+use Rattle.fm_grammar.specs.WellFormed.{IsFamily}
+use Rattle.fm_grammar.specs.Reading.{IsExposition}
 use Rattle.fm_text.specs.Rows.{head_rows, family_rows, families_rows}
 use Rattle.fm_book.specs.Listing.{Listed}
 use Rattle.fm_encoder.specs.Points.{Member}
@@ -24,9 +25,9 @@ module _ {M : Type 0} (Offers : M → List Member → Type 0) (Stamps : M → Op
   AddsNextRows listed old new =
       AddsRows (Offers listed.registration.metric) (Stamps listed.registration.metric) (Empty listed.registration.metric) (heading_of listed) old new
 
-  -- the text is that of well-formed families that the listed metrics admit
+  -- the text is that of an exposition that the listed metrics admit
   pub record IsTextOf (ls : List (Listed M)) (text : Text) : Type 0 where
     pub exposition : Exposition
     pub admitted : Admits Offers Stamps Empty ls exposition
-    pub well_formed : IsWellFormed exposition
+    pub is_exposition : IsExposition exposition
     pub rows : text ≡ families_rows exposition

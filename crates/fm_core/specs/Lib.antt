@@ -2,6 +2,7 @@ pub use Rattle.fm_grammar.specs.Exposition
 pub use Rattle.fm_grammar.specs.Document
 pub use Rattle.fm_grammar.specs.WellFormed
 pub use Rattle.fm_grammar.specs.Law
+pub use Rattle.fm_grammar.specs.Reading
 pub use Rattle.fm_text.specs.Written
 pub use Rattle.fm_book.specs.Listing
 pub use Rattle.fm_book.specs.Tree

@@ -3,7 +3,7 @@ ghost use Rattle.std.specs.Prelude.{◌≡◌, ◌⊎◌, [], MatchResult, IfOk,
 ghost use Rattle.std.specs.Option.{option_copied};
 ghost use Rattle.std.specs.Io.KnownBytes.{Keeps};
 ghost use Rattle.fm_grammar.specs.Exposition.{Exposition};
-ghost use Rattle.fm_grammar.specs.WellFormed.{IsWellFormed};
+ghost use Rattle.fm_grammar.specs.Reading.{IsExposition};
 ghost use Rattle.fm_text.specs.declared.error.EncodeError.{EncodeError};
 ghost use Rattle.fm_text.specs.Rows.{document_rows};
 ghost use Rattle.fm_text.specs.Samples.{labels_of};
@@ -101,7 +101,7 @@ pub(crate) fn document_lines(alloc: Global, registry: &Registry) -> Result<Lines
     requires { HasBook registry.now }
     ensures text { IfOk result (λ lines. (e : Exposition)
         × ((b : _) → Reads registry.now b → Admits (λ m. offers m) (λ m. stamps m) (λ m. may_be_empty m) (order b) e)
-        × IsWellFormed e × (lines.text ≡ document_rows e)) }
+        × IsExposition e × (lines.text ≡ document_rows e)) }
     ensures fault { IfErr result (λ k. (k ≡ EncodeError.Memory) ⊎ ((b : _) → Reads registry.now b → Fault k (λ m. offers m) (λ m. stamps m) (λ m. may_fault m) (order b))) }
     ensures not_writing { IfErr result (λ k. ¬ (IsWritersFault k)) }
 {
@@ -120,8 +120,8 @@ pub(crate) fn document_lines(alloc: Global, registry: &Registry) -> Result<Lines
 
 // Writes the lines of a document, all or a beginning of them.
 pub(crate) fn write_lines<W: Write>(writer: &mut W, lines: &Lines) -> Result<(), EncodeError>
-    ensures document { (e : Exposition) → IsWellFormed e → lines.now.text ≡ document_rows e → OnOk result (AppendsDocument (W.contents writer.old) (W.contents writer.new) e) }
-    ensures stopped { (e : Exposition) → IsWellFormed e → lines.now.text ≡ document_rows e → IfErr result (λ k. IsWritersFault k → BeginsDocument (W.contents writer.old) (W.contents writer.new) e) }
+    ensures document { (e : Exposition) → IsExposition e → lines.now.text ≡ document_rows e → OnOk result (AppendsDocument (W.contents writer.old) (W.contents writer.new) e) }
+    ensures stopped { (e : Exposition) → IsExposition e → lines.now.text ≡ document_rows e → IfErr result (λ k. IsWritersFault k → BeginsDocument (W.contents writer.old) (W.contents writer.new) e) }
     ensures fault { IfErr result IsWritersFault }
 {
     write_text(writer, lines.as_slice())

@@ -3,6 +3,7 @@ ghost use Rattle.std.specs.Prelude.{◌≡◌, ◌⊎◌, [], Some, None, MatchR
 ghost use Rattle.std.specs.Option.{option_map, option_copied};
 ghost use Rattle.std.specs.List.{AllByRecursion};
 ghost use Rattle.fm_grammar.specs.Names.{IsSnakeCase};
+ghost use Rattle.fm_grammar.specs.Reading.{IsNewName};
 ghost use Rattle.fm_grammar.specs.WellFormed.{AreMillis, IsSample, IsFamily};
 ghost use Rattle.fm_raw.specs.Units.{unit_text};
 ghost use Rattle.fm_text.specs.declared.error.EncodeError.{EncodeError};
@@ -144,7 +145,7 @@ pub struct MetricFamilyEncoder<'a> {
 
 impl<'a> Model for MetricFamilyEncoder<'a> {
     ghost use Rattle.std.specs.Option.{option_copied};
-    ghost use Rattle.fm_grammar.specs.WellFormed.{IsWellFormed};
+    ghost use Rattle.fm_grammar.specs.Reading.{IsExposition};
     ghost use Rattle.fm_text.specs.Samples.{labels_of};
     ghost use Rattle.fm_core.specs.Families.{GatheredFamilies};
 
@@ -157,7 +158,7 @@ impl<'a> Model for MetricFamilyEncoder<'a> {
       refused = e.refused;
     } };
 
-    ghost invariant = { λ e. IsWellFormed e.families.items };
+    ghost invariant = { λ e. IsExposition e.families.items };
 }
 
 impl<'a> MetricFamilyEncoder<'a> {
@@ -229,14 +230,15 @@ impl<'a> MetricFamilyEncoder<'a> {
     }
 
     /// Takes the next metric: adds its family under this metadata, unless the metric is empty. The metadata is that of a
-    /// metric of the registry under way. It is refused for want of memory, or for a fault that stands in the metric, and
+    /// metric of the registry under way, whose printed name no family has so far. It is refused for want of memory, or for a fault that stands in the metric, and
     /// from then on each call answers that refusal and changes nothing. It may wait where the metric waits for a lock.
     pub fn encode(
         &mut self,
         metadata: &Metadata,
         metric: &dyn EncodeMetric,
     ) -> Result<(), EncodeError>
-        requires { IsHeading (next_heading self.old metadata.now) }
+        requires heading { IsHeading (next_heading self.old metadata.now) }
+        requires new_name { IsNewName (next_heading self.old metadata.now).name self.old.families }
         ensures encoded { EncodesFamily (offers metric.now) (stamps metric.now) (may_be_empty metric.now) (may_fault metric.now) (next_heading self.old metadata.now) self.old self.new }
         ensures answered { result ≡ answer self.new.refused }
     {

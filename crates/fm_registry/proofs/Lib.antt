@@ -1,5 +1,7 @@
 pub mod SoundLemmas
 pub mod MetricLemmas
+pub mod BelowLemmas
+pub mod TailLemmas
 pub mod ListingLemmas
 pub mod ForestLemmas
 pub mod PushLemmas

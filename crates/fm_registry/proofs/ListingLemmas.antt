@@ -8,23 +8,25 @@ use Rattle.fm_registry.specs.View.{seen_labels, seen_metrics, seen_metric, fores
 use Rattle.fm_book.specs.Listing.{Listed, listed_with, own_metrics, listed_forest, listed_tree}
 use Rattle.fm_registry.specs.Seen.{seen_list, seen_listed}
 use Rattle.fm_registry.specs.declared.listing.ListedMetric.{ListedMetric}
-use Rattle.fm_raw.specs.declared.metadata.Metadata.{Metadata}
+use Rattle.fm_registry.specs.declared.names.Tailed.{Tailed}
 use Rattle.fm_registry.specs.declared.registry.Subsystem.{Subsystem}
 
 module _ {M : Type 0} where
-  pub listed-metric : (news olds : List (ListedMetric M)) (m : ListedMetric M) (base : List (Listed M)) (es : List (Metadata × M)) (i : ℕ)
+  pub listed-metric : (news olds : List (ListedMetric M)) (m : ListedMetric M) (base : List (Listed M)) (es : List (Tailed × M)) (i : ℕ) (k : Tailed)
       → seen_list olds ≡ base ++ listed_with (option_map string_bytes m.namespace.now) (seen_labels m.const_labels.now) (seen_metrics (take i es))
-      → slice_get es i ≡ Some (m.metadata.now, m.metric.now) → news ≡ olds ++ m ∷ []
+      → slice_get es i ≡ Some (k, m.metric.now) → m.metadata.now ≡ k.metadata → news ≡ olds ++ m ∷ []
       → seen_list news ≡ base ++ listed_with (option_map string_bytes m.namespace.now) (seen_labels m.const_labels.now) (seen_metrics (take (i + 1) es))
-  listed-metric news olds m base es i before at new =
-      let e : Metadata × M = (m.metadata.now, m.metric.now) in
-      let listed : List (Metadata × M) → List (Listed M) = λ xs. listed_with (option_map string_bytes m.namespace.now) (seen_labels m.const_labels.now) (seen_metrics xs) in
-      let more : take (i + 1) es ≡ take i es ++ e ∷ [] = take_more es i e (slice_get_within es i e at) ∙ ap (λ (x : Metadata × M). take i es ++ x ∷ []) (get_or_from_slice_get es i e e at) in
-      let split : listed (take i es ++ e ∷ []) ≡ listed (take i es) ++ seen_listed m ∷ [] =
-      ap (λ rs. listed_with (option_map string_bytes m.namespace.now) (seen_labels m.const_labels.now) rs) (map-append (λ (x : Metadata × M). seen_metric x.0 x.1) (take i es) (e ∷ []))
-      ∙ map-append _ (seen_metrics (take i es)) (seen_metric e.0 e.1 ∷ []) in
+  listed-metric news olds m base es i k before at same new =
+      let e : Tailed × M = (k, m.metric.now) in
+      let listed : List (Tailed × M) → List (Listed M) = λ xs. listed_with (option_map string_bytes m.namespace.now) (seen_labels m.const_labels.now) (seen_metrics xs) in
+      let more : take (i + 1) es ≡ take i es ++ e ∷ [] = take_more es i e (slice_get_within es i e at) ∙ ap (λ (x : Tailed × M). take i es ++ x ∷ []) (get_or_from_slice_get es i e e at) in
+      let here : Listed M = record { namespace = option_map string_bytes m.namespace.now; labels = seen_labels m.const_labels.now; registration = seen_metric k.metadata m.metric.now } in
+      let split : listed (take i es ++ e ∷ []) ≡ listed (take i es) ++ here ∷ [] =
+      ap (λ rs. listed_with (option_map string_bytes m.namespace.now) (seen_labels m.const_labels.now) rs) (map-append (λ (x : Tailed × M). seen_metric x.0.metadata x.1) (take i es) (e ∷ []))
+      ∙ map-append _ (seen_metrics (take i es)) (seen_metric k.metadata m.metric.now ∷ []) in
+      let seen : seen_listed m ≡ here = ap (λ d. record { namespace = option_map string_bytes m.namespace.now; labels = seen_labels m.const_labels.now; registration = seen_metric d m.metric.now }) same in
       ap seen_list new ∙ map-append seen_listed olds (m ∷ []) ∙ ap (λ ms. ms ++ seen_listed m ∷ []) before
-      ∙ append_assoc base (listed (take i es)) (seen_listed m ∷ []) ∙ ap (λ ms. base ++ ms) (sym (ap listed more ∙ split))
+      ∙ append_assoc base (listed (take i es)) (seen_listed m ∷ []) ∙ ap (λ (l : Listed M). base ++ (listed (take i es) ++ l ∷ [])) seen ∙ ap (λ ms. base ++ ms) (sym (ap listed more ∙ split))
 
   listed_forest-++ : (ss : List (Subsystem M)) (s : Subsystem M) → listed_forest (forest_of (ss ++ s ∷ [])) ≡ listed_forest (forest_of ss) ++ listed_tree s.registry
   listed_forest-++ [] s = ap (λ ms. own_metrics s.registry.facts ++ ms) (append-nil (listed_forest s.registry.children))

@@ -1,10 +1,9 @@
--- The metrics of a registry, as a map by their metadata.
+-- When two metrics of a registry are the same.
 use Rattle.std.proofs.Common.{◌≡◌, Bool, true, false, ◌&&◌, List, [], ◌∷◌, ◌++◌, Option, None, Some, is_some, refl, ap}
 use Rattle.std.specs.Bool.{Decides}
 use Rattle.std.specs.Option.{option_map}
 use Rattle.std.specs.String.{string_bytes}
 use Rattle.std.specs.Str.{bytes_eq}
-use Rattle.std.specs.Map.{lookup}
 use Rattle.std.proofs.lemmas.Bool.Decides.{Decides-and, Decides-like, Decides-at, same_from_decides}
 use Rattle.std.proofs.lemmas.Slice.Eq.{bytes_eq-Decides}
 use Rattle.std.proofs.lemmas.List.{map-append}
@@ -12,12 +11,11 @@ use Rattle.fm_grammar.specs.contracts.MetricTypePartialEq.TheImpl as types
 use Rattle.fm_raw.specs.Units.{SeenUnit, seen_unit}
 use Rattle.fm_raw.specs.Metadata.{IsSameMetric}
 use Rattle.fm_raw.specs.declared.metadata.Metadata.{Metadata}
-use Rattle.fm_raw.specs.contracts.metadata.MetadataPartialEq.TheImpl as key
-use Rattle.fm_raw.proofs.MetadataLemmas.{metadata_decide, types_decide}
+use Rattle.fm_raw.proofs.MetadataLemmas.{types_decide}
 use Rattle.fm_book.specs.Registration.{is_same_metric, same_type, same_bool, same_unit}
-use Rattle.fm_book.specs.Answer.{has_metric}
 use Rattle.fm_book.proofs.MetricLemmas as book
 use Rattle.fm_registry.specs.View.{seen_metric, seen_metrics}
+use Rattle.fm_registry.specs.declared.names.Tailed.{Tailed}
 
 -- units
 
@@ -53,14 +51,10 @@ module _ {M : Type 0} where
       (Decides-and (same_type a.metric_type b.metric_type) (same_unit (option_map seen_unit a.unit) (option_map seen_unit b.unit)) types (same_unit-Decides (option_map seen_unit a.unit) (option_map seen_unit b.unit))) in
       Decides-like (is_same_metric (seen_metric a x) (seen_metric b y)) (λ h. (h.0, h.1.0, h.1.1)) (λ h. (h.0, (h.1, h.2))) parts
 
-  -- metrics are the same where their metadata are equal
-  is_same_metric-eq : (a b : Metadata) (x y : M) → is_same_metric (seen_metric a x) (seen_metric b y) ≡ key.ghosts.eq a b
-  is_same_metric-eq a b x y = same_from_decides {P = IsSameMetric a b} (is_same_metric (seen_metric a x) (seen_metric b y)) (key.ghosts.eq a b) (same_metric-Decides a b x y) (metadata_decide a b)
-
-  -- a metric is there where its metadata are a key of the map
-  pub has_metric-lookup : (es : List (Metadata × M)) (k : Metadata) (x : M) → has_metric (seen_metrics es) (seen_metric k x) ≡ is_some (lookup (key.ghosts.eq k) es)
-  has_metric-lookup es k x = book.has_metric-lookup seen_metric key.ghosts.eq is_same_metric-eq es k x
+  -- metrics are the same where their metadata are found to be
+  pub same_metric-test : (a b : Metadata) (x : M) (c : Bool) → Decides c (IsSameMetric a b) → is_same_metric (seen_metric a x) (seen_metric b x) ≡ c
+  same_metric-test a b x c decides = same_from_decides {P = IsSameMetric a b} (is_same_metric (seen_metric a x) (seen_metric b x)) c (same_metric-Decides a b x x) decides
 
   -- one metric more
-  pub seen_metrics-push : (es : List (Metadata × M)) (k : Metadata) (x : M) → seen_metrics (es ++ (k, x) ∷ []) ≡ seen_metrics es ++ seen_metric k x ∷ []
-  seen_metrics-push es k x = map-append (λ (e : Metadata × M). seen_metric e.0 e.1) es ((k, x) ∷ [])
+  pub seen_metrics-push : (es : List (Tailed × M)) (k : Tailed) (x : M) → seen_metrics (es ++ (k, x) ∷ []) ≡ seen_metrics es ++ seen_metric k.metadata x ∷ []
+  seen_metrics-push es k x = map-append (λ (e : Tailed × M). seen_metric e.0.metadata e.1) es ((k, x) ∷ [])

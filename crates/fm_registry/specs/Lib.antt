@@ -2,6 +2,7 @@ pub use Rattle.fm_text.specs.Samples
 pub use Rattle.fm_book.specs.Texts
 pub use Rattle.fm_book.specs.Registration
 pub use Rattle.fm_book.specs.Book
+pub use Rattle.fm_book.specs.Taken
 pub use Rattle.fm_book.specs.Answer
 pub use Rattle.fm_book.specs.Accepted
 pub use Rattle.fm_book.specs.Tree
@@ -10,6 +11,7 @@ pub use Rattle.fm_book.specs.Loan
 pub use Rattle.fm_book.specs.Listing
 pub use Rattle.fm_book.specs.Running
 pub mod Lists
+pub mod Names
 pub mod View
 pub mod Falls
 pub mod Seen

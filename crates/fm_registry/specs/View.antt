@@ -13,6 +13,7 @@ use Rattle.fm_book.specs.Texts.{Labels}
 use Rattle.fm_book.specs.Registration.{Registration}
 use Rattle.fm_book.specs.Tree.{Facts, Forest, Leaf, Child, Tree}
 use Rattle.fm_registry.specs.Lists.{items_of}
+use Rattle.fm_registry.specs.declared.names.Tailed.{Tailed}
 use Rattle.fm_registry.specs.declared.registry.Registry.TheInside.{Inside}
 use Rattle.fm_registry.specs.declared.registry.Subsystem.{Subsystem}
 
@@ -40,11 +41,11 @@ seen_labels labels = labels_of (items_of labels)
 
 module _ {M : Type 0} where
   -- metrics with their metadata
-  abbrev pub seen_metrics : List (Metadata × M) → List (Registration M)
-  seen_metrics entries = map (λ e. seen_metric e.0 e.1) entries
+  abbrev pub seen_metrics : List (Tailed × M) → List (Registration M)
+  seen_metrics entries = map (λ e. seen_metric e.0.metadata e.1) entries
 
   -- the metrics of a map, or none
-  abbrev pub metrics_in : {S : Type 0} → Option (IndexMap Metadata M S) → List (Registration M)
+  abbrev pub metrics_in : {S : Type 0} → Option (IndexMap Tailed M S) → List (Registration M)
   metrics_in None = []
   metrics_in (Some metrics) = seen_metrics metrics.entries
 

@@ -7,6 +7,7 @@
 mod labels;
 pub mod listing;
 mod lists;
+mod names;
 pub mod registry;
 
 pub use fm_book::RegistryError;

@@ -6,6 +6,7 @@ ghost use Rattle.fm_book.specs.Listing.{listed_with};
 ghost use Rattle.fm_registry.specs.View.{seen_metrics, seen_labels};
 ghost use Rattle.fm_registry.specs.Seen.{seen_list};
 
+use crate::names::Tailed;
 use fm_encoder::EncodeMetric;
 use fm_raw::Metadata;
 use indexmap::IndexMap;
@@ -24,17 +25,17 @@ pub struct ListedMetric<'a, M = Box<dyn EncodeMetric>> {
 pub(crate) fn list_metrics<'a, M>(
     namespace: &'a Option<String>,
     const_labels: &'a Option<Vec<(String, String)>>,
-    metrics: &'a IndexMap<Metadata, M>,
+    metrics: &'a IndexMap<Tailed, M>,
     list: &mut Vec<ListedMetric<'a, M>>,
 ) -> Result<(), AllocError>
     ensures { OnOk result (seen_list list.new.items ≡ seen_list list.old.items ++ listed_with (option_map string_bytes namespace.now) (seen_labels const_labels.now) (seen_metrics metrics.now.entries)) }
 {
     for index in 0..metrics.len() {
-        if let Some((metadata, metric)) = metrics.get_index(index) {
+        if let Some((key, metric)) = metrics.get_index(index) {
             list.push(ListedMetric {
                 namespace,
                 const_labels,
-                metadata,
+                metadata: key.metadata(),
                 metric,
             })?;
         }

@@ -7,9 +7,9 @@ mod subsystem_builder;
 mod subsystems;
 
 use crate::listing::{ListedMetric, list_metrics};
+use crate::names::Tailed;
 pub use builder::RegistryBuilder;
 use fm_encoder::EncodeMetric;
-use fm_raw::Metadata;
 use indexmap::IndexMap;
 pub use run::RegistryCall;
 use std::alloc::{AllocError, Global};
@@ -26,7 +26,7 @@ pub struct Registry<M = Box<dyn EncodeMetric>> {
     namespace: Option<String>,
     const_labels: Option<Vec<(String, String)>>,
     depth: usize,
-    metrics: Option<IndexMap<Metadata, M>>,
+    metrics: Option<IndexMap<Tailed, M>>,
     subsystems: Option<Vec<Subsystem<M>>>,
 }
 

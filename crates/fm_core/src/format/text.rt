@@ -1,21 +1,26 @@
 //! The OpenMetrics text format: collecting a registry, and writing its document.
 ghost use Rattle.std.specs.Prelude.{◌≡◌, ◌⊎◌, None, OnOk, IfOk, IfErr};
+ghost use Rattle.std.specs.Option.{option_copied};
 ghost use Rattle.std.specs.Io.KnownBytes.{Keeps};
+ghost use Rattle.fm_grammar.specs.Reading.{IsNewName};
 ghost use Rattle.fm_text.specs.declared.error.EncodeError.{EncodeError};
 ghost use Rattle.fm_text.specs.Samples.{labels_of};
 ghost use Rattle.fm_text.specs.Written.{IsWritersFault};
-ghost use Rattle.fm_book.specs.Listing.{order, IsListable};
+ghost use Rattle.fm_book.specs.Listing.{listed_name, order, IsListable};
 ghost use Rattle.fm_book.specs.Tree.{Reads};
 ghost use Rattle.fm_registry.specs.Seen.{seen_listed};
 ghost use Rattle.fm_registry.specs.View.{seen_labels};
 ghost use Rattle.fm_registry.specs.HasBook.{HasBook};
-ghost use Rattle.fm_core.specs.Admits.{Admits, AdmitsNext, FaultOf, Fault};
+ghost use Rattle.fm_core.specs.Heading.{IsHeading};
+ghost use Rattle.fm_core.specs.Families.{heading_in};
+ghost use Rattle.fm_core.specs.Admits.{Admits, AddsFamily, AdmitsNext, FaultUnder, FaultOf, Fault};
 ghost use Rattle.fm_core.specs.Encoded.{WritesAdmitted, BeginsAdmitted};
 
 use crate::document::{document_lines, write_lines};
 use crate::family::MetricFamilyEncoder;
 use fm_encoder::EncodeMetric;
 pub use fm_grammar::SampleKind;
+use fm_raw::Metadata;
 use fm_registry::{ListedMetric, Registry};
 pub use fm_sink::encode_exposition;
 pub use fm_text::{EncodeError, Exemplar, Exposition, FamilySamples, Sample, Value};
@@ -32,22 +37,44 @@ pub(crate) fn constants_of<'a>(labels: &'a Option<Vec<(String, String)>>) -> &'a
     }
 }
 
+// Goes on to a registry, and takes a metric of it, whose name is new.
+fn encode_under<'a>(
+    encoder: &mut MetricFamilyEncoder<'a>,
+    namespace: Option<&'a str>,
+    constants: &'a [(String, String)],
+    metadata: &Metadata,
+    metric: &dyn EncodeMetric,
+) -> Result<(), EncodeError>
+    requires heading { IsHeading (heading_in (option_copied namespace) (labels_of constants.now) metadata.now) }
+    requires new_name { IsNewName (heading_in (option_copied namespace) (labels_of constants.now) metadata.now).name encoder.old.families }
+    requires accepting { encoder.old.refused ≡ None }
+    ensures accepting { OnOk result (encoder.new.refused ≡ None) }
+    ensures ok { OnOk result (AddsFamily (offers metric.now) (stamps metric.now) (may_be_empty metric.now) (heading_in (option_copied namespace.entry) (labels_of constants.now) metadata.now) encoder.old.families encoder.new.families) }
+    ensures err { IfErr result (λ k. (k ≡ EncodeError.Memory) ⊎ FaultUnder (offers metric.now) (stamps metric.now) k (may_fault metric.now) (heading_in (option_copied namespace.entry) (labels_of constants.now) metadata.now)) }
+{
+    encoder.enter(namespace, constants);
+    encoder.encode(metadata, metric)
+}
+
 // Goes on to a listed metric's registry, and takes the metric.
 fn encode_listed<'a>(
     encoder: &mut MetricFamilyEncoder<'a>,
     listed: &ListedMetric<'a, Box<dyn EncodeMetric>>,
 ) -> Result<(), EncodeError>
     requires listable { IsListable (seen_listed listed.now) }
+    requires new_name { IsNewName (listed_name (seen_listed listed.now)) encoder.old.families }
     requires accepting { encoder.old.refused ≡ None }
     ensures accepting { OnOk result (encoder.new.refused ≡ None) }
     ensures ok { OnOk result (AdmitsNext (λ m. offers m) (λ m. stamps m) (λ m. may_be_empty m) (seen_listed listed.now) encoder.old.families encoder.new.families) }
     ensures err { IfErr result (λ k. (k ≡ EncodeError.Memory) ⊎ FaultOf k (λ m. offers m) (λ m. stamps m) (λ m. may_fault m) (seen_listed listed.now)) }
 {
-    encoder.enter(
+    encode_under(
+        encoder,
         listed.namespace.as_deref(),
         constants_of(listed.const_labels),
-    );
-    encoder.encode(listed.metadata, &**listed.metric)
+        listed.metadata,
+        &**listed.metric,
+    )
 }
 
 /// The exposition of a registry and all below it: a family for each metric that isn't empty, a registry's metrics by

@@ -1,18 +1,22 @@
 //! Registering metrics.
-ghost use Rattle.std.specs.Prelude.{◌≡◌, ◌++◌, ◌∷◌, [], Option, Some, None, OnOk, OnErr, IfOk, if◌then◌else◌};
+ghost use Rattle.std.specs.Prelude.{◌≡◌, ◌++◌, ◌∷◌, [], None, Some, true, is_some, OnOk, OnErr, IfOk, IfSome, IfNone};
 ghost use Rattle.std.specs.Option.{option_map};
 ghost use Rattle.std.specs.String.{string_bytes};
 ghost use Rattle.fm_raw.specs.Units.{seen_unit};
-ghost use Rattle.fm_book.specs.Registration.{takes_no_unit as has_no_unit};
-ghost use Rattle.fm_book.specs.Answer.{refusal_of, name_refusal, has_metric, metric_refusal, IsAnswered, AlreadyExists, answer, after};
+ghost use Rattle.indexmap.specs.IndexMap.{get};
+ghost use Rattle.fm_book.specs.Registration.{is_same_metric, takes_no_unit as has_no_unit};
+ghost use Rattle.fm_book.specs.Answer.{refusal_of, name_refusal, has_metric, standing_refusal, metric_refusal, IsAnswered, answer, after};
 ghost use Rattle.fm_book.specs.Book.{Register};
-ghost use Rattle.fm_book.specs.Tree.{Reads};
+ghost use Rattle.fm_book.specs.Tree.{Reads, names_in};
 ghost use Rattle.fm_book.specs.Steps.{with_metric};
+ghost use Rattle.fm_registry.specs.Names.{refusal_beside};
+ghost use Rattle.fm_registry.specs.contracts.names.TailedPartialEq.TheImpl.{ghosts as tailed};
 ghost use Rattle.fm_registry.specs.View.{metrics_in, seen_metric, seen_metrics, asked, asked_metric};
 ghost use Rattle.fm_registry.specs.HasBook.{HasBook, Grows};
 ghost use Rattle.fm_registry.specs.Registers.{Registers};
 
 use super::Registry;
+use crate::names::Tailed;
 use fm_book::RegistryError;
 use fm_encoder::EncodeMetric;
 use fm_raw::{Metadata, MetricType, Unit, is_snake_case, is_unit_text};
@@ -61,19 +65,39 @@ fn named_metric(
     Ok(Metadata::new(name, help, metric_type, unit))
 }
 
-// Adds a metric that is not there.
-fn insert_new<M: Drop>(
-    metrics: &mut IndexMap<Metadata, M>,
-    key: Metadata,
-    metric: M,
-) -> Result<(), RegistryError>
-    ensures ok { OnOk result (seen_metrics metrics.new.entries ≡ seen_metrics metrics.old.entries ++ seen_metric key metric ∷ []) }
-    ensures err { OnErr result (metrics.new.entries ≡ metrics.old.entries) }
-    ensures answer { IsAnswered (refusal_of result) (if has_metric (seen_metrics metrics.old.entries) (seen_metric key metric) then Some (AlreadyExists (string_bytes key.name)) else None) }
+// The metadata that stand under the tail of these.
+fn standing_under<'a, M>(metrics: &'a IndexMap<Tailed, M>, key: &Tailed) -> Option<&'a Metadata>
+    ensures free { IfNone result (get tailed.eq metrics.now key.now ≡ None) }
+    ensures taken { IfSome result (λ there. (is_some (get tailed.eq metrics.now key.now) ≡ true)
+        × ((x : M) → has_metric (seen_metrics metrics.now.entries) (seen_metric key.now.metadata x) ≡ is_same_metric (seen_metric key.now.metadata x) (seen_metric there.now x))) }
 {
-    if metrics.contains_key(&key) {
+    let place = metrics.get_index_of(key)?;
+    let (there, _) = metrics.get_index(place)?;
+    Some(there.metadata())
+}
+
+// Adds a metric, whose tail lies below a subsystem or below none, where none has its tail.
+fn insert_new<M: Drop>(
+    metrics: &mut IndexMap<Tailed, M>,
+    key: Tailed,
+    metric: M,
+    is_below: bool,
+) -> Result<(), RegistryError>
+    ensures ok { OnOk result (seen_metrics metrics.new.entries ≡ seen_metrics metrics.old.entries ++ seen_metric key.metadata metric ∷ []) }
+    ensures err { OnErr result (metrics.new.entries ≡ metrics.old.entries) }
+    ensures answer { IsAnswered (refusal_of result) (refusal_beside (seen_metrics metrics.old.entries) is_below (seen_metric key.metadata metric)) }
+{
+    if let Some(there) = standing_under(metrics, &key) {
+        let is_same = key.metadata().is_same_as(there);
         let name = key.into_name();
-        return Err(RegistryError::AlreadyExists { name });
+        if is_same {
+            return Err(RegistryError::AlreadyExists { name });
+        }
+        return Err(RegistryError::NameTaken { name });
+    }
+    if is_below {
+        let name = key.into_name();
+        return Err(RegistryError::NameTaken { name });
     }
     match metrics.insert(key, metric) {
         Ok(_) => Ok(()),
@@ -83,23 +107,43 @@ fn insert_new<M: Drop>(
 
 // The same, where there may be no map yet.
 fn insert_metric<M: Drop>(
-    metrics: &mut Option<IndexMap<Metadata, M>>,
+    metrics: &mut Option<IndexMap<Tailed, M>>,
     alloc: Global,
-    key: Metadata,
+    key: Tailed,
     metric: M,
+    is_below: bool,
 ) -> Result<(), RegistryError>
-    ensures ok { OnOk result (metrics_in metrics.new ≡ metrics_in metrics.old ++ seen_metric key metric ∷ []) }
+    ensures ok { OnOk result (metrics_in metrics.new ≡ metrics_in metrics.old ++ seen_metric key.metadata metric ∷ []) }
     ensures err { OnErr result (metrics_in metrics.new ≡ metrics_in metrics.old) }
-    ensures answer { IsAnswered (refusal_of result) (if has_metric (metrics_in metrics.old) (seen_metric key metric) then Some (AlreadyExists (string_bytes key.name)) else None) }
+    ensures answer { IsAnswered (refusal_of result) (refusal_beside (metrics_in metrics.old) is_below (seen_metric key.metadata metric)) }
 {
     insert_new(
         metrics.get_or_insert_with(|| IndexMap::new(alloc)),
         key,
         metric,
+        is_below,
     )
 }
 
 impl<M: Drop> Registry<M> {
+    // Adds a metric with tested metadata here, in terms of the tree alone.
+    fn insert_named(
+        &mut self,
+        alloc: Global,
+        metadata: Metadata,
+        metric: M,
+    ) -> Result<(), RegistryError>
+        ensures answer { IsAnswered (refusal_of result) (standing_refusal self.old.facts.metrics (names_in self.old.children) (seen_metric metadata metric)) }
+        ensures ok { OnOk result (self.new ≡ with_metric self.old (seen_metric metadata metric)) }
+        ensures err { OnErr result (self.new ≡ self.old) }
+    {
+        let Ok(key) = Tailed::new(alloc, metadata) else {
+            return Err(RegistryError::Memory);
+        };
+        let is_below = self.is_below_child(key.tail());
+        insert_metric(&mut self.metrics, alloc, key, metric, is_below)
+    }
+
     // Adds a metric here, in terms of the tree alone.
     fn insert_here(
         &mut self,
@@ -110,12 +154,12 @@ impl<M: Drop> Registry<M> {
         unit: Option<Unit>,
         metric: M,
     ) -> Result<(), RegistryError>
-        ensures answer { IsAnswered (refusal_of result) (metric_refusal self.old.facts.metrics (seen_metric (asked name help metric_type unit) metric)) }
+        ensures answer { IsAnswered (refusal_of result) (metric_refusal self.old.facts.metrics (names_in self.old.children) (seen_metric (asked name help metric_type unit) metric)) }
         ensures ok { OnOk result (self.new ≡ with_metric self.old (seen_metric (asked name help metric_type unit) metric)) }
         ensures err { OnErr result (self.new ≡ self.old) }
     {
-        let key = named_metric(name, help, metric_type, unit)?;
-        insert_metric(&mut self.metrics, alloc, key, metric)
+        let metadata = named_metric(name, help, metric_type, unit)?;
+        self.insert_named(alloc, metadata, metric)
     }
 
     /// Registers a metric here as one of this type, which the caller asked it for. It refuses and leaves what
@@ -144,9 +188,12 @@ impl Registry {
     ///
     /// The metric is asked for its type once, and that answer is its type from then on. Refused, in this order: a name
     /// that is not in snake case (`InvalidNameFormat`), a unit where the type has none (`MustHaveAnEmptyUnitString`), a
-    /// unit's text that is not one word of lowercase letters and digits (`OtherUnitFormatMustBeLowercase`), and a metric
-    /// whose name, type and unit are registered here already (`AlreadyExists`). At `Memory` no memory could be had. A
-    /// refused metric is dropped, and the registry stays as it was. It takes memory for the place of the metric alone.
+    /// unit's text that is not one word of lowercase letters and digits (`OtherUnitFormatMustBeLowercase`), a metric whose
+    /// name, type and unit are registered here already (`AlreadyExists`), and a name that is taken (`NameTaken`): with its
+    /// unit behind an underscore it is that of another metric here, or it begins with a subsystem's name and an underscore.
+    ///
+    /// At `Memory` no memory could be had; the first three refusals take none. A refused metric is dropped, and the registry
+    /// stays as it was. It takes memory for the metric's place, and for its name with its unit.
     pub fn register_metric(
         &mut self,
         alloc: Global,

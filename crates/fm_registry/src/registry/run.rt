@@ -4,7 +4,7 @@ ghost use Rattle.std.specs.String.{string_bytes};
 ghost use Rattle.fm_text.specs.Samples.{labels_of};
 ghost use Rattle.fm_book.specs.Answer.{refusal_of, subsystem_refusal, answer, after, IsAnswered};
 ghost use Rattle.fm_book.specs.Book.{Subsystem as AskSubsystem};
-ghost use Rattle.fm_book.specs.Tree.{Reads};
+ghost use Rattle.fm_book.specs.Tree.{Reads, names_in};
 ghost use Rattle.fm_book.specs.Steps.{with_subsystem};
 ghost use Rattle.fm_book.specs.Running.{path_of};
 ghost use Rattle.fm_registry.specs.Request.{call_at};
@@ -60,7 +60,7 @@ impl<M: Drop> Registry<M> {
         name: String,
         labels: Vec<(String, String)>,
     ) -> Result<(), RegistryError>
-        ensures answer { IsAnswered (refusal_of result) (subsystem_refusal self.old.facts.depth (string_bytes name) (labels_of labels.items)) }
+        ensures answer { IsAnswered (refusal_of result) (subsystem_refusal self.old.facts.depth self.old.facts.metrics (names_in self.old.children) (string_bytes name) (labels_of labels.items)) }
         ensures ok { OnOk result (self.new ≡ with_subsystem self.old (string_bytes name) (labels_of labels.items)) }
         ensures err { OnErr result (self.new ≡ self.old) }
     {

@@ -1,11 +1,12 @@
 //! The builder of a subsystem.
-ghost use Rattle.std.specs.Prelude.{◌≡◌, IfOk, []};
+ghost use Rattle.std.specs.Prelude.{◌≡◌, true, IfOk, []};
 ghost use Rattle.std.specs.Borrow.{sem};
 ghost use Rattle.std.specs.String.{string_bytes};
 ghost use Rattle.fm_text.specs.Samples.{labels_of};
-ghost use Rattle.fm_book.specs.Answer.{refusal_of, name_or_depth_refusal, subsystem_refusal, first_bad_label, after, IsAnswered};
+ghost use Rattle.fm_book.specs.Answer.{refusal_of, name_or_depth_refusal, asking_refusal, subsystem_refusal, first_bad_label, after, IsAnswered};
 ghost use Rattle.fm_book.specs.Book.{Subsystem as AskSubsystem};
-ghost use Rattle.fm_book.specs.Tree.{Reads};
+ghost use Rattle.fm_book.specs.Texts.{has_name};
+ghost use Rattle.fm_book.specs.Tree.{Reads, names_in};
 ghost use Rattle.fm_book.specs.Steps.{with_subsystem};
 ghost use Rattle.fm_book.specs.Loan.{LoanReads};
 ghost use Rattle.fm_registry.specs.Building.{rests_if_refused, builder_rests, lends_built};
@@ -110,11 +111,13 @@ impl<'a, M: Drop> RegistrySubsystemBuilder<'a, M> {
     /// The subsystem with this name, which is made where it is not there: with the registry's labels, over which its own are
     /// set, and with the registry's namespace and the name, joined by an underscore, as its namespace.
     ///
-    /// A subsystem that is there keeps its labels. At `Memory`, the one error after a refusal that `subsystem_builder` or
-    /// `with_const_labels` gave, the registry stays as it was.
+    /// A subsystem that is there keeps its labels, and takes no memory. A new one is refused under a name that is taken, as by
+    /// `subsystem` (`NameTaken`); at `Memory` no memory could be had. At an error the registry stays as it was.
     pub fn build(self) -> Result<&'a mut Subsystem<M>, RegistryError>
         ensures* writes_back { sem 𝓛 (lends_built M.row self.entry result) }
-        ensures answer { IsAnswered (refusal_of result) (subsystem_refusal self.entry.registry.now.facts.depth (string_bytes self.entry.name) (labels_of self.entry.labels.items)) }
+        ensures answer { IsAnswered (refusal_of result) (subsystem_refusal self.entry.registry.now.facts.depth self.entry.registry.now.facts.metrics (names_in self.entry.registry.now.children) (string_bytes self.entry.name) (labels_of self.entry.labels.items)) }
+        // One that is there takes no memory.
+        ensures there { has_name (names_in self.entry.registry.now.children) (string_bytes self.entry.name) ≡ true → refusal_of result ≡ asking_refusal self.entry.registry.now.facts.depth (string_bytes self.entry.name) (labels_of self.entry.labels.items) }
         ensures name { IfOk result (λ s. string_bytes s.now.name ≡ string_bytes self.entry.name) }
         ensures reads { IfOk result (λ s. (b : _) → Reads self.entry.registry.now b → LoanReads (with_subsystem self.entry.registry.now (string_bytes self.entry.name) (labels_of self.entry.labels.items)) (string_bytes self.entry.name) s.now.registry (after b (AskSubsystem [] (string_bytes self.entry.name) (labels_of self.entry.labels.items)))) }
         ensures sound { IfOk result (λ s. HasBook self.entry.registry.now → HasBook s.now.registry) }

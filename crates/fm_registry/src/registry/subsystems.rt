@@ -1,16 +1,18 @@
 //! Subsystems: where they stand, and how they are made and lent.
-ghost use Rattle.std.specs.Prelude.{◌≡◌, ◌<◌, ◌+◌, ◌++◌, ◌∷◌, [], Some, None, IsSome, OnOk, OnErr, IfOk, length};
+ghost use Rattle.std.specs.Prelude.{◌≡◌, ◌<◌, ◌+◌, ◌++◌, ◌∷◌, ◌||◌, true, [], Some, None, IsSome, OnOk, OnErr, IfOk, length};
 ghost use Rattle.std.specs.Borrow.{sem};
-ghost use Rattle.std.specs.List.{position_from};
+ghost use Rattle.std.specs.List.{position_from, list_any};
 ghost use Rattle.std.specs.Str.{bytes_eq};
 ghost use Rattle.std.specs.String.{string_bytes};
 ghost use Rattle.fm_text.specs.Samples.{labels_of};
-ghost use Rattle.fm_book.specs.Answer.{refusal_of, subsystem_refusal, after, IsAnswered};
+ghost use Rattle.fm_book.specs.Answer.{refusal_of, new_name_refusal, child_refusal, asking_refusal, subsystem_refusal, after, IsAnswered};
 ghost use Rattle.fm_book.specs.Book.{Subsystem as AskSubsystem};
-ghost use Rattle.fm_book.specs.Tree.{Reads};
+ghost use Rattle.fm_book.specs.Taken.{is_below as below_test, is_child_taken, tails_of};
+ghost use Rattle.fm_book.specs.Texts.{has_name};
+ghost use Rattle.fm_book.specs.Tree.{Reads, names_in};
 ghost use Rattle.fm_book.specs.Steps.{nth_in, nth_name, place_in, with_subsystem, new_tree};
 ghost use Rattle.fm_book.specs.Loan.{LoanReads};
-ghost use Rattle.fm_registry.specs.View.{forest_of};
+ghost use Rattle.fm_registry.specs.View.{forest_of, seen_metrics};
 ghost use Rattle.fm_registry.specs.Lists.{items_of};
 ghost use Rattle.fm_registry.specs.Lends.{lends_subsystems, lends_nth, lends_registry, lends_subsystem};
 ghost use Rattle.fm_registry.specs.HasBook.{HasBook};
@@ -18,8 +20,10 @@ ghost use Rattle.fm_registry.specs.HasBook.{HasBook};
 use super::{Registry, Subsystem};
 use crate::labels::{joined_name, merged_labels, tested_labels};
 use crate::lists::{element_mut, push_to};
+use crate::names::{Tailed, is_below};
 use fm_book::RegistryError;
 use fm_raw::is_snake_case;
+use indexmap::IndexMap;
 use std::alloc::{AllocError, Global};
 use std::ops::{Deref, DerefMut};
 
@@ -31,6 +35,34 @@ fn position_of<M>(subsystems: &[Subsystem<M>], name: &str) -> Option<usize>
     ensures { result ≡ position_from (λ s. bytes_eq (string_bytes s.name) name.now) 0 subsystems.now }
 {
     subsystems.iter().position(|s| s.name.as_str() == name)
+}
+
+// Whether the text begins with the name of one of the subsystems and an underscore.
+fn is_below_any<M>(subsystems: &[Subsystem<M>], text: &str) -> bool
+    ensures { result ≡ list_any (λ s. below_test (string_bytes s.name) text.now) subsystems.now }
+{
+    subsystems.iter().any(|s| is_below(s.name.as_str(), text))
+}
+
+// Whether one of two names begins with the other and an underscore.
+fn are_related(name: &str, other: &str) -> bool
+    ensures { result ≡ below_test name.now other.now || below_test other.now name.now }
+{
+    is_below(name, other) || is_below(other, name)
+}
+
+// Whether the name and that of one of the subsystems are so.
+fn is_related_to_any<M>(subsystems: &[Subsystem<M>], name: &str) -> bool
+    ensures { result ≡ list_any (λ s. below_test (string_bytes s.name) name.now || below_test name.now (string_bytes s.name)) subsystems.now }
+{
+    subsystems.iter().any(|s| are_related(s.name.as_str(), name))
+}
+
+// Whether the tail of one of the metrics begins with the name and an underscore.
+fn is_above_any<M>(metrics: &IndexMap<Tailed, M>, name: &str) -> bool
+    ensures { result ≡ list_any (λ tail. below_test name.now tail) (tails_of (seen_metrics metrics.now.entries)) }
+{
+    metrics.keys().any(|key| is_below(name, key.tail()))
 }
 
 // Adds a subsystem at the end, and answers its place.
@@ -58,6 +90,43 @@ impl<M: Drop> Registry<M> {
             Some(subsystems) => position_of(subsystems, name),
             None => None,
         }
+    }
+
+    // Whether a metric with this tail would lie below a subsystem.
+    pub(super) fn is_below_child(&self, tail: &str) -> bool
+        ensures { result ≡ list_any (λ child. below_test child tail.now) (names_in self.now.children) }
+    {
+        match &self.subsystems {
+            Some(subsystems) => is_below_any(subsystems, tail),
+            None => false,
+        }
+    }
+
+    // Whether a subsystem with this name and another here would lie below one another.
+    fn is_beside_child(&self, name: &str) -> bool
+        ensures { result ≡ list_any (λ child. below_test child name.now || below_test name.now child) (names_in self.now.children) }
+    {
+        match &self.subsystems {
+            Some(subsystems) => is_related_to_any(subsystems, name),
+            None => false,
+        }
+    }
+
+    // Whether a metric here would lie below a subsystem with this name.
+    fn is_above_metric(&self, name: &str) -> bool
+        ensures { result ≡ list_any (λ tail. below_test name.now tail) (tails_of self.now.facts.metrics) }
+    {
+        match &self.metrics {
+            Some(metrics) => is_above_any(metrics, name),
+            None => false,
+        }
+    }
+
+    // Whether a new subsystem may not have this name.
+    fn is_name_taken(&self, name: &str) -> bool
+        ensures { result ≡ is_child_taken (tails_of self.now.facts.metrics) (names_in self.now.children) name.now }
+    {
+        self.is_above_metric(name) || self.is_beside_child(name)
     }
 
     // The subsystems, to write.
@@ -99,6 +168,29 @@ impl<M: Drop> Registry<M> {
         })
     }
 
+    // The place of a new subsystem, none of whose name is there.
+    fn new_place(
+        &mut self,
+        alloc: Global,
+        name: String,
+        labels: Vec<(String, String)>,
+    ) -> Result<usize, RegistryError>
+        requires depth { self.old.facts.depth < 64 }
+        requires absent { place_in self.old.children (string_bytes name) ≡ None }
+        ensures answer { IsAnswered (refusal_of result) (new_name_refusal self.old.facts.metrics (names_in self.old.children) (string_bytes name)) }
+        ensures place { IfOk result (λ place. place_in self.new.children (string_bytes name) ≡ Some place) }
+        ensures ok { OnOk result (self.new ≡ with_subsystem self.old (string_bytes name) (labels_of labels.items)) }
+        ensures err { OnErr result (self.new ≡ self.old) }
+    {
+        if self.is_name_taken(name.as_str()) {
+            return Err(RegistryError::NameTaken { name });
+        }
+        match self.new_child(alloc, name.as_str(), labels) {
+            Ok(registry) => push_subsystem(&mut self.subsystems, alloc, Subsystem { name, registry }),
+            Err(_) => Err(RegistryError::Memory),
+        }
+    }
+
     // The place of the subsystem with this name, which is made where it is not there.
     fn place_or_new(
         &mut self,
@@ -107,19 +199,15 @@ impl<M: Drop> Registry<M> {
         labels: Vec<(String, String)>,
     ) -> Result<usize, RegistryError>
         requires { self.old.facts.depth < 64 }
-        ensures answer { IsAnswered (refusal_of result) None }
+        ensures answer { IsAnswered (refusal_of result) (child_refusal self.old.facts.metrics (names_in self.old.children) (string_bytes name)) }
+        ensures there { has_name (names_in self.old.children) (string_bytes name) ≡ true → refusal_of result ≡ None }
         ensures place { IfOk result (λ place. place_in self.new.children (string_bytes name) ≡ Some place) }
         ensures ok { OnOk result (self.new ≡ with_subsystem self.old (string_bytes name) (labels_of labels.items)) }
         ensures err { OnErr result (self.new ≡ self.old) }
     {
         match self.place_of(name.as_str()) {
             Some(place) => Ok(place),
-            None => match self.new_child(alloc, name.as_str(), labels) {
-                Ok(registry) => {
-                    push_subsystem(&mut self.subsystems, alloc, Subsystem { name, registry })
-                }
-                Err(_) => Err(RegistryError::Memory),
-            },
+            None => self.new_place(alloc, name, labels),
         }
     }
 
@@ -130,7 +218,8 @@ impl<M: Drop> Registry<M> {
         name: String,
         labels: Vec<(String, String)>,
     ) -> Result<usize, RegistryError>
-        ensures answer { IsAnswered (refusal_of result) (subsystem_refusal self.old.facts.depth (string_bytes name) (labels_of labels.items)) }
+        ensures answer { IsAnswered (refusal_of result) (subsystem_refusal self.old.facts.depth self.old.facts.metrics (names_in self.old.children) (string_bytes name) (labels_of labels.items)) }
+        ensures there { has_name (names_in self.old.children) (string_bytes name) ≡ true → refusal_of result ≡ asking_refusal self.old.facts.depth (string_bytes name) (labels_of labels.items) }
         ensures place { IfOk result (λ place. place_in self.new.children (string_bytes name) ≡ Some place) }
         ensures ok { OnOk result (self.new ≡ with_subsystem self.old (string_bytes name) (labels_of labels.items)) }
         ensures err { OnErr result (self.new ≡ self.old) }
@@ -153,7 +242,8 @@ impl<M: Drop> Registry<M> {
         labels: Vec<(String, String)>,
     ) -> Result<&mut Subsystem<M>, RegistryError>
         ensures* writes_back { sem 𝓛 (lends_subsystem M.row self.entry (string_bytes name) (labels_of labels.items) result) }
-        ensures answer { IsAnswered (refusal_of result) (subsystem_refusal self.old.facts.depth (string_bytes name) (labels_of labels.items)) }
+        ensures answer { IsAnswered (refusal_of result) (subsystem_refusal self.old.facts.depth self.old.facts.metrics (names_in self.old.children) (string_bytes name) (labels_of labels.items)) }
+        ensures there { has_name (names_in self.old.children) (string_bytes name) ≡ true → refusal_of result ≡ asking_refusal self.old.facts.depth (string_bytes name) (labels_of labels.items) }
         ensures name { IfOk result (λ s. string_bytes s.now.name ≡ string_bytes name) }
         ensures reads { IfOk result (λ s. (b : _) → Reads self.old b → LoanReads (with_subsystem self.old (string_bytes name) (labels_of labels.items)) (string_bytes name) s.now.registry (after b (AskSubsystem [] (string_bytes name) (labels_of labels.items)))) }
         ensures sound { IfOk result (λ s. HasBook self.old → HasBook s.now.registry) }
@@ -165,16 +255,21 @@ impl<M: Drop> Registry<M> {
     /// The subsystem with this name, which is made where it is not there: with this registry's labels, and with its
     /// namespace and the name, joined by an underscore, as its namespace.
     ///
-    /// Refused, in this order: a name that is not in snake case (`InvalidSubsystemName`), and a subsystem 65 registries
-    /// below a root (`TooDeep`). At `Memory` no memory could be had. At an error the registry stays as it was. What is
-    /// done to the subsystem is done to the part of this registry that it is; a subsystem that is there takes no memory.
+    /// Refused, in this order: a name that is not in snake case (`InvalidSubsystemName`), a subsystem 65 registries below a
+    /// root (`TooDeep`), and, of a subsystem that is not there, a name that is taken (`NameTaken`): a metric's name here,
+    /// with its unit behind an underscore, or another subsystem's name begins with it and an underscore, or it begins with
+    /// another subsystem's name and an underscore. At `Memory` no memory could be had. At an error the registry stays as it
+    /// was. What is done to the subsystem is done to the part of this registry that it is; a subsystem that is there takes
+    /// no memory.
     pub fn subsystem(
         &mut self,
         alloc: Global,
         name: String,
     ) -> Result<&mut Subsystem<M>, RegistryError>
         ensures* writes_back { sem 𝓛 (lends_subsystem M.row self.entry (string_bytes name) [] result) }
-        ensures answer { IsAnswered (refusal_of result) (subsystem_refusal self.old.facts.depth (string_bytes name) []) }
+        ensures answer { IsAnswered (refusal_of result) (subsystem_refusal self.old.facts.depth self.old.facts.metrics (names_in self.old.children) (string_bytes name) []) }
+        // One that is there takes no memory.
+        ensures there { has_name (names_in self.old.children) (string_bytes name) ≡ true → refusal_of result ≡ asking_refusal self.old.facts.depth (string_bytes name) [] }
         ensures name { IfOk result (λ s. string_bytes s.now.name ≡ string_bytes name) }
         ensures reads { IfOk result (λ s. (b : _) → Reads self.old b → LoanReads (with_subsystem self.old (string_bytes name) []) (string_bytes name) s.now.registry (after b (AskSubsystem [] (string_bytes name) []))) }
         ensures sound { IfOk result (λ s. HasBook self.old → HasBook s.now.registry) }

@@ -5,8 +5,8 @@ use Rattle.fm_book.specs.Listing.{Listed, IsListable}
 use Rattle.fm_book.proofs.OrderLemmas.{listed_tree-fits}
 use Rattle.fm_registry.specs.Seen.{seen_list, seen_listed}
 use Rattle.fm_core.specs.Admits.{Fault}
-use Rattle.fm_core.proofs.CollectLemmas.{Fault-at, IsListable-at, refusal-not_writing}
-use Rattle.fm_core.proofs.DocumentLemmas.{IsTextOf-next}
+use Rattle.fm_core.proofs.CollectLemmas.{names_differ, Fault-at, IsListable-at, refusal-not_writing}
+use Rattle.fm_core.proofs.DocumentLemmas.{IsTextOf-none, IsTextOf-next}
 use Rattle.fm_core.proofs.document.document_lines.Goals as goal
 
 pub with_listed-requires : goal.with_listed-requires
@@ -16,11 +16,16 @@ with_listed-requires g c =
     IsListable-at c.deref-listed-items.result.now c.loop-listed.listed-index c.listed-item.result within c.listed-item.is
     (subst (λ (ls : List (Listed _)). AllByRecursion IsListable ls) (sym whole) (listed_tree-fits c.args.registry.now c.requires.book c.requires.reads))
 
+pub loop-listed-init : goal.loop-listed-init
+loop-listed-init g c = rw c.new-lines.ensures (IsTextOf-none _ _ _)
+
 pub loop-listed-preserved : goal.loop-listed-preserved
 loop-listed-preserved g c =
     let within : c.loop-listed.listed-index < length c.deref-listed-items.result.now = omega arith in
     IsTextOf-next _ _ _ c.deref-listed-items.result.now c.loop-listed.listed-index c.listed-item.result c.loop-listed.lines.text c.in_ok-lines.lines.text
-    within c.listed-item.is c.loop-listed.invariant (rw c.in_ok-lines.was at c.with_listed.ensures)
+    within c.listed-item.is
+    (names_differ c.args.registry.now c.requires.book (seen_list c.deref-listed-items.result.now) c.requires.reads (ap seen_list c.deref-listed-items.ensures.value ∙ c.in-Ok.ensures.book c.requires.book c.requires.reads))
+    c.loop-listed.invariant (rw c.in_ok-lines.was at c.with_listed.ensures)
 
 pub returns-in_err-lines-clause-fault : goal.returns-in_err-lines-clause-fault
 returns-in_err-lines-clause-fault g c =

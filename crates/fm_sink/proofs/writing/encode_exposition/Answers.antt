@@ -5,7 +5,7 @@ use Rattle.fm_text.proofs.RowLemmas.{document_written}
 use Rattle.fm_sink.proofs.writing.encode_exposition.Goals as goal
 
 pub returns-clause-document : goal.returns-clause-document
-returns-clause-document g c = on_ok_more c.write_text.result _ _ (λ wrote. (document_rows c.args.exposition.now, document_written _ c.families.ensures.well_formed, rw (c.as_slice.ensures, c.in-Ok.ensures, c.families.ensures.same) at wrote)) c.write_text.ensures.ok
+returns-clause-document g c = on_ok_more c.write_text.result _ _ (λ wrote. (document_rows c.args.exposition.now, document_written _ c.families.ensures.well_formed.well_formed, rw (c.as_slice.ensures, c.in-Ok.ensures, c.families.ensures.same) at wrote)) c.write_text.ensures.ok
 
 pub returns-clause-stopped : goal.returns-clause-stopped
-returns-clause-stopped g c = if_err_more c.write_text.result _ _ IsWritersFault (λ begun. (document_rows c.args.exposition.now, document_written _ c.families.ensures.well_formed, rw (c.as_slice.ensures, c.in-Ok.ensures, c.families.ensures.same) at begun)) c.write_text.ensures.stopped
+returns-clause-stopped g c = if_err_more c.write_text.result _ _ IsWritersFault (λ begun. (document_rows c.args.exposition.now, document_written _ c.families.ensures.well_formed.well_formed, rw (c.as_slice.ensures, c.in-Ok.ensures, c.families.ensures.same) at begun)) c.write_text.ensures.stopped

@@ -5,7 +5,7 @@ use Rattle.fm_book.specs.Listing.{Listed, IsListable}
 use Rattle.fm_book.proofs.OrderLemmas.{listed_tree-fits}
 use Rattle.fm_registry.specs.Seen.{seen_list, seen_listed}
 use Rattle.fm_core.specs.Admits.{Fault}
-use Rattle.fm_core.proofs.CollectLemmas.{Admits-next, Fault-at, IsListable-at, refusal-not_writing}
+use Rattle.fm_core.proofs.CollectLemmas.{Admits-next, next_new, names_differ, Fault-at, IsListable-at, refusal-not_writing}
 use Rattle.fm_core.proofs.format.text.collect.Goals as goal
 
 pub encode_listed-requires-clause-listable : goal.encode_listed-requires-clause-listable
@@ -14,6 +14,13 @@ encode_listed-requires-clause-listable g c =
     let whole = ap seen_list c.deref-listed-items.ensures.value ∙ c.in-Ok.ensures.tree in
     IsListable-at c.deref-listed-items.result.now c.loop-listed.listed-index c.listed-item.result within c.listed-item.is
     (subst (λ (ls : List (Listed _)). AllByRecursion IsListable ls) (sym whole) (listed_tree-fits c.args.registry.now c.requires.book c.requires.reads))
+
+pub encode_listed-requires-clause-new_name : goal.encode_listed-requires-clause-new_name
+encode_listed-requires-clause-new_name g c =
+    let within : c.loop-listed.listed-index < length c.deref-listed-items.result.now = omega arith in
+    next_new _ _ _ c.deref-listed-items.result.now c.loop-listed.listed-index c.listed-item.result c.loop-listed.encoder.families within c.listed-item.is
+    (names_differ c.args.registry.now c.requires.book (seen_list c.deref-listed-items.result.now) c.requires.reads (ap seen_list c.deref-listed-items.ensures.value ∙ c.in-Ok.ensures.book c.requires.book c.requires.reads))
+    c.loop-listed.invariant.admitted
 
 pub loop-listed-preserved : goal.loop-listed-preserved
 loop-listed-preserved g c =

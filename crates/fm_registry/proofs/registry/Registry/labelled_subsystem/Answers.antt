@@ -28,6 +28,7 @@ returns g c =
       record {
         writes_back = tt;
         answer = c.in_ok-place.ensures.answer;
+        there = c.in_ok-place.ensures.there;
         name =
             let both : Some (string_bytes c.subsystem_at.result.now.name) ≡ Some (string_bytes c.args.name) = sym c.subsystem_at.ensures.name ∙ place.name in
             some_same _ _ both;

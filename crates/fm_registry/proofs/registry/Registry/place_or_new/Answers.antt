@@ -1,26 +1,30 @@
-use Rattle.std.proofs.Common.{◌≡◌, refl, sym, ap, subst, ◌∙◌, OnOk}
+use Rattle.std.proofs.Common.{sym, ap, ◌∙◌, subst, inr, true≢false}
 use Rattle.fm_text.specs.Samples.{labels_of}
 use Rattle.std.specs.String.{string_bytes}
-use Rattle.fm_registry.specs.View.{forest_of, facts_of, tree_of}
-use Rattle.fm_book.specs.Steps.{place_in, new_tree, with_subsystem}
-use Rattle.fm_registry.specs.Lists.{items_of}
+use Rattle.fm_book.specs.Tree.{names_in}
+use Rattle.fm_book.specs.Steps.{place_in}
+use Rattle.fm_book.specs.Answer.{IsAnswered, refusal_of}
+use Rattle.fm_book.proofs.AnswerLemmas.{child_refusal-there, child_refusal-new}
+use Rattle.fm_book.proofs.ApplyLemmas.{there_from_place, absent_from_place}
 use Rattle.fm_book.proofs.PushLemmas.{with_subsystem-there}
-use Rattle.fm_registry.proofs.PushLemmas.{pushed-place, pushed-tree}
 use Rattle.fm_registry.proofs.registry.Registry.place_or_new.Goals as goal
 
 pub returns-in-Some-clause-ok : goal.returns-in-Some-clause-ok
 returns-in-Some-clause-ok g c = with_subsystem-there c.args.self.now (string_bytes c.args.name) (labels_of c.args.labels.items) _ (ap (λ m. place_in c.args.self.now.children m) (sym c.as_str.ensures.value) ∙ sym c.place_of.ensures ∙ c.in-Some.is)
 
-pub returns-in-Ok-clause-place : goal.returns-in-Ok-clause-place
-returns-in-Ok-clause-place g c =
-    pushed-place c.push_subsystem.result (items_of c.self.inside.subsystems) (items_of c.push_subsystem.new.subsystems) (record { name = c.args.name; registry = c.in-Ok.registry }) (string_bytes c.args.name) refl
-    (ap (λ t. place_in t.children (string_bytes c.args.name)) c.self.view_is ∙ ap (λ m. place_in c.args.self.now.children m) (sym c.as_str.ensures.value) ∙ sym c.place_of.ensures ∙ c.in-None.is)
-    c.push_subsystem.ensures.place c.push_subsystem.ensures.ok
 
-pub returns-in-Ok-clause-ok : goal.returns-in-Ok-clause-ok
-returns-in-Ok-clause-ok g c =
-    subst (λ t. OnOk c.push_subsystem.result (record { facts = facts_of c.self.inside; children = forest_of (items_of c.push_subsystem.new.subsystems) } ≡ with_subsystem t (string_bytes c.args.name) (labels_of c.args.labels.items))) c.self.view_is
-    (pushed-tree c.push_subsystem.result (tree_of c.self.inside) (items_of c.self.inside.subsystems) (items_of c.push_subsystem.new.subsystems) (record { name = c.args.name; registry = c.in-Ok.registry }) (string_bytes c.args.name) (labels_of c.args.labels.items) refl refl
-    (c.in-Ok.ensures ∙ ap (λ m. new_tree c.args.self.now.facts m (labels_of c.args.labels.items)) c.as_str-in-None.ensures.value ∙ ap (λ t. new_tree t.facts (string_bytes c.args.name) (labels_of c.args.labels.items)) (sym c.self.view_is))
-    (ap (λ t. place_in t.children (string_bytes c.args.name)) c.self.view_is ∙ ap (λ m. place_in c.args.self.now.children m) (sym c.as_str.ensures.value) ∙ sym c.place_of.ensures ∙ c.in-None.is)
-    c.push_subsystem.ensures.ok)
+pub returns-in-Some-clause-answer : goal.returns-in-Some-clause-answer
+returns-in-Some-clause-answer g c =
+    inr (sym (child_refusal-there c.args.self.now.facts.metrics (names_in c.args.self.now.children) (string_bytes c.args.name)
+    (there_from_place c.args.self.now.children (string_bytes c.args.name) 0 _ (ap (λ m. place_in c.args.self.now.children m) (sym c.as_str.ensures.value) ∙ sym c.place_of.ensures ∙ c.in-Some.is))))
+
+pub returns-in-None-clause-answer : goal.returns-in-None-clause-answer
+returns-in-None-clause-answer g c =
+    subst (λ o. IsAnswered (refusal_of c.new_place.result) o)
+    (sym (child_refusal-new c.args.self.now.facts.metrics (names_in c.args.self.now.children) (string_bytes c.args.name)
+    (absent_from_place c.args.self.now.children (string_bytes c.args.name) 0 (ap (λ m. place_in c.args.self.now.children m) (sym c.as_str.ensures.value) ∙ sym c.place_of.ensures ∙ c.in-None.is))))
+    c.new_place.ensures.answer
+
+pub returns-in-None-clause-there : goal.returns-in-None-clause-there
+returns-in-None-clause-there g c = λ h.
+    absurd (true≢false (sym h ∙ absent_from_place c.args.self.now.children (string_bytes c.args.name) 0 (ap (λ m. place_in c.args.self.now.children m) (sym c.as_str.ensures.value) ∙ sym c.place_of.ensures ∙ c.in-None.is)))

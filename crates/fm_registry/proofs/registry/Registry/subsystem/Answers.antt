@@ -7,6 +7,7 @@ returns g c = (
   record {
     writes_back = tt;
     answer = rw c.new.ensures.items at c.labelled_subsystem.ensures.answer;
+    there = rw c.new.ensures.items at c.labelled_subsystem.ensures.there;
     name = c.labelled_subsystem.ensures.name;
     reads = rw c.new.ensures.items at c.labelled_subsystem.ensures.reads;
     sound = c.labelled_subsystem.ensures.sound;

@@ -1,0 +1,64 @@
+//! The names that stand in one registry: which metric has which tail, and what lies below a subsystem's name.
+ghost use Rattle.std.specs.Prelude.{◌≡◌, IfOk, true, false};
+ghost use Rattle.std.specs.String.{string_bytes};
+ghost use Rattle.fm_book.specs.Taken.{is_below as below_test};
+ghost use Rattle.fm_registry.specs.Names.{metadata_tail};
+
+use fm_raw::Metadata;
+use std::alloc::{AllocError, Global};
+
+// Whether the text begins with the name and an underscore.
+pub(crate) fn is_below(name: &str, text: &str) -> bool
+    ensures { result ≡ below_test name.now text.now }
+{
+    match text.strip_prefix(name) {
+        Some(rest) => rest.starts_with("_"),
+        None => false,
+    }
+}
+
+// A metric's metadata under its tail, by which alone it is compared and hashed: its name, or its name, an underscore and
+// its unit.
+#[derive(Drop)]
+#[derive_where(PartialEq, Eq, Hash)]
+pub struct Tailed {
+    tail: String,
+    #[derive_where(skip(EqHashOrd))]
+    metadata: Metadata,
+    pub ghost fits: { string_bytes tail ≡ metadata_tail metadata },
+}
+
+impl Tailed {
+    // The metadata under their tail, which takes memory.
+    pub(crate) fn new(alloc: Global, metadata: Metadata) -> Result<Tailed, AllocError>
+        ensures { IfOk result (λ key. key.metadata ≡ metadata) }
+    {
+        let mut tail = String::from_str(alloc, metadata.name())?;
+        if let Some(unit) = metadata.unit() {
+            tail.push_str("_")?;
+            tail.push_str(unit.as_str())?;
+        }
+        Ok(Tailed { tail, metadata })
+    }
+
+    // The tail.
+    pub(crate) fn tail(&self) -> &str
+        ensures { result.now ≡ string_bytes self.now.tail }
+    {
+        self.tail.as_str()
+    }
+
+    // The metadata.
+    pub(crate) fn metadata(&self) -> &Metadata
+        ensures { result.now ≡ self.now.metadata }
+    {
+        &self.metadata
+    }
+
+    // The metric's name, of metadata that are no longer needed.
+    pub(crate) fn into_name(self) -> String
+        ensures { result ≡ self.metadata.name }
+    {
+        self.metadata.into_name()
+    }
+}
