@@ -1,0 +1,164 @@
+-- Where a line leads a reader, and that it leads nowhere.
+use Rattle.std.proofs.Common.{◌≡◌, ◌≢◌, ℕ, zero, suc, ◌+◌, ◌<◌, List, [], ◌∷◌, ◌++◌, length, take, get_or, refl, sym, ap, subst, ◌∙◌, Option, Some, None, Result, Ok, Err, IfOk, codes, arith}
+use Rattle.std.specs.List.{AllByRecursion}
+use Rattle.fm_grammar.specs.declared.MetricType.{MetricType}
+use Rattle.fm_grammar.specs.Exposition.{Text, Sample, Family}
+use Rattle.fm_grammar.specs.Names.{IsSnakeCase}
+use Rattle.fm_grammar.specs.WellFormed.{UnitFits, UnitAllowed, IsSample}
+use Rattle.fm_grammar.specs.Document.{IsTypeLine, IsHelpLine, IsUnitLine, IsSampleLine, IsLastLine}
+use Rattle.fm_grammar.specs.Reading.{State, Open, Headed, Ended, closed, IsNewName, with_unit, with_sample, Follows, type_line, help_line, unit_line, sample_line, last_line}
+use Rattle.fm_grammar.proofs.Runs.{all_middle, all_append, one_run}
+use Rattle.fm_grammar.proofs.FamilyNames.{IsNameByte, snake_case_bytes}
+use Rattle.fm_grammar.specs.Kinds.{type_word}
+use Rattle.std.proofs.lemmas.List.{append_cancel_left}
+use Rattle.fm_reader_lines.specs.Lines.{FoundHelp, FoundUnit, FoundSample}
+use Rattle.fm_reader.specs.Steps.{state_of, IsStep, IsStepWithin, FoundNewType}
+use Rattle.fm_reader.specs.declared.machine.Reading.{Reading}
+use Rattle.fm_reader.specs.declared.error.ReadError.{ReadError}
+
+-- the line is no unit line and no sample line of the family
+abbrev pub RefusesWithin : Family → Text → Type 0
+RefusesWithin family line =
+    ((unit : Text) → IsUnitLine line family.name unit → family.unit ≡ None → family.samples ≡ [] → UnitFits family.name (Some unit) → UnitAllowed family.metric_type (Some unit) → ⊥)
+    × ((sample : Sample) → IsSampleLine line family.name sample → IsSample family.metric_type sample → ⊥)
+
+pub record RefusesOpen (finished : List Family) (current : Option Family) (line : Text) : Type 0 where
+  pub last : IsLastLine line → ⊥
+  pub type_lines : (name : Text) (metric_type : MetricType) → IsTypeLine line name metric_type → IsSnakeCase name → IsNewName name (closed finished current) → ⊥
+  pub within : (family : Family) → current ≡ Some family → RefusesWithin family line
+
+abbrev Refuses : State → Text → Type 0
+Refuses (Open finished current) line = RefusesOpen finished current line
+Refuses (Headed finished name metric_type) line = (help : Text) → IsHelpLine line name help → ⊥
+Refuses (Ended families) line = Unit {0}
+
+never : (before : State) (line : Text) (next : State) → Refuses before line → Follows before line next → ⊥
+never _ line _ r (type_line {name = name} {metric_type = m} p n new) = r.type_lines name m p n new
+never _ line _ r (help_line {help = help} p) = r help p
+never _ line _ r (unit_line {family = f} {unit = u} p none empty fits allowed) = (r.within f refl).0 u p none empty fits allowed
+never _ line _ r (sample_line {family = f} {sample = x} p k) = (r.within f refl).1 x p k
+never _ line _ r (last_line p) = r.last p
+
+pub open_refuses : (finished : List Family) (current : Option Family) (line : Text) → RefusesOpen finished current line → (next : State) → Follows (Open finished current) line next → ⊥
+open_refuses finished current line r next p = never (Open finished current) line next r p
+
+pub ended_refuses : (families : List Family) (line : Text) (next : State) → Follows (Ended families) line next → ⊥
+ended_refuses families line next p = never (Ended families) line next tt p
+
+pub headed_refuses : (finished : List Family) (name lent : Text) (m : MetricType) (line : Text) (found : Option Text) → lent ≡ name → found ≡ None → FoundHelp line lent found → (next : State) → Follows (Headed finished name m) line next → ⊥
+headed_refuses finished name lent m line found e none f next p =
+    let no_help : (help : Text) → IsHelpLine line lent help → ⊥ = subst (FoundHelp line lent) none f in
+    never (Headed finished name m) line next (subst (λ n. (help : Text) → IsHelpLine line n help → ⊥) e no_help) p
+
+pub headed_follows : (finished : List Family) (name lent help : Text) (m : MetricType) (line : Text) (found : Option Text) (samples : List Sample) → lent ≡ name → found ≡ Some help → samples ≡ [] → FoundHelp line lent found
+    → Follows (Headed finished name m) line (Open finished (Some (record { name = name; metric_type = m; help = help; unit = None; samples = samples })))
+headed_follows finished name lent help m line found samples e some empty f =
+    let is : IsHelpLine line lent help = subst (FoundHelp line lent) some f in
+    subst (λ xs. Follows (Headed finished name m) line (Open finished (Some (record { name = name; metric_type = m; help = help; unit = None; samples = xs })))) (sym empty)
+    (help_line (subst (λ n. IsHelpLine line n help) e is))
+
+pub unit_follows : (finished : List Family) (f : Family) (lent : Text) (m : MetricType) (unit text : Text) (line : Text) (new : Family) → lent ≡ f.name → m ≡ f.metric_type → text ≡ unit → new ≡ with_unit f text → (f.unit ≡ None) × (f.samples ≡ []) → FoundUnit line lent m (Some unit)
+    → Follows (Open finished (Some f)) line (Open finished (Some new))
+unit_follows finished f lent m unit text line new e kind same more bare found =
+    let is : FoundUnit line f.name f.metric_type (Some unit) = subst (λ n. FoundUnit line n f.metric_type (Some unit)) e (subst (λ k. FoundUnit line lent k (Some unit)) kind found) in
+    subst (λ g. Follows (Open finished (Some f)) line (Open finished (Some g))) (sym (more ∙ ap (with_unit f) same))
+    (unit_line is.0 bare.0 bare.1 is.1 is.2)
+
+pub sample_follows : (finished : List Family) (f : Family) (lent : Text) (m : MetricType) (found : Option Sample) (sample : Sample) (line : Text) (new : Family) → lent ≡ f.name → m ≡ f.metric_type → found ≡ Some sample → new ≡ with_sample f sample → FoundSample line lent m found
+    → Follows (Open finished (Some f)) line (Open finished (Some new))
+sample_follows finished f lent m found sample line new e same some more h =
+    let is : FoundSample line f.name f.metric_type (Some sample) = subst (λ n. FoundSample line n f.metric_type (Some sample)) e (subst (λ k. FoundSample line lent k (Some sample)) same (subst (FoundSample line lent m) some h)) in
+    subst (λ g. Follows (Open finished (Some f)) line (Open finished (Some g))) (sym more) (sample_line is.0 is.1)
+
+-- where the line is no sample line, and no unit line where one may stand
+pub within_refuses : (f : Family) (line lent lent' : Text) (m m' : MetricType) (found : Option Text) (found' : Option Sample) → (f.unit ≡ None → f.samples ≡ [] → (lent ≡ f.name) × (m ≡ f.metric_type) × (found ≡ None) × FoundUnit line lent m found)
+    → lent' ≡ f.name → m' ≡ f.metric_type → found' ≡ None → FoundSample line lent' m' found' → RefusesWithin f line
+within_refuses f line lent lent' m m' found found' units e same none h = (
+  λ unit p nothing empty fits allowed.
+      let u = units nothing empty in
+      let is : FoundUnit line f.name f.metric_type None = subst (λ n. FoundUnit line n f.metric_type None) u.0 (subst (λ k. FoundUnit line lent k None) u.1 (subst (FoundUnit line lent m) u.2 u.3)) in
+      is unit p fits allowed,
+  subst (λ n. FoundSample line n f.metric_type None) e (subst (λ k. FoundSample line lent' k None) same (subst (FoundSample line lent' m') none h)),
+)
+
+-- new names
+
+pub taken_current : (name : Text) (finished : List Family) (current : Option Family) (family : Family) → current ≡ Some family → family.name ≡ name → IsNewName name (closed finished current) → ⊥
+taken_current name finished current family some same new =
+    let h : IsNewName name (closed finished (Some family)) = subst (λ c. IsNewName name (closed finished c)) some new in
+    all_middle (λ f. f.name ≢ name) finished family [] h same
+
+pub new_names : (name : Text) (finished : List Family) (current : Option Family) → IsNewName name finished → ((family : Family) → current ≡ Some family → family.name ≢ name) → IsNewName name (closed finished current)
+new_names name finished None new last = new
+new_names name finished (Some family) new last = all_append (λ f. f.name ≢ name) finished (family ∷ []) new (last family refl, tt)
+
+pub new_none : (name : Text) (families : List Family) → IsNewName name (take 0 families)
+new_none name families = tt
+
+all_take_next : (P : Family → Type 0) (families : List Family) (i : ℕ) (f : Family) → i < length families → f ≡ get_or families i f → P f → AllByRecursion P (take i families) → AllByRecursion P (take (i + 1) families)
+all_take_next P [] i f within is p h = absurd (omega arith)
+all_take_next P (x ∷ families) zero f within is p h = (subst P is p, tt)
+all_take_next P (x ∷ families) (suc i) f within is p h =
+    let more : suc i + 1 ≡ suc (i + 1) = omega arith in
+    subst (λ n. AllByRecursion P (take n (x ∷ families))) (sym more) (h.0, all_take_next P families i f (omega arith) is p h.1)
+
+pub new_next : (name : Text) (families : List Family) (i : ℕ) (f : Family) → i < length families → f ≡ get_or families i f → f.name ≢ name → IsNewName name (take i families) → IsNewName name (take (i + 1) families)
+new_next name families i f within is other h = all_take_next (λ g. g.name ≢ name) families i f within is other h
+
+pub taken_at : (name : Text) (families : List Family) (i : ℕ) (f : Family) → i < length families → f ≡ get_or families i f → f.name ≡ name → IsNewName name families → ⊥
+taken_at name [] i f within is same h = omega arith
+taken_at name (x ∷ families) zero f within is same h = h.0 (subst (λ g. g.name ≡ name) is same)
+taken_at name (x ∷ families) (suc i) f within is same h = taken_at name families i f (omega arith) is same h.1
+
+new_front : (name : Text) (families : List Family) (family : Family) → IsNewName name (families ++ (family ∷ [])) → IsNewName name families
+new_front name [] family new = tt
+new_front name (x ∷ families) family new = (new.0, new_front name families family new.1)
+
+new_among : (name : Text) (finished : List Family) (current : Option Family) → IsNewName name (closed finished current) → IsNewName name finished
+new_among name finished None new = new
+new_among name finished (Some family) new = new_front name finished family new
+
+-- a name is new beside finished families and a current one
+pub new_parts : (name : Text) (finished : List Family) (current : Option Family) → IsNewName name (closed finished current) → IsNewName name finished × ((family : Family) → current ≡ Some family → family.name ≢ name)
+new_parts name finished current new = (new_among name finished current new, λ family some same. taken_current name finished current family some same new)
+
+-- a type line whose name is taken
+
+pub taken_type : (line name : Text) (m : MetricType) (families : List Family) → IsSnakeCase name → IsTypeLine line name m → (IsNewName name families → ⊥) → FoundNewType families line None
+taken_type line name m families n p taken = λ other k q o new.
+    let h = append_cancel_left (codes "# TYPE ") (name ++ (32 ∷ type_word m)) (other ++ (32 ∷ type_word k)) (sym p ∙ q) in
+    let r = one_run IsNameByte name other (32 ∷ type_word m) (32 ∷ type_word k) (snake_case_bytes name n) (snake_case_bytes other o) (λ d. omega arith) (λ d. omega arith) h in
+    taken (subst (λ z. IsNewName z families) (sym r.0) new)
+
+-- steps where a family may begin
+
+some_same : (a b : Family) → ◌≡◌ {A = Option Family} (Some a) (Some b) → a ≡ b
+some_same a b e = cc
+
+pub last_follows : (finished families : List Family) (current : Option Family) (line : Text) → IsLastLine line → families ≡ closed finished current → Follows (Open finished current) line (Ended families)
+last_follows finished families current line p e = subst (λ fs. Follows (Open finished current) line (Ended fs)) (sym e) (last_line p)
+
+pub type_follows : (finished seen families : List Family) (current : Option Family) (line lent name : Text) (m : MetricType) → seen ≡ finished → name ≡ lent → families ≡ closed finished current → FoundNewType (closed seen current) line (Some (lent, m)) → Follows (Open finished current) line (Headed families name m)
+type_follows finished seen families current line lent name m s e f found =
+    let is : FoundNewType (closed finished current) line (Some (lent, m)) = subst (λ fs. FoundNewType (closed fs current) line (Some (lent, m))) s found in
+    subst (λ fs. Follows (Open finished current) line (Headed fs name m)) (sym f)
+    (subst (λ n. Follows (Open finished current) line (Headed (closed finished current) n m)) (sym e) (type_line is.1 is.0 is.2))
+
+pub none_refuses : (finished seen : List Family) (current : Option Family) (line : Text) → seen ≡ finished → current ≡ None → (IsLastLine line → ⊥) → FoundNewType (closed seen current) line None → (next : State) → Follows (Open finished current) line next → ⊥
+none_refuses finished seen current line s none last types =
+    open_refuses finished current line (record {
+      last = last;
+      type_lines = subst (λ fs. FoundNewType (closed fs current) line None) s types;
+      within = λ family some. absurd (let k = sym none ∙ some in cc);
+    })
+
+pub within_step : (finished seen : List Family) (current : Option Family) (family : Family) (line : Text) (r : Result (Option Reading) ReadError) → seen ≡ finished → current ≡ Some family → (IsLastLine line → ⊥) → FoundNewType (closed seen current) line None
+    → IfOk r (λ next. IsStepWithin finished family line next) → IfOk r (λ next. IsStep (Open finished current) line next)
+within_step finished seen current family line (Err e) s some last types h = h
+within_step finished seen current family line (Ok (Some reading)) s some last types h = subst (λ c. Follows (Open finished c) line (state_of reading)) (sym some) h
+within_step finished seen current family line (Ok None) s some last types h =
+    open_refuses finished current line (record {
+      last = last;
+      type_lines = subst (λ fs. FoundNewType (closed fs current) line None) s types;
+      within = λ other other_is. subst (λ f. RefusesWithin f line) (let k = sym some ∙ other_is in some_same family other k) h;
+    })

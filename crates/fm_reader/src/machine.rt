@@ -1,0 +1,325 @@
+//! What a reader has of a document so far.
+ghost use Rattle.std.specs.Prelude.{◌≡◌, ◌≢◌, ◌↔◌, IsTrue, IfOk, IfErr, OnOk, Some, None, [], string_bytes};
+ghost use Rattle.std.specs.Option.{option_map};
+ghost use Rattle.fm_grammar.specs.Exposition.{Family};
+ghost use Rattle.fm_grammar.specs.Document.{IsLastLine};
+ghost use Rattle.fm_reader_lines.specs.Lines.{shown_type};
+ghost use Rattle.fm_reader_lines.specs.Samples.{read_sample_of};
+ghost use Rattle.fm_grammar.specs.Reading.{closed, with_unit, with_sample, IsNewName, Open as OpenState, Headed as HeadedState};
+ghost use Rattle.fm_reader.specs.Steps.{state_of, IsStep, IsStepWithin, IsEnding, FoundNewType};
+ghost use Rattle.fm_reader.specs.declared.error.ReadError.TheVariants.{Memory};
+
+use crate::error::ReadError;
+use fm_grammar::MetricType;
+use fm_reader_lines::{ReadSample, read_help, read_sample, read_type, read_unit};
+use fm_text::{FamilySamples, SampleStore, make};
+use std::alloc::Global;
+use std::marker::Model;
+use std::sync::Arc;
+
+/// A family of which more samples may come.
+#[derive(Drop)]
+pub(crate) struct Pending {
+    name: String,
+    metric_type: MetricType,
+    help: String,
+    unit: Option<String>,
+    // No labels are shared.
+    samples: SampleStore,
+}
+
+impl Model for Pending {
+    ghost use Rattle.std.specs.Prelude.{◌≡◌, [], string_bytes};
+    ghost use Rattle.std.specs.Option.{option_map};
+    ghost use Rattle.fm_grammar.specs.Exposition.{Family};
+
+    ghost Value = { Family };
+
+    ghost view = { λ p. record { name = string_bytes p.name; metric_type = p.metric_type; help = string_bytes p.help; unit = option_map string_bytes p.unit; samples = p.samples.samples } };
+
+    ghost invariant = { λ p. p.samples.common ≡ [] };
+}
+
+impl Pending {
+    // The family's name.
+    fn name(&self) -> &str
+        ensures { result.now ≡ self.now.name }
+    {
+        self.name.as_str()
+    }
+
+    // What the family is.
+    fn metric_type(&self) -> MetricType
+        ensures { result ≡ self.now.metric_type }
+    {
+        self.metric_type
+    }
+
+    // Whether this is the family's name.
+    fn is_named(&self, name: &str) -> bool
+        ensures { IsTrue result ↔ (self.now.name ≡ name.now) }
+    {
+        self.name.as_str() == name
+    }
+
+    // Whether the family has neither a unit nor samples so far.
+    fn is_bare(&self) -> bool
+        ensures { IsTrue result ↔ ((self.now.unit ≡ None) × (self.now.samples ≡ [])) }
+    {
+        self.unit.is_none() && self.samples.as_slice().is_empty()
+    }
+
+    // The family with this unit.
+    fn with_unit(self, unit: String) -> Pending
+        ensures { result ≡ with_unit self (string_bytes unit) }
+    {
+        Pending {
+            name: self.name,
+            metric_type: self.metric_type,
+            help: self.help,
+            unit: Some(unit),
+            samples: self.samples,
+        }
+    }
+
+    // Adds a sample at the end. It may find no memory.
+    fn push(&mut self, sample: ReadSample) -> Result<(), ReadError>
+        ensures pushed { OnOk result (self.new ≡ with_sample self.old (read_sample_of sample)) }
+        ensures memory { IfErr result (λ e. e ≡ Memory) }
+    {
+        let Ok(()) = self.samples.push(
+            sample.kind,
+            sample.labels,
+            sample.value,
+            sample.time,
+            sample.exemplar,
+        )
+        else {
+            return Err(ReadError::Memory);
+        };
+        Ok(())
+    }
+
+    // The family with its samples.
+    fn finish(self) -> FamilySamples
+        ensures { result ≡ self }
+    {
+        make::family(
+            self.name,
+            self.metric_type,
+            self.help,
+            self.unit,
+            self.samples,
+        )
+    }
+}
+
+/// Where a reader is after some lines.
+#[derive(Drop)]
+pub(crate) enum Reading {
+    /// Behind a family's type line and help line and maybe more, or at the start.
+    Open {
+        finished: Vec<FamilySamples>,
+        current: Option<Pending>,
+    },
+    /// Behind a type line.
+    Headed {
+        finished: Vec<FamilySamples>,
+        name: String,
+        metric_type: MetricType,
+    },
+    /// Behind the last line.
+    Ended {
+        families: Vec<FamilySamples>,
+    },
+}
+
+/// Takes a line, or answers None where no line of this kind can stand there.
+pub(crate) fn step(
+    alloc: Global,
+    reading: Reading,
+    line: &str,
+) -> Result<Option<Reading>, ReadError>
+    ensures step { IfOk result (λ next. IsStep (state_of reading) line.now next) }
+    ensures memory { IfErr result (λ e. e ≡ Memory) }
+{
+    match reading {
+        Reading::Open { finished, current } => step_open(alloc, finished, current, line),
+        Reading::Headed {
+            finished,
+            name,
+            metric_type,
+        } => step_headed(alloc, finished, name, metric_type, line),
+        Reading::Ended { .. } => Ok(None),
+    }
+}
+
+// Takes a line where a family may begin.
+fn step_open(
+    alloc: Global,
+    finished: Vec<FamilySamples>,
+    current: Option<Pending>,
+    line: &str,
+) -> Result<Option<Reading>, ReadError>
+    ensures step { IfOk result (λ next. IsStep (OpenState finished.items current) line.now next) }
+    ensures memory { IfErr result (λ e. e ≡ Memory) }
+{
+    if is_last_line(line) {
+        let families = close(finished, current)?;
+        return Ok(Some(Reading::Ended { families }));
+    }
+    if let Some((name, metric_type)) = read_new_type(&finished, &current, line) {
+        let name = String::from_str(alloc, name)?;
+        let finished = close(finished, current)?;
+        return Ok(Some(Reading::Headed {
+            finished,
+            name,
+            metric_type,
+        }));
+    }
+    match current {
+        Some(family) => step_within(alloc, finished, family, line),
+        None => Ok(None),
+    }
+}
+
+// Takes a family's help line.
+fn step_headed(
+    alloc: Global,
+    finished: Vec<FamilySamples>,
+    name: String,
+    metric_type: MetricType,
+    line: &str,
+) -> Result<Option<Reading>, ReadError>
+    ensures step { IfOk result (λ next. IsStep (HeadedState finished.items (string_bytes name) metric_type) line.now next) }
+    ensures memory { IfErr result (λ e. e ≡ Memory) }
+{
+    let Some(help) = read_help(alloc, &name, line)? else {
+        return Ok(None);
+    };
+    let common = Arc::new(alloc, Vec::new(alloc))?;
+    let family = Pending {
+        name,
+        metric_type,
+        help,
+        unit: None,
+        samples: SampleStore::new(alloc, common),
+    };
+    Ok(Some(Reading::Open {
+        finished,
+        current: Some(family),
+    }))
+}
+
+// Takes a unit line or a sample line of a family, or answers None where the line is neither.
+fn step_within(
+    alloc: Global,
+    finished: Vec<FamilySamples>,
+    family: Pending,
+    line: &str,
+) -> Result<Option<Reading>, ReadError>
+    ensures step { IfOk result (λ next. IsStepWithin finished.items family line.now next) }
+    ensures memory { IfErr result (λ e. e ≡ Memory) }
+{
+    if family.is_bare() {
+        if let Some(unit) = read_unit(family.name(), family.metric_type(), line) {
+            let unit = String::from_str(alloc, unit)?;
+            return Ok(Some(Reading::Open {
+                finished,
+                current: Some(family.with_unit(unit)),
+            }));
+        }
+    }
+    let Some(sample) = read_sample(alloc, family.name(), family.metric_type(), line)? else {
+        return Ok(None);
+    };
+    let mut family = family;
+    family.push(sample)?;
+    Ok(Some(Reading::Open {
+        finished,
+        current: Some(family),
+    }))
+}
+
+// The families with the last one among them.
+fn close(
+    finished: Vec<FamilySamples>,
+    current: Option<Pending>,
+) -> Result<Vec<FamilySamples>, ReadError>
+    ensures closed { IfOk result (λ families. families.items ≡ closed finished.items current) }
+    ensures memory { IfErr result (λ e. e ≡ Memory) }
+{
+    let mut families = finished;
+    if let Some(family) = current {
+        families.push(family.finish())?;
+    }
+    Ok(families)
+}
+
+fn is_last_line(line: &str) -> bool
+    ensures { IsTrue result ↔ IsLastLine line.now }
+{
+    line == "# EOF"
+}
+
+// The name and the type on a type line whose name no family has.
+fn read_new_type<'a>(
+    finished: &[FamilySamples],
+    current: &Option<Pending>,
+    line: &'a str,
+) -> Option<(&'a str, MetricType)>
+    ensures { FoundNewType (closed finished.now current.now) line.now (option_map shown_type result) }
+{
+    let Some((name, metric_type)) = read_type(line) else {
+        return None;
+    };
+    if !is_new_name(finished, current, name) {
+        return None;
+    }
+    Some((name, metric_type))
+}
+
+// Whether no family has this name.
+fn is_new_name(finished: &[FamilySamples], current: &Option<Pending>, name: &str) -> bool
+    ensures { IsTrue result ↔ IsNewName name.now (closed finished.now current.now) }
+{
+    is_new_beside(current, name) && is_new_among(finished, name)
+}
+
+// Whether the family, where there is one, has another name.
+fn is_new_beside(current: &Option<Pending>, name: &str) -> bool
+    ensures { IsTrue result ↔ ((family : Family) → current.now ≡ Some family → family.name ≢ name.now) }
+{
+    match current {
+        Some(family) => !family.is_named(name),
+        None => true,
+    }
+}
+
+// Whether no family of these has this name.
+fn is_new_among(families: &[FamilySamples], name: &str) -> bool
+    ensures { IsTrue result ↔ IsNewName name.now families.now }
+{
+    for family in families {
+        if is_named(family, name) {
+            return false;
+        }
+    }
+    true
+}
+
+fn is_named(family: &FamilySamples, name: &str) -> bool
+    ensures { IsTrue result ↔ (family.now.name ≡ name.now) }
+{
+    family.name() == name
+}
+
+/// The families, where the last line was taken.
+pub(crate) fn ended(reading: Reading) -> Option<Vec<FamilySamples>>
+    ensures { IsEnding (state_of reading) result }
+{
+    match reading {
+        Reading::Ended { families } => Some(families),
+        _ => None,
+    }
+}

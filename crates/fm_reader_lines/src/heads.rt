@@ -1,0 +1,132 @@
+//! Reads the lines at the head of a family: its type line, its help line and its unit line.
+ghost use Rattle.std.specs.Prelude.{◌≡◌, ◌↔◌, IsTrue, IfOk, string_bytes};
+ghost use Rattle.std.specs.Option.{option_map, option_copied};
+ghost use Rattle.fm_grammar.specs.Kinds.{type_word};
+ghost use Rattle.fm_grammar.specs.WellFormed.{EndsWithUnit};
+ghost use Rattle.fm_reader_lines.specs.Lines.{FoundType, FoundWord, FoundHelp, FoundUnit, shown_type, all_types, takes_unit as type_takes_unit};
+
+use fm_grammar::MetricType;
+use fm_raw::{is_snake_case, is_unit_text};
+use fm_reader_parts::labels::read_escaped;
+use std::alloc::{AllocError, Global};
+
+static TYPES: [MetricType; 8] = [
+    MetricType::Unknown,
+    MetricType::Gauge,
+    MetricType::Counter,
+    MetricType::StateSet,
+    MetricType::Info,
+    MetricType::Histogram,
+    MetricType::GaugeHistogram,
+    MetricType::Summary,
+];
+
+/// The name and the type on a type line, or None where the text is none.
+pub fn read_type(line: &str) -> Option<(&str, MetricType)>
+    ensures { FoundType line.now (option_map shown_type result) }
+{
+    let Some(behind) = line.strip_prefix("# TYPE ") else {
+        return None;
+    };
+    let Some((name, word)) = behind.split_once(' ') else {
+        return None;
+    };
+    if !is_snake_case(name) {
+        return None;
+    }
+    let Some(metric_type) = type_of(word) else {
+        return None;
+    };
+    Some((name, metric_type))
+}
+
+/// The help on the help line of the family of this name, or None where the text is none.
+///
+/// It may find no memory.
+pub fn read_help(alloc: Global, name: &str, line: &str) -> Result<Option<String>, AllocError>
+    ensures { IfOk result (λ found. FoundHelp line.now name.now (option_map string_bytes found)) }
+{
+    let Some(behind) = line.strip_prefix("# HELP ") else {
+        return Ok(None);
+    };
+    let Some(spaced) = behind.strip_prefix(name) else {
+        return Ok(None);
+    };
+    let Some(text) = spaced.strip_prefix(' ') else {
+        return Ok(None);
+    };
+    let Some((help, rest)) = read_escaped(alloc, text)? else {
+        return Ok(None);
+    };
+    if !rest.is_empty() {
+        return Ok(None);
+    }
+    Ok(Some(help))
+}
+
+/// The unit on the unit line of the family of this name and type, or None where the text is none.
+pub fn read_unit<'a>(name: &str, metric_type: MetricType, line: &'a str) -> Option<&'a str>
+    ensures { FoundUnit line.now name.now metric_type (option_copied result) }
+{
+    let Some(behind) = line.strip_prefix("# UNIT ") else {
+        return None;
+    };
+    let Some(spaced) = behind.strip_prefix(name) else {
+        return None;
+    };
+    let Some(unit) = spaced.strip_prefix(' ') else {
+        return None;
+    };
+    if !takes_unit(metric_type) || !is_unit_text(unit) || !ends_with_unit(name, unit) {
+        return None;
+    }
+    Some(unit)
+}
+
+// The types in order.
+fn metric_types() -> &'static [MetricType]
+    ensures { result.now ≡ all_types }
+{
+    &TYPES
+}
+
+// The type of this word.
+fn type_of(word: &str) -> Option<MetricType>
+    ensures { FoundWord word.now result }
+{
+    for metric_type in metric_types() {
+        if is_word_of(word, *metric_type) {
+            return Some(*metric_type);
+        }
+    }
+    None
+}
+
+fn is_word_of(word: &str, metric_type: MetricType) -> bool
+    ensures { IsTrue result ↔ (word.now ≡ type_word metric_type) }
+{
+    word == metric_type.as_str()
+}
+
+// Whether metrics of this type may have a unit.
+fn takes_unit(metric_type: MetricType) -> bool
+    ensures { result ≡ type_takes_unit metric_type }
+{
+    !matches!(
+        metric_type,
+        MetricType::Unknown | MetricType::StateSet | MetricType::Info
+    )
+}
+
+// Whether a name is one in snake case, an underscore and this unit.
+fn ends_with_unit(name: &str, unit: &str) -> bool
+    ensures { IsTrue result ↔ EndsWithUnit name.now unit.now }
+{
+    let Some(front) = name.strip_suffix(unit) else {
+        return false;
+    };
+    let Some(front) = front.strip_suffix('_') else {
+        return false;
+    };
+    is_snake_case(front)
+}

@@ -1,0 +1,132 @@
+//! Reads sample lines.
+ghost use Rattle.std.specs.Prelude.{◌≡◌, ◌↔◌, IsTrue, IfOk};
+ghost use Rattle.std.specs.Option.{option_map, option_copied};
+ghost use Rattle.fm_grammar.specs.WellFormed.{kinds_of as type_kinds};
+ghost use Rattle.fm_reader_lines.specs.Lines.{FoundSample};
+ghost use Rattle.fm_reader_lines.specs.Parts.{EndsName, IsBehindSuffix, IsKindFront, seen_kind};
+ghost use Rattle.fm_reader_lines.specs.Samples.{read_sample_of};
+
+use crate::labels::read_block;
+use crate::values::read_values;
+use fm_grammar::{MetricType, SampleKind};
+use fm_text::{Exemplar, Value};
+use std::alloc::{AllocError, Global};
+
+static PLAIN: [SampleKind; 1] = [SampleKind::Plain];
+
+static COUNTER: [SampleKind; 2] = [SampleKind::Total, SampleKind::Created];
+
+static INFO: [SampleKind; 1] = [SampleKind::Info];
+
+static HISTOGRAM: [SampleKind; 4] = [
+    SampleKind::Bucket,
+    SampleKind::Count,
+    SampleKind::Sum,
+    SampleKind::Created,
+];
+
+static GAUGE_HISTOGRAM: [SampleKind; 3] = [
+    SampleKind::Bucket,
+    SampleKind::GCount,
+    SampleKind::GSum,
+];
+
+static SUMMARY: [SampleKind; 4] = [
+    SampleKind::Plain,
+    SampleKind::Count,
+    SampleKind::Sum,
+    SampleKind::Created,
+];
+
+/// A sample as it was read.
+#[derive(Drop)]
+pub struct ReadSample {
+    /// What it says of its family.
+    pub kind: SampleKind,
+    /// The names and values of its labels in order.
+    pub labels: Vec<(String, String)>,
+    /// Its value.
+    pub value: Value,
+    /// Its timestamp in milliseconds.
+    pub time: Option<u128>,
+    /// Its exemplar.
+    pub exemplar: Option<Exemplar>,
+}
+
+/// The sample on a line of the family of this name and type, or None where the text is no such line.
+///
+/// It may find no memory.
+pub fn read_sample(
+    alloc: Global,
+    name: &str,
+    metric_type: MetricType,
+    line: &str,
+) -> Result<Option<ReadSample>, AllocError>
+    ensures { IfOk result (λ found. FoundSample line.now name.now metric_type (option_map read_sample_of found)) }
+{
+    let Some(behind) = line.strip_prefix(name) else {
+        return Ok(None);
+    };
+    let Some((kind, block)) = read_kind(metric_type, behind) else {
+        return Ok(None);
+    };
+    let Some((labels, text)) = read_block(alloc, block)? else {
+        return Ok(None);
+    };
+    let Some(values) = read_values(alloc, kind, text)? else {
+        return Ok(None);
+    };
+    Ok(Some(ReadSample {
+        kind,
+        labels,
+        value: values.value,
+        time: values.time,
+        exemplar: values.exemplar,
+    }))
+}
+
+// The kind of which the suffix stands there, and what is behind the suffix.
+fn read_kind(metric_type: MetricType, text: &str) -> Option<(SampleKind, &str)>
+    ensures { IsKindFront metric_type text.now (seen_kind result) }
+{
+    for kind in kinds_of(metric_type) {
+        if let Some(rest) = behind_suffix(*kind, text) {
+            return Some((*kind, rest));
+        }
+    }
+    None
+}
+
+// What is behind the suffix of a kind.
+fn behind_suffix(kind: SampleKind, text: &str) -> Option<&str>
+    ensures { IsBehindSuffix kind text.now (option_copied result) }
+{
+    let Some(rest) = text.strip_prefix(kind.suffix()) else {
+        return None;
+    };
+    if !ends_name(rest) {
+        return None;
+    }
+    Some(rest)
+}
+
+// Whether a text begins with what may stand behind a suffix.
+fn ends_name(text: &str) -> bool
+    ensures { IsTrue result ↔ EndsName text.now }
+{
+    text.starts_with('{') || text.starts_with(' ')
+}
+
+// The kinds of a type's samples.
+fn kinds_of(metric_type: MetricType) -> &'static [SampleKind]
+    ensures { result.now ≡ type_kinds metric_type }
+{
+    match metric_type {
+        MetricType::Unknown | MetricType::Gauge | MetricType::StateSet => &PLAIN,
+        MetricType::Counter => &COUNTER,
+        MetricType::Info => &INFO,
+        MetricType::Histogram => &HISTOGRAM,
+        MetricType::GaugeHistogram => &GAUGE_HISTOGRAM,
+        MetricType::Summary => &SUMMARY,
+    }
+}

@@ -1,0 +1,5 @@
+pub mod Digits
+pub mod Fronts
+pub mod LabelNames
+pub mod LabelFronts
+pub mod LabelLists

@@ -1,0 +1,91 @@
+//! Reads labels and their values.
+ghost use Rattle.std.specs.Prelude.{◌≡◌, ◌↔◌, IsTrue, IfOk, map, string_bytes};
+ghost use Rattle.fm_grammar.specs.Names.{AllDifferent};
+ghost use Rattle.fm_text.specs.Samples.{labels_of};
+ghost use Rattle.fm_reader_parts.specs.Fronts.{IsEscapedFront, IsLabelFront, IsLabelsFront, seen, seen_label, seen_labels};
+
+use fm_raw::is_label_name;
+use std::alloc::{AllocError, Global};
+
+/// Reads an escaped text at the front, up to a quote, a line feed or the end, and gives what is
+/// behind it too; none where no escaped text stands there.
+pub fn read_escaped(alloc: Global, text: &str) -> Result<Option<(String, &str)>, AllocError>
+    ensures { IfOk result (λ found. IsEscapedFront text.now (seen found)) }
+{
+    let mut value = String::new(alloc);
+    let mut rest = text;
+    loop {
+        let mut chars = rest.chars();
+        let Some(c) = chars.next() else {
+            return Ok(Some((value, rest)));
+        };
+        if c == '"' || c == '\n' {
+            return Ok(Some((value, rest)));
+        }
+        if c == '\\' {
+            let Some(escape) = chars.next() else {
+                return Ok(None);
+            };
+            if escape == 'n' {
+                value.push('\n')?;
+            } else if escape == '"' || escape == '\\' {
+                value.push(escape)?;
+            } else {
+                return Ok(None);
+            }
+        } else {
+            value.push(c)?;
+        }
+        rest = chars.as_str();
+    }
+}
+
+/// Reads a label at the front, and gives what is behind it too; none where no label stands there.
+pub fn read_label(alloc: Global, text: &str) -> Result<Option<((String, String), &str)>, AllocError>
+    ensures { IfOk result (λ found. IsLabelFront text.now (seen_label found)) }
+{
+    let Some((name, behind)) = text.split_once('=') else {
+        return Ok(None);
+    };
+    if !is_label_name(name) {
+        return Ok(None);
+    }
+    let Some(quoted) = behind.strip_prefix('"') else {
+        return Ok(None);
+    };
+    let Some((value, after)) = read_escaped(alloc, quoted)? else {
+        return Ok(None);
+    };
+    let Some(rest) = after.strip_prefix('"') else {
+        return Ok(None);
+    };
+    let name = String::from_str(alloc, name)?;
+    Ok(Some(((name, value), rest)))
+}
+
+/// Reads labels behind an opening brace, up to the closing one, and gives what is behind that too.
+pub fn read_labels(
+    alloc: Global,
+    text: &str,
+) -> Result<Option<(Vec<(String, String)>, &str)>, AllocError>
+    ensures { IfOk result (λ found. IsLabelsFront text.now (seen_labels found)) }
+{
+    let mut labels = Vec::new(alloc);
+    if let Some(rest) = text.strip_prefix('}') {
+        return Ok(Some((labels, rest)));
+    }
+    let mut rest = text;
+    loop {
+        let Some((label, behind)) = read_label(alloc, rest)? else {
+            return Ok(None);
+        };
+        labels.push(label)?;
+        if let Some(last) = behind.strip_prefix('}') {
+            return Ok(Some((labels, last)));
+        }
+        let Some(more) = behind.strip_prefix(',') else {
+            return Ok(None);
+        };
+        rest = more;
+    }
+}

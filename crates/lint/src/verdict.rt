@@ -1,0 +1,65 @@
+//! What `lint` says of what it read.
+ghost use Rattle.std.specs.Prelude.{◌≡◌, ◌≤◌};
+ghost use Rattle.lint.specs.Documents.{PrintsAgain};
+
+use fm_reader::{ReadError, read};
+use fm_text::encode_exposition;
+use std::alloc::Global;
+use std::io::Write;
+use std::str;
+
+/// Writes a document again, and answers 0; or says on the second writer why it doesn't, and answers 1.
+pub fn lint<W: Write, E: Write>(alloc: Global, bytes: &[u8], out: &mut W, errors: &mut E) -> u8
+    ensures small { result ≤ 1 }
+    ensures printed { result ≡ 0 → PrintsAgain (W.contents out.old) (W.contents out.new) bytes.now }
+{
+    let Ok(text) = str::from_utf8(bytes) else {
+        return refuse_bytes(alloc, bytes, errors);
+    };
+    match read(alloc, text) {
+        Ok(exposition) => match encode_exposition(alloc, out, &exposition) {
+            Ok(()) => 0,
+            Err(_) => 1,
+        },
+        Err(error) => refuse(errors, error),
+    }
+}
+
+// Says which line of bytes that are no text is at fault. That is the line of the first byte that belongs to no
+// character, or one in front of it.
+fn refuse_bytes<E: Write>(alloc: Global, bytes: &[u8], errors: &mut E) -> u8
+    ensures { result ≡ 1 }
+{
+    let text = front_text(bytes);
+    match read(alloc, text) {
+        Ok(_) => refuse(
+            errors,
+            ReadError::NotADocument {
+                line: text.lines().count() + 1,
+            },
+        ),
+        Err(error) => refuse(errors, error),
+    }
+}
+
+// The bytes in front of the first that belongs to no character.
+fn front_text(bytes: &[u8]) -> &str {
+    match str::from_utf8(bytes) {
+        Ok(text) => text,
+        Err(error) => match str::from_utf8(&bytes[..error.valid_up_to()]) {
+            Ok(text) => text,
+            Err(_) => "",
+        },
+    }
+}
+
+// Says why nothing was read. A writer that fails doesn't change the answer.
+fn refuse<E: Write>(errors: &mut E, error: ReadError) -> u8
+    ensures { result ≡ 1 }
+{
+    let _ = match error {
+        ReadError::Memory => writeln!(errors, "memory"),
+        ReadError::NotADocument { line } => writeln!(errors, "line {line}"),
+    };
+    1
+}
