@@ -61,14 +61,12 @@ pub fn find_bucket<P: Probe>(n: usize, probe: &mut P) -> usize
     ensures cost { 2 ^ (P.asked probe.new - P.asked probe.old) ≤ 2 * (n + 1) }
 {
     let mut low = 0;
-    let mut high = n;
-    while low < high {
-        let middle = low + (high - low) / 2;
-        if probe.reaches(middle) {
-            high = middle;
-        } else {
-            low = middle + 1;
-        }
+    let mut left = usize::BITS - n.leading_zeros();
+    while left > 0 {
+        left -= 1;
+        let step = 1usize << left;
+        let is_below = n - low >= step && !probe.reaches(low + (step - 1));
+        low += usize::from(is_below) << left;
     }
     low
 }

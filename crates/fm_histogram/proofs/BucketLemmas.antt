@@ -5,7 +5,7 @@ use Rattle.std.proofs.lemmas.Bool.Decides.{nat_tests}
 use Rattle.std.proofs.lemmas.List.Sums.{sum_by-append, count_by-le-length}
 use Rattle.fm_bucket.specs.declared.bound.Bucket.{Bucket}
 use Rattle.fm_bucket.specs.declared.bound.Bound.TheVariants.{Finite, Inf}
-use Rattle.fm_histogram.specs.Histogram.{is_above, is_between, buckets_above, rises, place, one_more}
+use Rattle.fm_histogram.specs.Histogram.{is_above, is_between, buckets_above, rises, place, place_among, one_more}
 use Rattle.fm_bucket.specs.BoundTests.{lies_below}
 
 -- a bound above one that does not lie below x does not lie below x
@@ -69,14 +69,12 @@ observed low (b ∷ bs) xs v d above up =
     let next = and_right (is_above low b) (rises (Some b) bs) up in
     observed_by low b bs xs v d above next (λ h. observed (Some b) bs xs v d h next) (int_lt b v) refl
 
--- what follows a bound that does not lie below x does not lie below x
-none_below : (low : ℤ) (bounds xs : List ℤ) (v : ℤ) (d : Bucket) (i : ℕ) → int_lt low v ≡ false → rises (Some low) bounds ≡ true
-    → i < length (buckets_above (Some low) bounds xs) → lies_below (get_or (buckets_above (Some low) bounds xs) i d).upper_bound v ≡ false
-none_below low [] xs v d zero out up within = refl
-none_below low [] xs v d (suc i) out up within = absurd (omega arith)
-none_below low (b ∷ bs) xs v d zero out up within = stays_above low b v out (and_left (int_lt low b) (rises (Some b) bs) up)
-none_below low (b ∷ bs) xs v d (suc i) out up within =
-    none_below b bs xs v d i (stays_above low b v out (and_left (int_lt low b) (rises (Some b) bs) up)) (and_right (int_lt low b) (rises (Some b) bs) up) (omega arith)
+-- the bounds after one that is not below x are not below x
+none_below : (low : ℤ) (bounds : List ℤ) (v d : ℤ) (i : ℕ) → int_lt low v ≡ false → rises (Some low) bounds ≡ true → i < length bounds → int_lt (get_or bounds i d) v ≡ false
+none_below low [] v d i out up within = absurd (omega arith)
+none_below low (b ∷ bs) v d zero out up within = stays_above low b v out (and_left (int_lt low b) (rises (Some b) bs) up)
+none_below low (b ∷ bs) v d (suc i) out up within =
+    none_below b bs v d i (stays_above low b v out (and_left (int_lt low b) (rises (Some b) bs) up)) (and_right (int_lt low b) (rises (Some b) bs) up) (omega arith)
 
 -- one place further on both sides
 zero_below : (p : ℕ) → true ≡ ltb 0 (suc p)
@@ -88,35 +86,36 @@ suc_below i p = grind (arith, nat_tests)
 never_below : (i : ℕ) → false ≡ ltb i 0
 never_below i = grind (arith, nat_tests)
 
--- a step of the next lemma, by whether the bound lies below x
-first_by : (low : Option ℤ) (b : ℤ) (bounds xs : List ℤ) (v : ℤ) (d : Bucket) (i : ℕ) → rises (Some b) bounds ≡ true → i < length (buckets_above low (b ∷ bounds) xs)
-    → ((j : ℕ) → j < length (buckets_above (Some b) bounds xs) → lies_below (get_or (buckets_above (Some b) bounds xs) j d).upper_bound v ≡ ltb j (place v (buckets_above (Some b) bounds xs)))
-    → (below : Bool) → int_lt b v ≡ below
-    → lies_below (get_or (buckets_above low (b ∷ bounds) xs) i d).upper_bound v ≡ ltb i (place v (buckets_above low (b ∷ bounds) xs))
-first_by low b bs xs v d zero up within rest true is = rw is (zero_below (place v (buckets_above (Some b) bs xs)))
-first_by low b bs xs v d (suc i) up within rest true is = rw is (rest i (omega arith) ∙ suc_below i (place v (buckets_above (Some b) bs xs)))
-first_by low b bs xs v d zero up within rest false is = rw is (never_below 0)
-first_by low b bs xs v d (suc i) up within rest false is = rw is (none_below b bs xs v d i is up (omega arith) ∙ never_below (suc i))
+-- a step of the next lemma, by whether the bound is below x
+first_by : (b : ℤ) (bounds : List ℤ) (v d : ℤ) (i : ℕ) → rises (Some b) bounds ≡ true → i < length (b ∷ bounds)
+    → ((j : ℕ) → j < length bounds → int_lt (get_or bounds j d) v ≡ ltb j (place_among v bounds))
+    → (below : Bool) → int_lt b v ≡ below → int_lt (get_or (b ∷ bounds) i d) v ≡ ltb i (place_among v (b ∷ bounds))
+first_by b bs v d zero up within rest true is = rw is (zero_below (place_among v bs))
+first_by b bs v d (suc i) up within rest true is = rw is (rest i (omega arith) ∙ suc_below i (place_among v bs))
+first_by b bs v d zero up within rest false is = rw is (never_below 0)
+first_by b bs v d (suc i) up within rest false is = rw is (none_below b bs v d i is up (omega arith) ∙ never_below (suc i))
 
--- the bounds that lie below x stand before its place, and no others
-pub place_is_first : (low : Option ℤ) (bounds xs : List ℤ) (v : ℤ) (d : Bucket) (i : ℕ) → rises low bounds ≡ true → i < length (buckets_above low bounds xs)
-    → lies_below (get_or (buckets_above low bounds xs) i d).upper_bound v ≡ ltb i (place v (buckets_above low bounds xs))
-place_is_first low [] xs v d zero up within = refl
-place_is_first low [] xs v d (suc i) up within = absurd (omega arith)
-place_is_first low (b ∷ bs) xs v d i up within =
+-- the bounds that are below x come before its place, and no others
+pub place_is_first : (low : Option ℤ) (bounds : List ℤ) (v d : ℤ) (i : ℕ) → rises low bounds ≡ true → i < length bounds → int_lt (get_or bounds i d) v ≡ ltb i (place_among v bounds)
+place_is_first low [] v d i up within = absurd (omega arith)
+place_is_first low (b ∷ bs) v d i up within =
     let next = and_right (is_above low b) (rises (Some b) bs) up in
-    first_by low b bs xs v d i next within (λ j h. place_is_first (Some b) bs xs v d j next h) (int_lt b v) refl
+    first_by b bs v d i next within (λ j h. place_is_first (Some b) bs v d j next h) (int_lt b v) refl
 
 -- a step of the next lemma
-within_by : (b : ℤ) (bs xs : List ℤ) (v : ℤ) (below : Bool) → place v (buckets_above (Some b) bs xs) ≤ length bs
-    → cond below (suc (place v (buckets_above (Some b) bs xs))) 0 ≤ suc (length bs)
-within_by b bs xs v true h = omega arith
-within_by b bs xs v false h = omega arith
+within_by : (bs : List ℤ) (v : ℤ) (below : Bool) → place_among v bs ≤ length bs → cond below (suc (place_among v bs)) 0 ≤ suc (length bs)
+within_by bs v true h = omega arith
+within_by bs v false h = omega arith
 
--- the place is that of a bucket
-pub place_within : (low : Option ℤ) (bounds xs : List ℤ) (v : ℤ) → place v (buckets_above low bounds xs) ≤ length bounds
-place_within low [] xs v = omega arith
-place_within low (b ∷ bs) xs v = within_by b bs xs v (int_lt b v) (place_within (Some b) bs xs v)
+-- the place is at most after the last bound
+pub place_within : (bounds : List ℤ) (v : ℤ) → place_among v bounds ≤ length bounds
+place_within [] v = omega arith
+place_within (b ∷ bs) v = within_by bs v (int_lt b v) (place_within bs v)
+
+-- the bucket that takes a value stands at the value's place among the bounds
+pub place_is : (low : Option ℤ) (bounds xs : List ℤ) (v : ℤ) → place v (buckets_above low bounds xs) ≡ place_among v bounds
+place_is low [] xs v = refl
+place_is low (b ∷ bs) xs v = ap (λ n. cond (int_lt b v) (suc n) 0) (place_is (Some b) bs xs v)
 
 -- one bucket more than bounds
 pub count_of_buckets : (low : Option ℤ) (bounds xs : List ℤ) → length (buckets_above low bounds xs) ≡ length bounds + 1
@@ -129,12 +128,3 @@ counts_within low [] xs d zero h = count_by-le-length (is_above low) xs
 counts_within low [] xs d (suc i) h = absurd (omega arith)
 counts_within low (b ∷ bs) xs d zero h = count_by-le-length (is_between low b) xs
 counts_within low (b ∷ bs) xs d (suc i) h = counts_within (Some b) bs xs d i (omega arith)
-
--- the place is at most behind the last bucket
-place_by : (x : ℤ) (bs : List Bucket) (below : Bool) → place x bs ≤ length bs → cond below (suc (place x bs)) 0 ≤ suc (length bs)
-place_by x bs true h = omega arith
-place_by x bs false h = omega arith
-
-pub place-le-length : (x : ℤ) (bs : List Bucket) → place x bs ≤ length bs
-place-le-length x [] = omega arith
-place-le-length x (b ∷ bs) = place_by x bs (lies_below b.upper_bound x) (place-le-length x bs)

@@ -67,9 +67,8 @@ pub record CountsTaken (taken : ℤ → Bool) (s : Histogram) : Type 0 where
   pub values_taken : All (λ x. taken x ≡ true) values
   pub few : s.count < 2 ^ 64
 
--- what counts are: the histogram of some values of 64 bits
-pub record IsOfSome (s : Histogram) : Type 0 where
-  pub bounds : List ℤ
+-- what counts by these bounds are: the histogram of some values of 64 bits
+pub record IsOfSome (bounds : List ℤ) (s : Histogram) : Type 0 where
   pub values : List ℤ
   pub is : IsCounts bounds values s
   pub low : neg_ℤ (pos (2 ^ 63 * s.count)) ≤ℤ s.sum
@@ -79,6 +78,11 @@ pub record IsOfSome (s : Histogram) : Type 0 where
 abbrev pub place : ℤ → List Bucket → ℕ
 place x [] = 0
 place x (b ∷ bs) = if lies_below b.upper_bound x then suc (place x bs) else 0
+
+-- how many of the bounds that rise are below x: the place of its bucket
+abbrev pub place_among : ℤ → List ℤ → ℕ
+place_among x [] = 0
+place_among x (b ∷ bs) = if int_lt b x then suc (place_among x bs) else 0
 
 -- a bucket with one value more
 abbrev pub one_more : Bucket → Bucket

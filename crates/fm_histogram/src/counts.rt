@@ -14,6 +14,8 @@ use std::sync::ledger::Blank;
 /// Counts of values by bounds, how many values there are, and their sum in millionths.
 #[derive(Clone, Drop)]
 pub(crate) struct Counts {
+    // The bounds of all buckets but the last, side by side, where a search is quickest.
+    bounds: Vec<Fixed>,
     buckets: Vec<Bucket>,
     count: u64,
     sum: i128,
@@ -26,22 +28,23 @@ impl Model for Counts {
 
     ghost view = { λ s. record { buckets = s.buckets.items; count = s.count; sum = s.sum } };
 
-    ghost invariant = { λ s. IsOfSome (record { buckets = s.buckets.items; count = s.count; sum = s.sum }) };
+    ghost invariant = { λ s. IsOfSome s.bounds.items (record { buckets = s.buckets.items; count = s.count; sum = s.sum }) };
 }
 
 impl Counts {
     // Counts of no values. The bounds rise.
-    pub(crate) fn new(alloc: Global, rising: &[Fixed]) -> Result<Counts, MetricError>
-        requires { rises None rising.now ≡ true }
-        ensures bounds { IfOk result (IsCounts rising.now []) }
+    pub(crate) fn new(alloc: Global, rising: Vec<Fixed>) -> Result<Counts, MetricError>
+        requires { rises None rising.items ≡ true }
+        ensures bounds { IfOk result (IsCounts rising.items []) }
         ensures only_memory { IfErr result (λ e. e ≡ Memory) }
     {
         let mut buckets = Vec::with_capacity(alloc, rising.len() + 1)?;
-        for bound in rising {
+        for bound in &rising {
             buckets.push_reserved(Bucket::new(Bound::Finite(*bound), 0));
         }
         buckets.push_reserved(Bucket::new(Bound::Inf, 0));
         Ok(Counts {
+            bounds: rising,
             buckets,
             count: 0,
             sum: 0,
@@ -82,7 +85,7 @@ impl Counts {
         let Some(count) = self.count.checked_add(1) else {
             return Err(MetricError::CountFull);
         };
-        let place = place_of::<Brand>(self.buckets.as_slice(), value, Blank::new(1));
+        let place = place_of::<Brand>(self.bounds.as_slice(), value, Blank::new(1));
         count_at(self.buckets.as_mut_slice(), place);
         self.count = count;
         self.sum += i128::from(value.millionths());

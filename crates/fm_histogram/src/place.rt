@@ -1,49 +1,48 @@
 //! The bucket of a value.
-ghost use Rattle.std.specs.Prelude.{◌≡◌, ℕ, ◌+◌, ◌<◌, length, nat_lt, slice_index_or};
-ghost use Rattle.fm_bucket.specs.BoundTests.{lies_below};
-ghost use Rattle.fm_bucket.specs.declared.bound.Bucket.{Bucket as OneBucket};
-ghost use Rattle.fm_histogram.specs.Histogram.{place};
+ghost use Rattle.std.specs.Prelude.{◌≡◌, ℕ, ℤ, ◌≤◌, ◌<◌, length, int_lt, nat_lt, slice_index_or};
+ghost use Rattle.fm_histogram.specs.Histogram.{place_among};
 
-use fm_bucket::{Bucket, Probe, Steps, find_bucket};
+use fm_bucket::{Probe, Steps, find_bucket};
 use fm_raw::Fixed;
 use std::sync::ledger::{Blank, Ledger};
 
-// Whether a bucket's bound reaches the value. Each answer is one comparison of the two, and one step.
+// Whether a bound reaches the value. Each answer is one comparison of the two, and one step.
 #[derive(Drop)]
 struct BoundsProbe<'a, L: Ledger> {
-    buckets: &'a [Bucket],
+    bounds: &'a [Fixed],
     value: Fixed,
     steps: Steps<L>,
-    ghost rising: { (i : ℕ) (d : OneBucket) → i < length buckets.now → lies_below (slice_index_or buckets.now i d).upper_bound value ≡ nat_lt i (place value buckets.now) },
+    ghost within: { place_among value bounds.now ≤ length bounds.now },
+    ghost rising: { (i : ℕ) (d : ℤ) → i < length bounds.now → int_lt (slice_index_or bounds.now i d) value ≡ nat_lt i (place_among value bounds.now) },
 }
 
 impl<'a, L: Ledger> Probe for BoundsProbe<'a, L> {
-    ghost first = { λ p. place p.value p.buckets.now };
+    ghost first = { λ p. place_among p.value p.bounds.now };
 
     ghost asked = { λ p. p.steps };
 
     fn reaches(&mut self, i: usize) -> bool {
         self.steps.tick();
-        match self.buckets.get(i) {
-            Some(bucket) => !bucket.upper_bound().is_below(self.value),
+        match self.bounds.get(i) {
+            Some(bound) => *bound >= self.value,
             None => true,
         }
     }
 }
 
-/// The place of the value among buckets whose bounds rise, the last having no bound.
-pub(crate) fn place_of<L: Ledger>(buckets: &[Bucket], value: Fixed, blank: Blank) -> usize
+/// The place of the value's bucket, where these are the bounds of all buckets but the last, and rise.
+pub(crate) fn place_of<L: Ledger>(bounds: &[Fixed], value: Fixed, blank: Blank) -> usize
     requires name { blank.name ≡ L.name }
     requires parts { blank.parts ≡ L.parts }
     requires some { 0 < blank.parts }
-    requires last { place value buckets.now < length buckets.now }
-    requires rising { (i : ℕ) (d : OneBucket) → i < length buckets.now → lies_below (slice_index_or buckets.now i d).upper_bound value ≡ nat_lt i (place value buckets.now) }
-    ensures { result ≡ place value buckets.now }
+    requires within { place_among value bounds.now ≤ length bounds.now }
+    requires rising { (i : ℕ) (d : ℤ) → i < length bounds.now → int_lt (slice_index_or bounds.now i d) value ≡ nat_lt i (place_among value bounds.now) }
+    ensures { result ≡ place_among value bounds.now }
 {
     let mut probe = BoundsProbe {
-        buckets,
+        bounds,
         value,
         steps: Steps::<L>::new(blank),
     };
-    find_bucket(buckets.len() - 1, &mut probe)
+    find_bucket(bounds.len(), &mut probe)
 }

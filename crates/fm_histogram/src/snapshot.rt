@@ -42,7 +42,7 @@ impl HistogramSnapshot {
         ensures only_memory { IfErr result (λ e. e ≡ Memory) }
     {
         let rising = rising_bounds(alloc, bounds, false)?;
-        let counts = Counts::new(alloc, rising.as_slice())?;
+        let counts = Counts::new(alloc, rising)?;
         Ok(HistogramSnapshot { counts })
     }
 
@@ -51,7 +51,7 @@ impl HistogramSnapshot {
         ensures bounds { IfOk result (IsHistogram is_taken default_bounds []) }
         ensures only_memory { IfErr result (λ e. e ≡ Memory) }
     {
-        let counts = Counts::new(alloc, default_buckets().as_slice())?;
+        let counts = Counts::new(alloc, default_buckets().to_vec(alloc)?)?;
         Ok(HistogramSnapshot { counts })
     }
 
@@ -146,7 +146,7 @@ impl GaugeHistogramSnapshot {
         ensures only_memory { IfErr result (λ e. e ≡ Memory) }
     {
         let rising = rising_bounds(alloc, bounds, true)?;
-        let counts = Counts::new(alloc, rising.as_slice())?;
+        let counts = Counts::new(alloc, rising)?;
         Ok(GaugeHistogramSnapshot { counts })
     }
 

@@ -1,55 +1,34 @@
-use Rattle.std.proofs.Common.{◌≡◌, ℕ, ◌+◌, ◌-◌, ◌*◌, ◌/◌, ◌^◌, ◌<◌, ◌≤◌, suc, arith, rules, ◌∙◌, mul-le-mul_left, pow-suc}
+use Rattle.std.proofs.Common.{◌≡◌, ℕ, ◌+◌, ◌-◌, ◌*◌, ◌^◌, ◌<◌, ◌≤◌, arith, rules}
+use Rattle.std.specs.Int.Count.{count_leading_zeros}
+use Rattle.std.proofs.lemmas.Nat.{leading_length, leading_le}
+use Rattle.std.proofs.Math.Pow.{pow_mono}
 use Rattle.fm_bucket.proofs.search.find_bucket.Goals as goal
 
--- one step more is twice the power
-doubled : (start was now : ℕ) → start ≤ was → now ≡ was + 1 → 2 ^ (now - start) ≡ 2 * 2 ^ (was - start)
-doubled start was now h e =
-    let next : now - start ≡ suc (was - start) = omega arith in
-    rw (next, pow-suc) (omega arith)
+-- a number has as many binary digits as are not leading zeros
+digits : (n : ℕ) → n < 2 ^ 64 → (n < 2 ^ (64 - count_leading_zeros 64 n)) × (2 ^ (64 - count_leading_zeros 64 n) ≤ 2 * n + 1)
+digits n fits =
+    let s = leading_length 64 n fits in
+    let e : 64 - count_leading_zeros 64 n ≡ s.0 = omega (arith, s.1) in
+    rw (e) (s.2, s.3)
 
--- a step on at least one place, of which at most half are left
-halves : (power size left n : ℕ) → 0 < size → left ≤ size / 2 → power * size ≤ n → (2 * power) * left ≤ n
-halves power size left n some half fits =
-    let twice : left + left ≤ size = omega arith in
-    omega (arith, mul-le-mul_left power twice, fits)
-
-costs : (power size n : ℕ) → 0 < size → power * size ≤ n → 2 * power ≤ 2 * n + 1
-costs power size n some fits = let one : 1 ≤ size = omega arith in omega (arith, mul-le-mul_left power one, fits)
-
-pub loop-low-preserved-then-reaches : goal.loop-low-preserved-then-reaches
-loop-low-preserved-then-reaches g c =
-    let was = c.loop-low.invariant in
-    let start = g.P.Probe.asked c.args.probe.now in
-    let before = g.P.Probe.asked c.loop-low.probe in
-    let size = c.loop-low.high - c.loop-low.low in
-    let power = 2 ^ (before - start) in
-    let e = doubled start before (g.P.Probe.asked c.reaches.new.self) was.counted c.reaches.ensures.counted in
+pub loop-left-init : goal.loop-left-init
+loop-left-init g c =
+    let zeros = leading_le 64 c.args.n in
+    let below = (digits c.args.n c.ranges.n.fits).0 in
     record {
-      ordered = search rules;
-      inside = omega arith;
-      same = c.reaches.ensures.same ∙ was.same;
-      above = was.above;
-      below = search rules;
-      counted = omega (arith, c.reaches.ensures.counted);
-      left = rw e (halves power size _ c.args.n (omega arith) (omega arith) was.left);
-      cost = rw e (costs power size c.args.n (omega arith) was.left);
+      inside = search rules;
+      reached = search rules;
+      near = omega (arith, below);
+      same = search rules;
+      levels = omega (arith, zeros);
+      before = search rules;
+      counted = omega (arith, zeros);
     }
 
-pub loop-low-preserved : goal.loop-low-preserved
-loop-low-preserved g c =
-    let was = c.loop-low.invariant in
-    let start = g.P.Probe.asked c.args.probe.now in
-    let before = g.P.Probe.asked c.loop-low.probe in
-    let size = c.loop-low.high - c.loop-low.low in
-    let power = 2 ^ (before - start) in
-    let e = doubled start before (g.P.Probe.asked c.reaches.new.self) was.counted c.reaches.ensures.counted in
-    record {
-      ordered = search rules;
-      inside = omega arith;
-      same = c.reaches.ensures.same ∙ was.same;
-      above = search rules;
-      below = was.below;
-      counted = omega (arith, c.reaches.ensures.counted);
-      left = rw e (halves power size _ c.args.n (omega arith) (omega arith) was.left);
-      cost = rw e (costs power size c.args.n (omega arith) was.left);
-    }
+pub returns-clause-cost : goal.returns-clause-cost
+returns-clause-cost g c =
+    let was = c.loop-left.invariant in
+    let most = (digits c.args.n c.ranges.n.fits).1 in
+    let asked : g.P.Probe.asked c.loop-left.probe - g.P.Probe.asked c.args.probe.now ≤ 64 - count_leading_zeros 64 c.args.n = omega (arith, was.counted, was.before) in
+    let power = pow_mono asked in
+    omega (arith, power, most)

@@ -1,17 +1,17 @@
-use Rattle.std.specs.Prelude.{◌≡◌, ◌+◌, ◌-◌, ◌*◌, ◌^◌, ◌≤◌, min}
+use Rattle.std.specs.Prelude.{◌≡◌, ◌+◌, ◌^◌, ◌≤◌, ◌<◌, min}
+use Rattle.std.specs.Int.Count.{count_leading_zeros}
 use Rattle.fm_bucket.proofs.search.find_bucket.Given as goal
 
-abbrev pub invariant-loop-low : goal.invariant-loop-low
-invariant-loop-low g l = record {
-  ordered : l.low ≤ l.high;
-  inside : l.high ≤ l.n;
+abbrev pub invariant-loop-left : goal.invariant-loop-left
+invariant-loop-left g l = record {
+  inside : l.low ≤ l.n;
+  reached : l.low ≤ g.P.Probe.first l.probe;
+  near : min l.n (g.P.Probe.first l.probe) < l.low + 2 ^ l.left;
   same : g.P.Probe.first l.probe ≡ g.P.Probe.first l.fn.probe;
-  above : l.low ≤ min l.n (g.P.Probe.first l.fn.probe);
-  below : min l.n (g.P.Probe.first l.fn.probe) ≤ l.high;
-  counted : g.P.Probe.asked l.fn.probe ≤ g.P.Probe.asked l.probe;
-  left : 2 ^ (g.P.Probe.asked l.probe - g.P.Probe.asked l.fn.probe) * (l.high - l.low) ≤ l.n;
-  cost : 2 ^ (g.P.Probe.asked l.probe - g.P.Probe.asked l.fn.probe) ≤ 2 * l.n + 1;
+  levels : l.left + count_leading_zeros 64 l.n ≤ 64;
+  before : g.P.Probe.asked l.fn.probe ≤ g.P.Probe.asked l.probe;
+  counted : g.P.Probe.asked l.probe + l.left + count_leading_zeros 64 l.n ≤ g.P.Probe.asked l.fn.probe + 64;
 }
 
-abbrev pub decreases-loop-low : goal.decreases-loop-low
-decreases-loop-low g l = l.high - l.low
+abbrev pub decreases-loop-left : goal.decreases-loop-left
+decreases-loop-left g l = l.left

@@ -6,35 +6,32 @@ use Rattle.std.specs.Int.RustNames.{FitsSigned}
 use Rattle.std.specs.Vec.{with_items}
 use Rattle.fm_bucket.specs.declared.bound.Bucket.{Bucket}
 use Rattle.fm_bucket.specs.BoundTests.{lies_below}
-use Rattle.fm_histogram.specs.Histogram.{Histogram, IsCounts, IsOfSome, place, one_more}
-use Rattle.fm_histogram.proofs.BucketLemmas.{place_is_first, place_within, count_of_buckets}
+use Rattle.fm_histogram.specs.Histogram.{Histogram, IsCounts, IsOfSome, place, place_among, one_more}
+use Rattle.fm_histogram.proofs.BucketLemmas.{place_is, place_is_first, place_within, count_of_buckets}
 use Rattle.fm_histogram.proofs.EmptyLemmas.{endless}
 use Rattle.fm_histogram.proofs.CountLemmas.{sum_fits, observes, count_within}
 use Rattle.fm_histogram.proofs.counts.Counts.add.Goals as goal
 
 -- the place of a value is that of a bucket
-within : (s : Histogram) (v : ℤ) → IsOfSome s → place v s.buckets < length s.buckets
-within s v some =
-    rw some.is.is (omega (arith, place_within None some.bounds some.values v, count_of_buckets None some.bounds some.values))
+within : (bounds : List ℤ) (s : Histogram) (v : ℤ) → IsOfSome bounds s → place_among v bounds < length s.buckets
+within bounds s v some = rw some.is.is (omega (arith, place_within bounds v, count_of_buckets None bounds some.values))
 
-rising : (s : Histogram) (v : ℤ) → IsOfSome s → (i : ℕ) (d : Bucket) → i < length s.buckets → lies_below (get_or s.buckets i d).upper_bound v ≡ nat_lt i (place v s.buckets)
-rising s v some = rw some.is.is (λ i d h. place_is_first None some.bounds some.values v d i some.is.increasing h)
-
-pub place_of-place-requires-clause-last : goal.place_of-place-requires-clause-last
-place_of-place-requires-clause-last c = rw c.as_slice.ensures.value (within _ c.args.value c.self.invariant)
+pub place_of-place-requires-clause-within : goal.place_of-place-requires-clause-within
+place_of-place-requires-clause-within c = place_within _ _
 
 pub place_of-place-requires-clause-rising : goal.place_of-place-requires-clause-rising
-place_of-place-requires-clause-rising c = rw c.as_slice.ensures.value (rising _ c.args.value c.self.invariant)
+place_of-place-requires-clause-rising c i d h = place_is_first None _ _ d i (rw c.as_slice.ensures.value c.self.invariant.is.increasing) h
 
 pub count_at-requires-clause-inside : goal.count_at-requires-clause-inside
 count_at-requires-clause-inside c =
-    rw (c.as_mut_slice.ensures.value, c.place_of-place.ensures, c.as_slice.ensures.value) (within _ c.args.value c.self.invariant)
+    rw (c.as_mut_slice.ensures.value, c.place_of-place.ensures, c.as_slice.ensures.value) (within _ _ c.args.value c.self.invariant)
 
 pub count_at-requires-clause-small : goal.count_at-requires-clause-small
 count_at-requires-clause-small c d =
     let s : Histogram = record { buckets = c.self.inside.buckets.items; count = c.self.inside.count; sum = c.self.inside.sum } in
-    let here = within s c.args.value c.self.invariant in
-    let few = count_within s (place c.args.value s.buckets) d c.self.invariant here in
+    let bounds = c.self.inside.bounds.items in
+    let here = within bounds s c.args.value c.self.invariant in
+    let few = count_within bounds s (place_among c.args.value bounds) d c.self.invariant here in
     rw (c.as_mut_slice.ensures.value, c.place_of-place.ensures, c.as_slice.ensures.value) (omega (arith, few, c.in-Some.ensures.0))
 
 -- what the code added
@@ -50,12 +47,11 @@ sum_high : (sum v : ℤ) (count : ℕ) → sum ≤ℤ pos (2 ^ 63 * count) → F
 sum_high sum v count high fits = omega (arith, ints)
 
 -- one value more
-more : (s : Histogram) (v : ℤ) (at : ℕ) (d : Bucket) → IsOfSome s → at ≡ place v s.buckets → FitsSigned w64 v
-    → IsOfSome (record { buckets = set s.buckets at (one_more (get_or s.buckets at d)); count = s.count + 1; sum = s.sum +ℤ v })
-more s v at d some here fits = record {
-  bounds = some.bounds;
+more : (bounds : List ℤ) (s : Histogram) (v : ℤ) (at : ℕ) (d : Bucket) → IsOfSome bounds s → at ≡ place v s.buckets → FitsSigned w64 v
+    → IsOfSome bounds (record { buckets = set s.buckets at (one_more (get_or s.buckets at d)); count = s.count + 1; sum = s.sum +ℤ v })
+more bounds s v at d some here fits = record {
   values = some.values ++ v ∷ [];
-  is = observes some.bounds some.values s v at d some.is here;
+  is = observes bounds some.values s v at d some.is here;
   low = sum_low s.sum v s.count some.low fits;
   high = sum_high s.sum v s.count some.high fits;
 }
@@ -78,14 +74,17 @@ left c =
     made _ _ _ _ _ _ (with_items_is c.self.inside.buckets c.count_at.new.buckets long ∙ is) c.in-Some.ensures.1
     (added_is c.self.inside.sum c.args.value c.from.result c.millionths.result c.self.inside.count (c.self.invariant.low, c.self.invariant.high) fits c.from.ensures c.millionths.ensures.exact small)
 
+place_here : (bounds : List ℤ) (s : Histogram) (v : ℤ) → IsOfSome bounds s → place v s.buckets ≡ place_among v bounds
+place_here bounds s v some = rw some.is.is (place_is None bounds some.values v)
+
 here : (c : goal.After-self-4-1) → c.place_of-place.result ≡ place c.args.value c.self.inside.buckets.items
-here c = rw c.as_slice.ensures.value at c.place_of-place.ensures
+here c = rw c.as_slice.ensures.value at c.place_of-place.ensures ∙ sym (place_here c.self.inside.bounds.items (histogram c.self.inside.buckets.items c.self.inside.count c.self.inside.sum) c.args.value c.self.invariant)
 
 pub invariant_of-self : goal.invariant_of-self
 invariant_of-self c =
     let fits : FitsSigned w64 c.millionths.result = search rules in
     let fits' : FitsSigned w64 c.args.value = subst (FitsSigned w64) c.millionths.ensures.exact fits in
-    subst IsOfSome (sym (left c)) (more (histogram c.self.inside.buckets.items c.self.inside.count c.self.inside.sum) c.args.value c.place_of-place.result endless c.self.invariant (here c) fits')
+    subst (IsOfSome c.self.inside.bounds.items) (sym (left c)) (more c.self.inside.bounds.items (histogram c.self.inside.buckets.items c.self.inside.count c.self.inside.sum) c.args.value c.place_of-place.result endless c.self.invariant (here c) fits')
 
 pub returns-clause-counted : goal.returns-clause-counted
 returns-clause-counted c bounds xs h =

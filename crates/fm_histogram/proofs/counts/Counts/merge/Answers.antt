@@ -9,21 +9,20 @@ use Rattle.fm_histogram.proofs.CountLemmas.{count_within, sums_fit, sums_low, su
 use Rattle.fm_histogram.proofs.counts.Counts.merge.Goals as goal
 
 -- bucket by bucket the counts fit where all do
-fit : (s t : Histogram) (n : ℕ) (i : ℕ) (d e : Bucket) → IsOfSome s → IsOfSome t → upper_bounds s.buckets ≡ upper_bounds t.buckets → s.count + t.count < n → i < length t.buckets
+fit : (bs bs' : List ℤ) (s t : Histogram) (n : ℕ) (i : ℕ) (d e : Bucket) → IsOfSome bs s → IsOfSome bs' t → upper_bounds s.buckets ≡ upper_bounds t.buckets → s.count + t.count < n → i < length t.buckets
     → (get_or s.buckets i d).count + (get_or t.buckets i e).count < n
-fit s t n i d e some some' same small h =
+fit bs bs' s t n i d e some some' same small h =
     let l = lengths_same s.buckets t.buckets same in
     let h' : i < length s.buckets = omega arith in
-    omega (arith, count_within s i d some h', count_within t i e some' h)
+    omega (arith, count_within bs s i d some h', count_within bs' t i e some' h)
 
 -- two snapshots of equal bounds, merged
-merges_some : (s t : Histogram) → IsOfSome s → IsOfSome t → upper_bounds s.buckets ≡ upper_bounds t.buckets → IsOfSome (merged s t)
-merges_some s t some some' same =
-    let names : some.bounds ≡ some'.bounds = bounds_same None None some.bounds some'.bounds some.values some'.values (sym (ap (λ (z : Histogram). upper_bounds z.buckets) some.is.is) ∙ (same ∙ ap (λ (z : Histogram). upper_bounds z.buckets) some'.is.is)) in
+merges_some : (bs bs' : List ℤ) (s t : Histogram) → IsOfSome bs s → IsOfSome bs' t → upper_bounds s.buckets ≡ upper_bounds t.buckets → IsOfSome bs (merged s t)
+merges_some bs bs' s t some some' same =
+    let names : bs ≡ bs' = bounds_same None None bs bs' some.values some'.values (sym (ap (λ (z : Histogram). upper_bounds z.buckets) some.is.is) ∙ (same ∙ ap (λ (z : Histogram). upper_bounds z.buckets) some'.is.is)) in
     record {
-      bounds = some.bounds;
       values = some.values ++ some'.values;
-      is = merges some.bounds some.values some'.values s t some.is (subst (λ bs. IsCounts bs some'.values t) (sym names) some'.is);
+      is = merges bs some.values some'.values s t some.is (subst (λ l. IsCounts l some'.values t) (sym names) some'.is);
       low = sums_low s.sum t.sum s.count t.count some.low some'.low;
       high = sums_high s.sum t.sum s.count t.count some.high some'.high;
     }
@@ -39,7 +38,7 @@ pub add_counts-requires-clause-fits : goal.add_counts-requires-clause-fits
 add_counts-requires-clause-fits c i d e h =
     let same : upper_bounds c.self.inside.buckets.items ≡ upper_bounds c.other.inside.buckets.items = search rules in
     let h' : i < length c.other.inside.buckets.items = search rules in
-    rw (c.as_mut_slice.ensures.value, c.as_slice-3.ensures.value) (fit (histogram c.self.inside.buckets.items c.self.inside.count c.self.inside.sum) (histogram c.other.inside.buckets.items c.other.inside.count c.other.inside.sum) 18446744073709551616 i d e c.self.invariant c.other.invariant same c.in-Some.ensures.0 h')
+    rw (c.as_mut_slice.ensures.value, c.as_slice-3.ensures.value) (fit _ _ (histogram c.self.inside.buckets.items c.self.inside.count c.self.inside.sum) (histogram c.other.inside.buckets.items c.other.inside.count c.other.inside.sum) 18446744073709551616 i d e c.self.invariant c.other.invariant same c.in-Some.ensures.0 h')
 
 -- what the code left
 left : (c : goal.After-self-5-1) → histogram (with_items c.self.inside.buckets c.add_counts.new.buckets).items c.in-Some.count (to_z w128 (of_z w128 (to_z w128 (of_z w128 c.self.inside.sum) +ℤ to_z w128 (of_z w128 c.other.inside.sum)))) ≡ merged (histogram c.self.inside.buckets.items c.self.inside.count c.self.inside.sum) (histogram c.other.inside.buckets.items c.other.inside.count c.other.inside.sum)
@@ -53,7 +52,7 @@ left c =
 pub invariant_of-self : goal.invariant_of-self
 invariant_of-self c =
     let same : upper_bounds c.self.inside.buckets.items ≡ upper_bounds c.other.inside.buckets.items = search rules in
-    subst IsOfSome (sym (left c)) (merges_some _ _ c.self.invariant c.other.invariant same)
+    subst (IsOfSome c.self.inside.bounds.items) (sym (left c)) (merges_some _ _ _ _ c.self.invariant c.other.invariant same)
 
 -- the same, of what contracts see
 settled : (r s s' t t' : Histogram) → r ≡ merged s t → s ≡ s' → t ≡ t' → r ≡ merged s' t'

@@ -2,7 +2,7 @@
 ghost use Rattle.std.specs.Prelude.{◌≡◌, [], ◌∷◌, codes};
 ghost use Rattle.fm_grammar.specs.declared.MetricType.TheVariants.{Gauge};
 ghost use Rattle.fm_registry.specs.HasBook.{HasBook};
-ghost use Rattle.fm_tests_words.specs.declared.support.Job.TheVariants.{Pending, Running};
+ghost use Rattle.fm_tests_calls.specs.declared.support.Job.TheVariants.{Pending, Running};
 
 use fastmetrics::encoder::{EncodeError, EncodeMetric, MetricEncoder};
 use fastmetrics::format::text::encode;

@@ -1,0 +1,14 @@
+//! Tests of what calls of metrics and families return: clones, threads, keys, members, and what `Debug` shows.
+#![tactic(auto)]
+
+#[cfg(test)]
+mod clones;
+#[cfg(test)]
+mod handles;
+#[cfg(test)]
+mod keys;
+#[cfg(test)]
+mod members;
+#[cfg(test)]
+mod shown;
+pub mod support;
