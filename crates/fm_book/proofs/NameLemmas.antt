@@ -225,9 +225,10 @@ module _ (namespace : Option Text) (f : Text → List Text) (below : (n : Text) 
 
   tails_differ : (ts ms : List Text) → AllByRecursion (λ m. AllByRecursion (λ t. ¬ (IsBelow m t)) ts) ms → AllByRecursion (λ x. AllByRecursion (λ y. y ≢ x) (flat_map f ms)) (map (prefixed_name namespace) ts)
   tails_differ [] ms free = tt
-  tails_differ (t ∷ ts) ms free =
-      (tail_differs t ms (all_weaker (λ m. AllByRecursion (λ u. ¬ (IsBelow m u)) (t ∷ ts)) (λ m. ¬ (IsBelow m t)) (λ m h. h.0) ms free),
-      tails_differ ts ms (all_weaker (λ m. AllByRecursion (λ u. ¬ (IsBelow m u)) (t ∷ ts)) (λ m. AllByRecursion (λ u. ¬ (IsBelow m u)) ts) (λ m h. h.1) ms free))
+  tails_differ (t ∷ ts) ms free = (
+    tail_differs t ms (all_weaker (λ m. AllByRecursion (λ u. ¬ (IsBelow m u)) (t ∷ ts)) (λ m. ¬ (IsBelow m t)) (λ m h. h.0) ms free),
+    tails_differ ts ms (all_weaker (λ m. AllByRecursion (λ u. ¬ (IsBelow m u)) (t ∷ ts)) (λ m. AllByRecursion (λ u. ¬ (IsBelow m u)) ts) (λ m h. h.1) ms free),
+  )
 
 -- the name stands behind the namespace
 abbrev IsBehind : Option Text → Text → Type 0

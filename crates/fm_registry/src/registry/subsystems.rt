@@ -55,7 +55,9 @@ fn are_related(name: &str, other: &str) -> bool
 fn is_related_to_any<M>(subsystems: &[Subsystem<M>], name: &str) -> bool
     ensures { result ≡ list_any (λ s. below_test (string_bytes s.name) name.now || below_test name.now (string_bytes s.name)) subsystems.now }
 {
-    subsystems.iter().any(|s| are_related(s.name.as_str(), name))
+    subsystems
+        .iter()
+        .any(|s| are_related(s.name.as_str(), name))
 }
 
 // Whether the tail of one of the metrics begins with the name and an underscore.
@@ -186,7 +188,11 @@ impl<M: Drop> Registry<M> {
             return Err(RegistryError::NameTaken { name });
         }
         match self.new_child(alloc, name.as_str(), labels) {
-            Ok(registry) => push_subsystem(&mut self.subsystems, alloc, Subsystem { name, registry }),
+            Ok(registry) => push_subsystem(
+                &mut self.subsystems,
+                alloc,
+                Subsystem { name, registry },
+            ),
             Err(_) => Err(RegistryError::Memory),
         }
     }

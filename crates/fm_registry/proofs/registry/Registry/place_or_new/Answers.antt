@@ -12,7 +12,6 @@ use Rattle.fm_registry.proofs.registry.Registry.place_or_new.Goals as goal
 pub returns-in-Some-clause-ok : goal.returns-in-Some-clause-ok
 returns-in-Some-clause-ok g c = with_subsystem-there c.args.self.now (string_bytes c.args.name) (labels_of c.args.labels.items) _ (ap (λ m. place_in c.args.self.now.children m) (sym c.as_str.ensures.value) ∙ sym c.place_of.ensures ∙ c.in-Some.is)
 
-
 pub returns-in-Some-clause-answer : goal.returns-in-Some-clause-answer
 returns-in-Some-clause-answer g c =
     inr (sym (child_refusal-there c.args.self.now.facts.metrics (names_in c.args.self.now.children) (string_bytes c.args.name)
