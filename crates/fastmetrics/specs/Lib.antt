@@ -4,6 +4,7 @@ pub use Rattle.fm_grammar.specs.Document
 pub use Rattle.fm_grammar.specs.Law
 pub use Rattle.fm_grammar.specs.Names
 pub use Rattle.fm_grammar.specs.Numbers
+pub use Rattle.fm_grammar.specs.Reading
 pub use Rattle.fm_text.specs.Samples
 pub use Rattle.fm_text.specs.Written
 pub use Rattle.fm_book.specs.Texts

@@ -3,12 +3,24 @@
 //!
 //! - [`metrics`]: counters, gauges, histograms, unknowns, infos, state sets, families of them, tallies.
 //! - [`registry`]: registries of metrics, with their subsystems.
-//! - [`format`]: `format::text::encode` writes a registry's document.
+//! - [`format`]: `format::text::encode` writes a registry's document, and `format::text::read` reads one back.
 //! - [`encoder`]: what metrics, points and labels of your own implement.
 //! - [`raw`]: numbers, units and metadata.
 #![tactic(auto)]
 
-pub use fm_core::{encoder, format};
+pub use fm_core::encoder;
+
+pub mod format {
+    //! The formats that expositions are written in and read from.
+    pub mod text {
+        //! The OpenMetrics text format: collecting a registry, writing its document, and reading documents back.
+        pub use fm_core::format::text::{
+            EncodeError, Exemplar, Exposition, FamilySamples, Sample, SampleKind, Value, collect,
+            encode, encode_exposition,
+        };
+        pub use fm_reader::{ReadError, read};
+    }
+}
 
 pub mod metrics {
     //! The types of metrics: those whose value is fixed, and those that threads count with.

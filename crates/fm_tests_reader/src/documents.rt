@@ -1,0 +1,49 @@
+//! Documents that are read and written again.
+use fastmetrics::format::text::{encode_exposition, read};
+use std::alloc::Global;
+use std::test::Fail;
+
+// What is written of what was read.
+fn written_again(alloc: Global, text: &str) -> Result<Vec<u8>, Fail> {
+    let exposition = read(alloc, text)?;
+    let mut bytes: Vec<u8> = Vec::new(alloc);
+    encode_exposition(alloc, &mut bytes, &exposition)?;
+    Ok(bytes)
+}
+
+#[test]
+fn scenes(rt: HostRuntime) -> Result<(), Fail> {
+    let alloc = rt.alloc();
+    for text in [
+        "# EOF\n",
+        "# TYPE jobs counter\n# HELP jobs Jobs done\njobs_total 10100\n# EOF\n",
+        "# TYPE my_histogram histogram\n# HELP my_histogram My histogram help\nmy_histogram_bucket{le=\"1.0\"} 1\nmy_histogram_bucket{le=\"2.0\"} 2\nmy_histogram_bucket{le=\"4.0\"} 4\nmy_histogram_bucket{le=\"8.0\"} 8\nmy_histogram_bucket{le=\"16.0\"} 16\nmy_histogram_bucket{le=\"+Inf\"} 100\nmy_histogram_count 100\nmy_histogram_sum 5050.0\n# EOF\n",
+        "# TYPE my_stateset stateset\n# HELP my_stateset My stateset help\nmy_stateset{my_stateset=\"pending\"} 0\nmy_stateset{my_stateset=\"running\"} 1\nmy_stateset{my_stateset=\"completed\"} 0\nmy_stateset{my_stateset=\"failed\"} 0\n# EOF\n",
+        "# TYPE myapp_requests counter\n# HELP myapp_requests Total requests processed\nmyapp_requests_total{env=\"prod\"} 1\n# TYPE myapp_http_requests counter\n# HELP myapp_http_requests Total HTTP requests\nmyapp_http_requests_total{env=\"prod\",method=\"Get\",status=\"200\"} 1\n# TYPE myapp_database_mysql_queries counter\n# HELP myapp_database_mysql_queries Total MySQL queries\nmyapp_database_mysql_queries_total{env=\"prod\",engine=\"innodb\"} 7\n# EOF\n",
+    ] {
+        assert_eq!(rt; written_again(alloc, text)?.as_slice(), text.as_bytes());
+    }
+    Ok(())
+}
+
+#[test]
+fn worked_documents(rt: HostRuntime) -> Result<(), Fail> {
+    let alloc = rt.alloc();
+    for text in [
+        "# TYPE c counter\n# HELP c H\nc_total 1\nc_created 1.005\n# EOF\n",
+        "# TYPE c counter\n# HELP c H\nc_total 18446744073709551615\nc_created 18446744073709551615.999\n# EOF\n",
+        "# TYPE g_bytes gauge\n# HELP g_bytes H\n# UNIT g_bytes bytes\ng_bytes -9223372036854775808\n# EOF\n",
+        "# TYPE g gauge\n# HELP g H\ng -9223372036854.775808\ng 0.0\ng -0.000001\ng 1.5\n# EOF\n",
+        "# TYPE i info\n# HELP i H\ni_info{v=\"a\\\"b\\\\c\\nd\"} 1\n# EOF\n",
+        "# TYPE x counter\n# HELP x \n# EOF\n",
+        "# TYPE x counter\n# HELP x \\n\n# EOF\n",
+        "# TYPE x counter\n# HELP x a \\\"b\\\" \\\\ \\nc\nx_total 5 # {trace_id=\"a\"} 0.5 1.005\n# EOF\n",
+        "# TYPE h gaugehistogram\n# HELP h H\nh_bucket{le=\"-273.15\"} 0\nh_bucket{le=\"+Inf\"} 4\nh_gcount 4\nh_gsum 850.0\n# EOF\n",
+        "# TYPE s summary\n# HELP s H\ns{quantile=\"0.5\"} 2.0\ns{quantile=\"0.99\"} 7.25\ns_count 20\ns_sum 100.0\n# EOF\n",
+        "# TYPE h histogram\n# HELP h H\nh_bucket{le=\"1.0\"} 3 2.000 # {} 0.7\nh_bucket{le=\"+Inf\"} 5\nh_count 5\nh_sum 12.5\nh_created 1.000\n# EOF\n",
+        "# TYPE u unknown\n# HELP u a\u{0}\r\tb\u{2028}é\nu{v=\"a\u{0}b\u{2028}, # {}=} \\n# EOF\"} 1 1.005\n# EOF\n",
+    ] {
+        assert_eq!(rt; written_again(alloc, text)?.as_slice(), text.as_bytes());
+    }
+    Ok(())
+}

@@ -1,0 +1,9 @@
+//! Tests of reading documents back.
+#![tactic(auto)]
+
+#[cfg(test)]
+mod documents;
+#[cfg(test)]
+mod metrics;
+#[cfg(test)]
+mod refusals;

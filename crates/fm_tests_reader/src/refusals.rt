@@ -1,0 +1,173 @@
+//! Texts that are no documents, and the lines at which they are refused.
+use fastmetrics::format::text::{ReadError, read};
+use std::alloc::Global;
+use std::test::Fail;
+
+const TREE: &str = "# TYPE myapp_requests counter
+# HELP myapp_requests Total requests processed
+myapp_requests_total{env=\"prod\"} 1
+# TYPE myapp_http_requests counter
+# HELP myapp_http_requests Total HTTP requests
+myapp_http_requests_total{env=\"prod\",method=\"Get\",status=\"200\"} 1
+# TYPE myapp_database_mysql_queries counter
+# HELP myapp_database_mysql_queries Total MySQL queries
+myapp_database_mysql_queries_total{env=\"prod\",engine=\"innodb\"} 7
+# EOF
+";
+
+// The line at which a text is refused, or None where it is read or there is no memory.
+fn refused_line(alloc: Global, text: &str) -> Option<usize> {
+    match read(alloc, text) {
+        Err(ReadError::NotADocument { line }) => Some(line),
+        _ => None,
+    }
+}
+
+#[test]
+fn ends_and_heads(rt: HostRuntime) -> Result<(), Fail> {
+    let alloc = rt.alloc();
+    for (text, line) in [
+        ("", 1),
+        ("# EOF", 1),
+        ("# EOF\n\n", 2),
+        ("# EOF\n# EOF\n", 2),
+        ("\n# EOF\n", 1),
+        ("# TYPE a gauge\n", 2),
+        ("# TYPE a gauge\n# EOF\n", 2),
+        ("# TYPE a gauges\n# HELP a H\n# EOF\n", 1),
+        ("# TYPE A gauge\n# HELP A H\n# EOF\n", 1),
+        ("# HELP a H\n# TYPE a gauge\n# EOF\n", 1),
+        ("# TYPE g gauge\n# HELP g a\"b\n# EOF\n", 2),
+        ("# TYPE g gauge\n# HELP g a\\tb\n# EOF\n", 2),
+        ("# TYPE g gauge\n# HELP h H\n# EOF\n", 2),
+        (
+            "# TYPE g_bytes gauge\n# HELP g_bytes H\n# UNIT g_bytes byte\n# EOF\n",
+            3,
+        ),
+        (
+            "# TYPE g_bytes gauge\n# HELP g_bytes H\ng_bytes 1\n# UNIT g_bytes bytes\n# EOF\n",
+            4,
+        ),
+        (
+            "# TYPE g_bytes gauge\n# HELP g_bytes H\n# UNIT g_bytes bytes\n# UNIT g_bytes bytes\n# EOF\n",
+            4,
+        ),
+        (
+            "# TYPE i_bytes info\n# HELP i_bytes H\n# UNIT i_bytes bytes\n# EOF\n",
+            3,
+        ),
+        (
+            "# TYPE a gauge\n# HELP a H\n# TYPE a counter\n# HELP a H\n# EOF\n",
+            3,
+        ),
+        ("\u{feff}# EOF\n", 1),
+        ("# EOF\r\n", 1),
+        ("# EOF \n", 1),
+        ("#\tEOF\n", 1),
+    ] {
+        assert_eq!(rt; refused_line(alloc, text), Some(line));
+    }
+    Ok(())
+}
+
+#[test]
+fn samples(rt: HostRuntime) -> Result<(), Fail> {
+    let alloc = rt.alloc();
+    for sample in [
+        "g 1.50",
+        "g 01",
+        "g +1",
+        "g -0",
+        "g -0.0",
+        "g 1e3",
+        "g .5",
+        "g 5.",
+        "g 1.0 ",
+        "g  1",
+        "g",
+        "g\t1",
+        "g 1\r",
+        "",
+        "h 1",
+        "g_total 1",
+        "g{} 1",
+        "g{a=\"1\",} 1",
+        "g{a=\"1\",a=\"2\"} 1",
+        "g{1a=\"1\"} 1",
+        "g{a=\"1\" } 1",
+        "g{a=1} 1",
+        "g{a=\"\\t\"} 1",
+        "g 18446744073709551616",
+        "g -9223372036854775809",
+        "g 1 1",
+        "g 1 1.0",
+        "g 1 1.0000",
+        "g 1 18446744073709551616.000",
+        "g 1 # {} 1.0",
+    ] {
+        let mut text = String::from_str(alloc, "# TYPE g gauge\n# HELP g H\n")?;
+        text.push_str(sample)?;
+        text.push_str("\n# EOF\n")?;
+        assert_eq!(rt; refused_line(alloc, &text), Some(3));
+    }
+    Ok(())
+}
+
+#[test]
+fn counters(rt: HostRuntime) -> Result<(), Fail> {
+    let alloc = rt.alloc();
+    for sample in [
+        "c 1",
+        "c_total 18446744073709551616",
+        "c_created 1.5",
+        "c_created 1",
+        "c_created 1.000 # {} 1.0",
+        "c_total 1 # {} 1",
+        "c_total 1 #{} 1.0",
+        "c_total 1 # 1.0",
+        "c_total 1 # {} 1.0 ",
+        "c_total 1 # {} 1.0 1",
+        "c_total 1 # {} 9223372036854.775808",
+        "c_total 1 # {a=\"1\",a=\"1\"} 1.0",
+    ] {
+        let mut text = String::from_str(alloc, "# TYPE c counter\n# HELP c H\n")?;
+        text.push_str(sample)?;
+        text.push_str("\n# EOF\n")?;
+        assert_eq!(rt; refused_line(alloc, &text), Some(3));
+    }
+    Ok(())
+}
+
+// A document of a counter whose exemplar has a label `v` with so many times the letter é.
+fn with_exemplar(alloc: Global, letters: usize) -> Result<String, Fail> {
+    let mut text = String::from_str(alloc, "# TYPE c counter\n# HELP c H\nc_total 1 # {v=\"")?;
+    for _ in 0..letters {
+        text.push('é')?;
+    }
+    text.push_str("\"} 1.0\n# EOF\n")?;
+    Ok(text)
+}
+
+#[test]
+fn exemplar_lengths(rt: HostRuntime) -> Result<(), Fail> {
+    let alloc = rt.alloc();
+    assert!(rt; read(alloc, &with_exemplar(alloc, 127)?).is_ok());
+    assert_eq!(rt; refused_line(alloc, &with_exemplar(alloc, 128)?), Some(3));
+    Ok(())
+}
+
+#[test]
+fn cut_documents(rt: HostRuntime) -> Result<(), Fail> {
+    let alloc = rt.alloc();
+    let mut line: usize = 1;
+    for (place, byte) in TREE.bytes().enumerate() {
+        if let Some(front) = TREE.get(..place) {
+            assert_eq!(rt; refused_line(alloc, front), Some(line));
+        }
+        if byte == b'\n' {
+            line = line.saturating_add(1);
+        }
+    }
+    assert!(rt; read(alloc, TREE).is_ok());
+    Ok(())
+}
