@@ -153,8 +153,7 @@ impl<N: CounterValue + EncodeCounterValue> EncodeMetric for Counter<N> {
     ghost may_fault = { λ _. (total : N) × N.in_range total × N.may_fault total };
 
     fn encode(&self, encoder: &mut MetricEncoder) -> Result<(), EncodeError> {
-        let total = self.count.total.get();
-        encoder.encode_counter(&total, None::<&()>, self.count.created)
+        encoder.encode(&(), self)
     }
 
     fn metric_type(&self) -> MetricType {

@@ -126,8 +126,7 @@ impl<N: GaugeValue + EncodeGaugeValue> EncodeMetric for Gauge<N> {
     ghost may_fault = { λ _. (value : N) × N.in_range value × N.may_fault value };
 
     fn encode(&self, encoder: &mut MetricEncoder) -> Result<(), EncodeError> {
-        let value = self.value.get();
-        encoder.encode_gauge(&value)
+        encoder.encode(&(), self)
     }
 
     fn metric_type(&self) -> MetricType {

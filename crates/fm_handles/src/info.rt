@@ -55,7 +55,7 @@ impl<LS: EncodeLabelSet + Send + Sync + Drop> EncodeMetric for Info<LS> {
     ghost may_fault = { λ i. LS.may_fault i.labels };
 
     fn encode(&self, encoder: &mut MetricEncoder) -> Result<(), EncodeError> {
-        encoder.encode_info(&self.labels)
+        encoder.encode(&(), self)
     }
 
     fn metric_type(&self) -> MetricType {

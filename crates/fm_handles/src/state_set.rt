@@ -211,10 +211,7 @@ impl<T: StateSetValue + 'static> EncodeMetric for StateSet<T> {
     } ∷ []) };
 
     fn encode(&self, encoder: &mut MetricEncoder) -> Result<(), EncodeError> {
-        let Ok(states) = self.current().tell_states(self.alloc) else {
-            return Err(EncodeError::Memory);
-        };
-        encoder.encode_stateset(states)
+        encoder.encode(&(), self)
     }
 
     fn metric_type(&self) -> MetricType {
@@ -321,10 +318,7 @@ impl<T: StateSetValue + 'static> EncodeMetric for ConstStateSet<T> {
     } ∷ [] };
 
     fn encode(&self, encoder: &mut MetricEncoder) -> Result<(), EncodeError> {
-        let Ok(states) = self.state.tell_states(self.alloc) else {
-            return Err(EncodeError::Memory);
-        };
-        encoder.encode_stateset(states)
+        encoder.encode(&(), self)
     }
 
     fn metric_type(&self) -> MetricType {

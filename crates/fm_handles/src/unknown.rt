@@ -58,7 +58,7 @@ impl<T: UnknownValue + EncodeUnknownValue + Drop> EncodeMetric for Unknown<T> {
     ghost may_fault = { λ u. T.may_fault u.value };
 
     fn encode(&self, encoder: &mut MetricEncoder) -> Result<(), EncodeError> {
-        encoder.encode_unknown(&self.value)
+        encoder.encode(&(), self)
     }
 
     fn metric_type(&self) -> MetricType {

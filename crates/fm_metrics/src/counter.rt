@@ -95,7 +95,7 @@ impl<N: EncodeCounterValue + Send + Sync + Drop> EncodeMetric for ConstCounter<N
     ghost may_fault = { λ c. N.may_fault c.total };
 
     fn encode(&self, encoder: &mut MetricEncoder) -> Result<(), EncodeError> {
-        encoder.encode_counter(&self.total, None::<&()>, self.created)
+        encoder.encode(&(), self)
     }
 
     fn metric_type(&self) -> MetricType {

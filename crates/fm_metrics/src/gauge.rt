@@ -68,7 +68,7 @@ impl<N: EncodeGaugeValue + Send + Sync + Drop> EncodeMetric for ConstGauge<N> {
     ghost may_fault = { λ g. N.may_fault g.value };
 
     fn encode(&self, encoder: &mut MetricEncoder) -> Result<(), EncodeError> {
-        encoder.encode_gauge(&self.value)
+        encoder.encode(&(), self)
     }
 
     fn metric_type(&self) -> MetricType {
