@@ -142,6 +142,21 @@ PushesBuckets-refused {S} f F buckets slots i before k b s old mid new r within 
       refused = λ j is. (let equal : k ≡ j = cc in subst (λ (e : EncodeError). OwnRefusal ((slot : S) × Contains slots slot × F slot) e ⊎ BucketsFault e buckets (map f slots)) equal fault);
     }
 
+-- where no slot may answer an error of its own
+pub PushesBuckets-never : {F : Type 0} (buckets : List Bucket) (slots : List (List HandedExemplar)) (old new : GatheredPoints) → ¬ F → PushesBuckets buckets slots F old new → PushesBuckets buckets slots ⊥ old new
+PushesBuckets-never buckets slots old new never a = record {
+  place = a.place;
+  fits = a.fits;
+  clean = a.clean;
+  output = a.output;
+  formed = a.formed;
+  refused = λ k is. elim (a.refused k is) [
+    | inl (inl memory) ↦ inl (inl memory)
+    | inl (inr own) ↦ absurd (never own.1)
+    | inr fault ↦ inr fault
+  ];
+}
+
 pub length-slots_of : {E : Type 0} (exemplars : E → List HandedExemplar) (slots : List (Option (Bor E))) → length (slots_of exemplars slots) ≡ length slots
 length-slots_of exemplars slots = length-map slots _
 

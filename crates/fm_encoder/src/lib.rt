@@ -27,6 +27,7 @@ pub use label_set::{EncodeLabelSet, LabelSlice};
 pub use label_value::{LabelStr, StaticStr};
 pub use law::counts_add_up;
 pub use metric::{EncodeMetric, MetricEncoder};
+pub use point::histogram::bare::encode_bare_histogram;
 pub use point::{EncodePoint, PointEncoder};
 pub use value::{
     CounterValueEncoder, EncodeCounterValue, EncodeGaugeValue, EncodeUnknownValue,

@@ -30,7 +30,7 @@ use std::alloc::Global;
 use std::marker::Model;
 use std::time::Duration;
 
-mod histogram;
+pub(crate) mod histogram;
 
 /// Something that hands over points, mostly one.
 pub trait EncodePoint {

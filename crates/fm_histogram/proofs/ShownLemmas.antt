@@ -1,18 +1,10 @@
 -- What histograms hand over to encoders.
-use Rattle.std.proofs.Common.{◌≡◌, ℕ, ℤ, Bool, List, [], ◌∷◌, length, replicate, Option, None, Result, inl, inr, refl, ap}
-use Rattle.fm_bucket.specs.declared.bound.Bucket.{Bucket}
-use Rattle.fm_encoder.specs.Points.{HandedExemplar}
-use Rattle.fm_encoder.specs.Buckets.{slots_of}
+use Rattle.std.proofs.Common.{◌≡◌, ℕ, ℤ, Bool, List, [], ◌∷◌, Option, Result, inl, inr}
 use Rattle.fm_text.specs.declared.error.EncodeError.{EncodeError}
 use Rattle.fm_encoder.specs.Gathered.{GatheredPoints}
 use Rattle.fm_encoder.specs.Hands.{HandsPoints}
 use Rattle.fm_histogram.specs.Histogram.{Histogram, CountsTaken}
-use Rattle.fm_histogram.specs.Shown.{empty_slots, point_of}
-
--- slots of no exemplar objects are empty
-pub slots_of_none : {E : Type 0} (exemplars : E → List HandedExemplar) (buckets : List Bucket) → slots_of exemplars (replicate (length buckets) None) ≡ empty_slots buckets
-slots_of_none exemplars [] = refl
-slots_of_none exemplars (b ∷ buckets) = ap (λ (slots : List (List HandedExemplar)). [] ∷ slots) (slots_of_none exemplars buckets)
+use Rattle.fm_histogram.specs.Shown.{point_of}
 
 -- the point of one histogram is that of some
 pub HandsPoints-some : (taken : ℤ → Bool) (s : Histogram) (created : Option ℕ) (old new : GatheredPoints) (r : Result (Unit {0}) EncodeError) → CountsTaken taken s → HandsPoints (λ ps. ps ≡ point_of s created ∷ []) ⊥ old new r

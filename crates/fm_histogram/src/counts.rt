@@ -51,10 +51,6 @@ impl Counts {
         })
     }
 
-    pub(crate) fn allocator(&self) -> Global {
-        *self.buckets.allocator()
-    }
-
     pub(crate) fn buckets(&self) -> &[Bucket]
         ensures { result.now ≡ self.now.buckets }
     {

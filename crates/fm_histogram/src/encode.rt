@@ -1,34 +1,16 @@
 // Snapshots of histograms as metrics.
-ghost use Rattle.std.specs.Prelude.{◌≡◌, [], ◌∷◌, None, IfOk, IfErr};
+ghost use Rattle.std.specs.Prelude.{◌≡◌, [], ◌∷◌, None};
 ghost use Rattle.std.specs.Option.{option_map};
 ghost use Rattle.fm_grammar.specs.declared.MetricType.TheVariants.{Histogram as HistogramType};
-ghost use Rattle.fm_text.specs.declared.error.EncodeError.{EncodeError};
 ghost use Rattle.fm_encoder.specs.Points.{millis};
-ghost use Rattle.fm_encoder.specs.Buckets.{slots_of};
 ghost use Rattle.fm_encoder.specs.Hands.{HandsPoints};
-ghost use Rattle.fm_histogram.specs.Shown.{empty_slots, point_of, member_of};
+ghost use Rattle.fm_histogram.specs.Shown.{point_of, member_of};
 
 use crate::snapshot::HistogramSnapshot;
-use fm_bucket::Bucket;
-use fm_encoder::{EncodeMetric, EncodePoint, MetricEncoder, PointEncoder};
+use fm_encoder::{EncodeMetric, EncodePoint, MetricEncoder, PointEncoder, encode_bare_histogram};
 use fm_raw::{MetricType, TypedMetric};
 use fm_text::EncodeError;
-use std::alloc::Global;
 use std::time::Duration;
-
-// A slot without exemplar for each bucket.
-fn slots_without_exemplars<'a>(
-    alloc: Global,
-    buckets: &[Bucket],
-) -> Result<Vec<Option<&'a ()>>, EncodeError>
-    ensures empty { IfOk result (λ v. slots_of (λ _. []) v.items ≡ empty_slots buckets.now) }
-    ensures memory { IfErr result (λ e. e ≡ EncodeError.Memory) }
-{
-    match vec![in alloc; None; buckets.len()] {
-        Ok(slots) => Ok(slots),
-        Err(_) => Err(EncodeError::Memory),
-    }
-}
 
 // Hands over a snapshot's point with this time of creation.
 pub(crate) fn encode_snapshot(
@@ -38,10 +20,9 @@ pub(crate) fn encode_snapshot(
 ) -> Result<(), EncodeError>
     ensures { HandsPoints (λ ps. ps ≡ point_of snapshot.now (option_map millis created) ∷ []) ⊥ points.old points.new result }
 {
-    let slots = slots_without_exemplars(snapshot.allocator(), snapshot.buckets())?;
-    points.encode_histogram(
+    encode_bare_histogram(
+        points,
         snapshot.buckets(),
-        slots.as_slice(),
         snapshot.count(),
         snapshot.sum(),
         created,
@@ -54,7 +35,7 @@ impl TypedMetric for HistogramSnapshot {
     const TYPE: MetricType = MetricType::Histogram;
 }
 
-/// The snapshot's buckets without exemplars, its count and its sum, without a time of creation. It takes memory.
+/// The snapshot's buckets without exemplars, its count and its sum, without a time of creation.
 impl EncodePoint for HistogramSnapshot {
     ghost points = { λ s ps. ps ≡ point_of s None ∷ [] };
 

@@ -83,10 +83,6 @@ impl HistogramSnapshot {
         let _ = &self.counts;
     }
 
-    pub(crate) fn allocator(&self) -> Global {
-        self.counts.allocator()
-    }
-
     /// Counts a value in the first bucket whose bound is not below it. A negative value changes nothing.
     /// It answers `CountFull` where the count is the greatest `u64` and the value is not negative, and then changes nothing.
     pub fn observe(&mut self, value: Fixed) -> Result<(), MetricError>

@@ -21,6 +21,8 @@ use fm_raw::fixed::{FixedBuffer, FixedSum};
 use fm_text::{EncodeError, Exemplar, Value};
 use std::time::Duration;
 
+pub mod bare;
+
 // The value of a sum.
 fn sum_value(sum: FixedSum) -> Value
     ensures value { result ≡ FixedValue sum }

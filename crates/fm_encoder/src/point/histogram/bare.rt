@@ -1,0 +1,46 @@
+//! Histograms none of whose buckets has an exemplar.
+ghost use Rattle.std.specs.Prelude.{◌≡◌, [], ◌∷◌, None, map};
+ghost use Rattle.std.specs.Option.{option_map};
+ghost use Rattle.fm_encoder.specs.Points.{HistogramPoint, millis};
+ghost use Rattle.fm_encoder.specs.Gathered.{answer};
+ghost use Rattle.fm_encoder.specs.Hands.{HandsPoints};
+ghost use Rattle.fm_encoder.specs.Buckets.{HasBuckets, PushesBuckets};
+
+use crate::point::PointEncoder;
+use fm_bucket::Bucket;
+use fm_grammar::MetricType;
+use fm_raw::fixed::FixedSum;
+use fm_text::EncodeError;
+use std::time::Duration;
+
+/// Hands over a histogram's point as `PointEncoder::encode_histogram` does where each slot is empty, and takes no list of such slots.
+pub fn encode_bare_histogram(
+    points: &mut PointEncoder,
+    buckets: &[Bucket],
+    count: u64,
+    sum: FixedSum,
+    created: Option<Duration>,
+) -> Result<(), EncodeError>
+    ensures handed { HandsPoints
+        (λ ps. ps ≡ HistogramPoint buckets.now (map (λ _. []) buckets.now) count sum (option_map millis created) ∷ [])
+        ⊥ points.old points.new result }
+    ensures answered { result ≡ answer points.new.refused }
+{
+    points.begin_buckets(MetricType::Histogram, buckets.len(), buckets.len())?;
+    push_bare_buckets(points, buckets)?;
+    points.push_totals(count, sum, created)
+}
+
+// Adds a sample without exemplar for each bucket, in order.
+fn push_bare_buckets(points: &mut PointEncoder, buckets: &[Bucket]) -> Result<(), EncodeError>
+    requires accepting { points.old.refused ≡ None }
+    requires buckets { HasBuckets points.old.setting.metric_type }
+    ensures pushed { PushesBuckets buckets.now (map (λ _. []) buckets.now) ⊥ points.old points.new }
+    ensures answered { result ≡ answer points.new.refused }
+{
+    let mut values = 0;
+    for i in 0..buckets.len() {
+        values = points.push_bucket(values, &buckets[i], None::<&()>)?;
+    }
+    Ok(())
+}
