@@ -1,7 +1,7 @@
 #!/usr/bin/env bash
 # Proves, builds and runs the programs of bench/ in a scratch copy of the crates, so that the gate doesn't prove them each time.
 #
-#   scripts/bench.sh [-d FOLDER] [SCENE..]      scenes: hand counters histograms gauges inc lookup observe; all without one
+#   scripts/bench.sh [-d FOLDER] [SCENE..]      scenes: hand counters histograms gauges inc lookup observe register read; all without one
 #
 # The folder (else /tmp/fastmetrics-bench) is kept, so that only what changed is proved again. Prints a line for each figure: scene, members
 # (threads for `inc`), what was measured, nanoseconds a sample line or a call; docs/PERFORMANCE.md says how to compare. Run it on
@@ -10,7 +10,7 @@ set -eu
 top=$(cd "$(dirname "$0")/.." && pwd)
 folder=/tmp/fastmetrics-bench
 [[ ${1:-} == -d ]] && { folder=$2; shift 2; }
-[[ $# -gt 0 ]] || set -- hand counters histograms gauges inc lookup observe
+[[ $# -gt 0 ]] || set -- hand counters histograms gauges inc lookup observe register read
 
 # The crates, with the work that is kept beside them, and the bench's own, whose files get their true endings.
 mkdir -p "$folder/crates"
