@@ -4,7 +4,7 @@ use fastmetrics::encoder::EncodeMetric;
 use fastmetrics::metrics::counter::ConstCounter;
 use fastmetrics::metrics::gauge::ConstGauge;
 use fastmetrics::raw::{Fixed, MetricType, TypedMetric, Unit};
-use fastmetrics::registry::Registry;
+use fastmetrics::registry::{Registry, RegistryError};
 use fm_test_support::support::{document_alone, document_of, lines_of};
 use fm_test_support::trees::{gauge, register, register_with};
 use std::alloc::Global;
@@ -195,10 +195,12 @@ fn one_name_of_two_types(rt: HostRuntime) -> Result<(), Fail> {
     let mut registry = Registry::default();
     let counter = Box::new(alloc, ConstCounter::new(1u64))?;
     register(alloc, &mut registry, "a", counter)?;
-    register(alloc, &mut registry, "a", gauge(alloc, 3)?)?;
+    let again = register(alloc, &mut registry, "a", gauge(alloc, 3)?);
+    let name = String::from_str(alloc, "a")?;
+    assert_eq!(rt; again, Err(RegistryError::NameTaken { name }));
     assert_eq!(rt;
         document_of(alloc, &registry)?.as_str(),
-        "# TYPE a counter\n# HELP a H\na_total 1\n# TYPE a gauge\n# HELP a H\na 3\n# EOF\n"
+        "# TYPE a counter\n# HELP a H\na_total 1\n# EOF\n"
     );
     Ok(())
 }
@@ -210,11 +212,12 @@ fn one_name_with_two_units(rt: HostRuntime) -> Result<(), Fail> {
     let unit = Some(Unit::Seconds);
     register_with(alloc, &mut registry, "g", "H", unit, gauge(alloc, 1)?)?;
     let unit = Some(Unit::from(String::from_str(alloc, "seconds")?));
-    register_with(alloc, &mut registry, "g", "H", unit, gauge(alloc, 2)?)?;
+    let again = register_with(alloc, &mut registry, "g", "H", unit, gauge(alloc, 2)?);
+    let name = String::from_str(alloc, "g")?;
+    assert_eq!(rt; again, Err(RegistryError::NameTaken { name }));
     assert_eq!(rt;
         document_of(alloc, &registry)?.as_str(),
-        "# TYPE g_seconds gauge\n# HELP g_seconds H\n# UNIT g_seconds seconds\ng_seconds 1\n\
-         # TYPE g_seconds gauge\n# HELP g_seconds H\n# UNIT g_seconds seconds\ng_seconds 2\n# EOF\n"
+        "# TYPE g_seconds gauge\n# HELP g_seconds H\n# UNIT g_seconds seconds\ng_seconds 1\n# EOF\n"
     );
     Ok(())
 }

@@ -6,6 +6,8 @@ mod boxed;
 #[cfg(test)]
 mod calls;
 #[cfg(test)]
+mod names;
+#[cfg(test)]
 mod registering;
 #[cfg(test)]
 mod tree;

@@ -151,6 +151,7 @@ fn refusals_of_registries(rt: HostRuntime) -> Result<(), Fail> {
             "NoSuchSubsystem",
         ),
         (RegistryError::TooDeep { name: ok()? }, 11, "TooDeep"),
+        (RegistryError::NameTaken { name: ok()? }, 12, "NameTaken"),
     ] {
         assert_eq!(rt; error.number(), number);
         assert_eq!(rt; error.to_string(alloc)?.as_str(), want);
