@@ -48,7 +48,7 @@ pub returns-in_default-ended-clause-refused : goal.returns-in_default-ended-clau
 returns-in_default-ended-clause-refused c = fault_refuses _ _ (returns-in_default-ended-clause-fault c)
 
 pub exposition-requires : goal.exposition-requires
-exposition-requires c = (ended_place _ _ _ _ _ c.loop-front.invariant.place (empty_text _ c.if-not-is_empty.ensures) c.in-Some-ended.ensures).0.well_formed
+exposition-requires c = (ended_place _ _ _ _ _ c.loop-front.invariant.place (empty_text _ c.if-not-is_empty.ensures) c.in-Some-ended.ensures).0
 
 pub returns-clause-read : goal.returns-clause-read
 returns-clause-read c = given _ _ _ c.exposition.ensures (ended_place _ _ _ _ _ c.loop-front.invariant.place (empty_text _ c.if-not-is_empty.ensures) c.in-Some-ended.ensures)
