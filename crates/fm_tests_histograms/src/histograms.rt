@@ -1,17 +1,20 @@
 //! Histograms from the calls to the document: bounds, reserved labels, and buckets of a user's own.
 ghost use Rattle.std.specs.Prelude.{◌≡◌, [], ◌∷◌, None, pos};
 ghost use Rattle.fastmetrics.specs.Points.{HistogramPoint};
+ghost use Rattle.fm_registry.specs.HasBook.{HasBook};
 
 use crate::own_buckets::OwnBuckets;
 use fastmetrics::encoder::{EncodeMetric, EncodePoint, PointEncoder};
 use fastmetrics::format::text::{EncodeError, encode};
+use fastmetrics::metrics::gauge::ConstGauge;
 use fastmetrics::metrics::histogram::{Histogram, HistogramSnapshot};
 use fastmetrics::raw::bucket::{Bound, Bucket, linear_buckets};
 use fastmetrics::raw::{Fixed, FixedSum, MetricError, MetricType};
 use fastmetrics::registry::Registry;
 use fm_test_support::members::OneMember;
-use fm_test_support::parts::Faulty;
+use fm_test_support::parts::{Faulty, Word};
 use fm_test_support::support::{document_alone, refusal, text_of};
+use fm_test_support::trees::{build_below, register_below};
 use std::alloc::{AllocError, Global};
 use std::test::Fail;
 use std::time::Duration;
@@ -112,6 +115,18 @@ fn one_value_for_each_bound(rt: HostRuntime) -> Result<(), Fail> {
     Ok(())
 }
 
+// Why a registry's document is refused. A refusal writes nothing.
+fn refusal_of(alloc: Global, registry: &Registry) -> Result<EncodeError, Fail>
+    requires { HasBook registry.now }
+{
+    let mut bytes = Vec::new(alloc);
+    let answer = encode(alloc, &mut bytes, registry);
+    match (answer, text_of(bytes)?.is_empty()) {
+        (Err(error), true) => Ok(error),
+        _ => Err(Fail::new("it was not refused, or wrote something")),
+    }
+}
+
 // Why a metric under the constant label `le` is refused. A refusal writes nothing.
 fn refusal_under_le(alloc: Global, metric: Box<dyn EncodeMetric>) -> Result<EncodeError, Fail> {
     let mut labels = Vec::new(alloc);
@@ -123,12 +138,7 @@ fn refusal_under_le(alloc: Global, metric: Box<dyn EncodeMetric>) -> Result<Enco
     let name = String::from_str(alloc, "t")?;
     let help = String::from_str(alloc, "H")?;
     registry.register_metric(alloc, name, help, None, metric)?;
-    let mut bytes = Vec::new(alloc);
-    let answer = encode(alloc, &mut bytes, &registry);
-    match (answer, text_of(bytes)?.is_empty()) {
-        (Err(error), true) => Ok(error),
-        _ => Err(Fail::new("it was not refused, or wrote something")),
-    }
+    refusal_of(alloc, &registry)
 }
 
 #[test]
@@ -143,6 +153,37 @@ fn constant_label_of_bounds(rt: HostRuntime) -> Result<(), Fail> {
     let snapshot = HistogramSnapshot::new(alloc, bounds.iter().copied())?;
     assert_eq!(rt;
         refusal_under_le(alloc, Box::new(alloc, snapshot)?)?,
+        EncodeError::ReservedLabel
+    );
+    Ok(())
+}
+
+// Why a document is refused that has two subsystems: `a` under the constant label `le`, with this metric, and `b` without labels, with
+// the other one. A refusal writes nothing.
+fn refusal_after_le(
+    alloc: Global,
+    labelled: Box<dyn EncodeMetric>,
+    refused: Box<dyn EncodeMetric>,
+) -> Result<EncodeError, Fail> {
+    let mut registry = Registry::default();
+    build_below(alloc, &mut registry, "a", &[("le", "5.0")])?;
+    register_below(alloc, &mut registry, "a", "t", labelled)?;
+    register_below(alloc, &mut registry, "b", "t", refused)?;
+    refusal_of(alloc, &registry)
+}
+
+#[test]
+fn label_of_bounds_after_a_constant_one(rt: HostRuntime) -> Result<(), Fail> {
+    let alloc = rt.alloc();
+    let gauge = ConstGauge::new(5i64);
+    let member = OneMember {
+        metric_type: MetricType::Histogram,
+        time: None,
+        labels: [(Word("le"), 1)],
+        point: HistogramSnapshot::new(alloc, [whole(1)].iter().copied())?,
+    };
+    assert_eq!(rt;
+        refusal_after_le(alloc, Box::new(alloc, gauge)?, Box::new(alloc, member)?)?,
         EncodeError::ReservedLabel
     );
     Ok(())
