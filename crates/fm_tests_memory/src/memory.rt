@@ -16,6 +16,7 @@ use std::alloc::{AllocError, Global};
 use std::test::Fail;
 
 mod lines;
+mod reading;
 
 const BEFORE: &[u8] = b"before\n";
 
