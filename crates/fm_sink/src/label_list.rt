@@ -25,7 +25,11 @@ fn append_label<O: Output>(text: &mut O, name: &[u8], value: &[u8]) -> Result<()
 
 // Appends a comma and a label.
 #[tactic(auto, using(crate::proofs::GrownLemmas::grown))]
-fn append_further_label<O: Output>(text: &mut O, name: &[u8], value: &[u8]) -> Result<(), AllocError>
+fn append_further_label<O: Output>(
+    text: &mut O,
+    name: &[u8],
+    value: &[u8],
+) -> Result<(), AllocError>
     ensures { OnOk result (Grows (O.stands_for text.old) (O.stands_for text.new) (further_label (record { name = name.now; value = value.now }))) }
 {
     text.put(b",")?;

@@ -5,7 +5,8 @@ use fm_test_support::support::Patience;
 use std::alloc::Global;
 use std::test::Fail;
 
-const TEXT: &str = "# TYPE x_bytes counter\n# HELP x_bytes a \\\"b\\\" \\\\ \\nc\n# UNIT x_bytes bytes\n\
+const TEXT: &str =
+    "# TYPE x_bytes counter\n# HELP x_bytes a \\\"b\\\" \\\\ \\nc\n# UNIT x_bytes bytes\n\
     x_bytes_total{a=\"1\",b=\"\\\"\"} 5 1.005 # {trace_id=\"a\"} 0.5 1.005\nx_bytes_created{a=\"1\"} 1.005\n\
     # TYPE g gauge\n# HELP g H\ng 0.5\n# EOF\n";
 
