@@ -1,13 +1,12 @@
 -- Where a line leads a reader, and that it leads nowhere.
-use Rattle.std.proofs.Common.{◌≡◌, ◌≢◌, ℕ, zero, suc, ◌+◌, ◌<◌, List, [], ◌∷◌, ◌++◌, length, take, get_or, refl, sym, ap, subst, ◌∙◌, Option, Some, None, Result, Ok, Err, IfOk, codes, arith}
-use Rattle.std.specs.List.{AllByRecursion}
+use Rattle.std.proofs.Common.{◌≡◌, List, [], ◌∷◌, ◌++◌, refl, sym, ap, subst, ◌∙◌, Option, Some, None, Result, Ok, Err, IfOk, codes, arith}
 use Rattle.fm_grammar.specs.declared.MetricType.{MetricType}
 use Rattle.fm_grammar.specs.Exposition.{Text, Sample, Family}
 use Rattle.fm_grammar.specs.Names.{IsSnakeCase}
 use Rattle.fm_grammar.specs.WellFormed.{UnitFits, UnitAllowed, IsSample}
 use Rattle.fm_grammar.specs.Document.{IsTypeLine, IsHelpLine, IsUnitLine, IsSampleLine, IsLastLine}
 use Rattle.fm_grammar.specs.Reading.{State, Open, Headed, Ended, closed, IsNewName, with_unit, with_sample, Follows, type_line, help_line, unit_line, sample_line, last_line}
-use Rattle.fm_grammar.proofs.Runs.{all_middle, all_append, one_run}
+use Rattle.fm_grammar.proofs.Runs.{one_run}
 use Rattle.fm_grammar.proofs.FamilyNames.{IsNameByte, snake_case_bytes}
 use Rattle.fm_grammar.specs.Kinds.{type_word}
 use Rattle.std.proofs.lemmas.List.{append_cancel_left}
@@ -81,47 +80,6 @@ within_refuses f line lent lent' m m' found found' units e same none h = (
   subst (λ n. FoundSample line n f.metric_type None) e (subst (λ k. FoundSample line lent' k None) same (subst (FoundSample line lent' m') none h)),
 )
 
--- new names
-
-pub taken_current : (name : Text) (finished : List Family) (current : Option Family) (family : Family) → current ≡ Some family → family.name ≡ name → IsNewName name (closed finished current) → ⊥
-taken_current name finished current family some same new =
-    let h : IsNewName name (closed finished (Some family)) = subst (λ c. IsNewName name (closed finished c)) some new in
-    all_middle (λ f. f.name ≢ name) finished family [] h same
-
-pub new_names : (name : Text) (finished : List Family) (current : Option Family) → IsNewName name finished → ((family : Family) → current ≡ Some family → family.name ≢ name) → IsNewName name (closed finished current)
-new_names name finished None new last = new
-new_names name finished (Some family) new last = all_append (λ f. f.name ≢ name) finished (family ∷ []) new (last family refl, tt)
-
-pub new_none : (name : Text) (families : List Family) → IsNewName name (take 0 families)
-new_none name families = tt
-
-all_take_next : (P : Family → Type 0) (families : List Family) (i : ℕ) (f : Family) → i < length families → f ≡ get_or families i f → P f → AllByRecursion P (take i families) → AllByRecursion P (take (i + 1) families)
-all_take_next P [] i f within is p h = absurd (omega arith)
-all_take_next P (x ∷ families) zero f within is p h = (subst P is p, tt)
-all_take_next P (x ∷ families) (suc i) f within is p h =
-    let more : suc i + 1 ≡ suc (i + 1) = omega arith in
-    subst (λ n. AllByRecursion P (take n (x ∷ families))) (sym more) (h.0, all_take_next P families i f (omega arith) is p h.1)
-
-pub new_next : (name : Text) (families : List Family) (i : ℕ) (f : Family) → i < length families → f ≡ get_or families i f → f.name ≢ name → IsNewName name (take i families) → IsNewName name (take (i + 1) families)
-new_next name families i f within is other h = all_take_next (λ g. g.name ≢ name) families i f within is other h
-
-pub taken_at : (name : Text) (families : List Family) (i : ℕ) (f : Family) → i < length families → f ≡ get_or families i f → f.name ≡ name → IsNewName name families → ⊥
-taken_at name [] i f within is same h = omega arith
-taken_at name (x ∷ families) zero f within is same h = h.0 (subst (λ g. g.name ≡ name) is same)
-taken_at name (x ∷ families) (suc i) f within is same h = taken_at name families i f (omega arith) is same h.1
-
-new_front : (name : Text) (families : List Family) (family : Family) → IsNewName name (families ++ (family ∷ [])) → IsNewName name families
-new_front name [] family new = tt
-new_front name (x ∷ families) family new = (new.0, new_front name families family new.1)
-
-new_among : (name : Text) (finished : List Family) (current : Option Family) → IsNewName name (closed finished current) → IsNewName name finished
-new_among name finished None new = new
-new_among name finished (Some family) new = new_front name finished family new
-
--- a name is new beside finished families and a current one
-pub new_parts : (name : Text) (finished : List Family) (current : Option Family) → IsNewName name (closed finished current) → IsNewName name finished × ((family : Family) → current ≡ Some family → family.name ≢ name)
-new_parts name finished current new = (new_among name finished current new, λ family some same. taken_current name finished current family some same new)
-
 -- a type line whose name is taken
 
 pub taken_type : (line name : Text) (m : MetricType) (families : List Family) → IsSnakeCase name → IsTypeLine line name m → (IsNewName name families → ⊥) → FoundNewType families line None
@@ -138,27 +96,26 @@ some_same a b e = cc
 pub last_follows : (finished families : List Family) (current : Option Family) (line : Text) → IsLastLine line → families ≡ closed finished current → Follows (Open finished current) line (Ended families)
 last_follows finished families current line p e = subst (λ fs. Follows (Open finished current) line (Ended fs)) (sym e) (last_line p)
 
-pub type_follows : (finished seen families : List Family) (current : Option Family) (line lent name : Text) (m : MetricType) → seen ≡ finished → name ≡ lent → families ≡ closed finished current → FoundNewType (closed seen current) line (Some (lent, m)) → Follows (Open finished current) line (Headed families name m)
-type_follows finished seen families current line lent name m s e f found =
-    let is : FoundNewType (closed finished current) line (Some (lent, m)) = subst (λ fs. FoundNewType (closed fs current) line (Some (lent, m))) s found in
+pub type_follows : (finished families : List Family) (current : Option Family) (line lent name : Text) (m : MetricType) → name ≡ lent → families ≡ closed finished current → FoundNewType (closed finished current) line (Some (lent, m)) → Follows (Open finished current) line (Headed families name m)
+type_follows finished families current line lent name m e f is =
     subst (λ fs. Follows (Open finished current) line (Headed fs name m)) (sym f)
     (subst (λ n. Follows (Open finished current) line (Headed (closed finished current) n m)) (sym e) (type_line is.1 is.0 is.2))
 
-pub none_refuses : (finished seen : List Family) (current : Option Family) (line : Text) → seen ≡ finished → current ≡ None → (IsLastLine line → ⊥) → FoundNewType (closed seen current) line None → (next : State) → Follows (Open finished current) line next → ⊥
-none_refuses finished seen current line s none last types =
+pub none_refuses : (finished : List Family) (current : Option Family) (line : Text) → current ≡ None → (IsLastLine line → ⊥) → FoundNewType (closed finished current) line None → (next : State) → Follows (Open finished current) line next → ⊥
+none_refuses finished current line none last types =
     open_refuses finished current line (record {
       last = last;
-      type_lines = subst (λ fs. FoundNewType (closed fs current) line None) s types;
+      type_lines = types;
       within = λ family some. absurd (let k = sym none ∙ some in cc);
     })
 
-pub within_step : (finished seen : List Family) (current : Option Family) (family : Family) (line : Text) (r : Result (Option Reading) ReadError) → seen ≡ finished → current ≡ Some family → (IsLastLine line → ⊥) → FoundNewType (closed seen current) line None
+pub within_step : (finished : List Family) (current : Option Family) (family : Family) (line : Text) (r : Result (Option Reading) ReadError) → current ≡ Some family → (IsLastLine line → ⊥) → FoundNewType (closed finished current) line None
     → IfOk r (λ next. IsStepWithin finished family line next) → IfOk r (λ next. IsStep (Open finished current) line next)
-within_step finished seen current family line (Err e) s some last types h = h
-within_step finished seen current family line (Ok (Some reading)) s some last types h = subst (λ c. Follows (Open finished c) line (state_of reading)) (sym some) h
-within_step finished seen current family line (Ok None) s some last types h =
+within_step finished current family line (Err e) some last types h = h
+within_step finished current family line (Ok (Some reading)) some last types h = subst (λ c. Follows (Open finished c) line (state_of reading)) (sym some) h
+within_step finished current family line (Ok None) some last types h =
     open_refuses finished current line (record {
       last = last;
-      type_lines = subst (λ fs. FoundNewType (closed fs current) line None) s types;
+      type_lines = types;
       within = λ other other_is. subst (λ f. RefusesWithin f line) (let k = sym some ∙ other_is in some_same family other k) h;
     })

@@ -1,3 +1,4 @@
 pub mod Errors
+pub mod Names
 pub mod Read
 pub mod Steps

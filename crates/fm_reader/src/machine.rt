@@ -1,12 +1,12 @@
 //! What a reader has of a document so far.
-ghost use Rattle.std.specs.Prelude.{◌≡◌, ◌≢◌, ◌↔◌, IsTrue, IfOk, IfErr, OnOk, Some, None, [], string_bytes};
+ghost use Rattle.std.specs.Prelude.{◌≡◌, ◌↔◌, IsTrue, IfOk, IfErr, IfSome, OnOk, None, [], string_bytes};
 ghost use Rattle.std.specs.Option.{option_map};
-ghost use Rattle.fm_grammar.specs.Exposition.{Family};
 ghost use Rattle.fm_grammar.specs.Document.{IsLastLine};
 ghost use Rattle.fm_reader_lines.specs.Lines.{shown_type};
 ghost use Rattle.fm_reader_lines.specs.Samples.{read_sample_of};
-ghost use Rattle.fm_grammar.specs.Reading.{closed, with_unit, with_sample, IsNewName, Open as OpenState, Headed as HeadedState};
-ghost use Rattle.fm_reader.specs.Steps.{state_of, IsStep, IsStepWithin, IsEnding, FoundNewType};
+ghost use Rattle.fm_grammar.specs.Reading.{closed, with_unit, with_sample, Open as OpenState, Headed as HeadedState};
+ghost use Rattle.fm_reader.specs.Steps.{state_of, IsStep, IsStepWithin, IsEnding};
+ghost use Rattle.fm_reader.specs.Names.{names_of, state_names, HasNames, IsNoted, FoundNoted};
 ghost use Rattle.fm_reader.specs.declared.error.ReadError.TheVariants.{Memory};
 
 use crate::error::ReadError;
@@ -14,6 +14,7 @@ use fm_grammar::MetricType;
 use fm_reader_lines::{ReadSample, read_help, read_sample, read_type, read_unit};
 use fm_text::{FamilySamples, SampleStore, make};
 use std::alloc::Global;
+use std::collections::BTreeSet;
 use std::marker::Model;
 use std::sync::Arc;
 
@@ -53,13 +54,6 @@ impl Pending {
         ensures { result ≡ self.now.metric_type }
     {
         self.metric_type
-    }
-
-    // Whether this is the family's name.
-    fn is_named(&self, name: &str) -> bool
-        ensures { IsTrue result ↔ (self.now.name ≡ name.now) }
-    {
-        self.name.as_str() == name
     }
 
     // Whether the family has neither a unit nor samples so far.
@@ -134,17 +128,21 @@ pub(crate) enum Reading {
     },
 }
 
-/// Takes a line, or answers None where no line of this kind can stand there.
-pub(crate) fn step(
+/// Takes a line, or answers None where no line of this kind can stand there. The set has the names of the families so
+/// far, before and after.
+pub(crate) fn step<'a>(
     alloc: Global,
+    names: &mut BTreeSet<&'a str>,
     reading: Reading,
-    line: &str,
+    line: &'a str,
 ) -> Result<Option<Reading>, ReadError>
+    requires names { HasNames names.old (state_names (state_of reading)) }
+    ensures names { IfOk result (λ next. IfSome next (λ r. HasNames names.new (state_names (state_of r)))) }
     ensures step { IfOk result (λ next. IsStep (state_of reading) line.now next) }
     ensures memory { IfErr result (λ e. e ≡ Memory) }
 {
     match reading {
-        Reading::Open { finished, current } => step_open(alloc, finished, current, line),
+        Reading::Open { finished, current } => step_open(alloc, names, finished, current, line),
         Reading::Headed {
             finished,
             name,
@@ -155,12 +153,15 @@ pub(crate) fn step(
 }
 
 // Takes a line where a family may begin.
-fn step_open(
+fn step_open<'a>(
     alloc: Global,
+    names: &mut BTreeSet<&'a str>,
     finished: Vec<FamilySamples>,
     current: Option<Pending>,
-    line: &str,
+    line: &'a str,
 ) -> Result<Option<Reading>, ReadError>
+    requires names { HasNames names.old (names_of (closed finished.items current)) }
+    ensures names { IfOk result (λ next. IfSome next (λ r. HasNames names.new (state_names (state_of r)))) }
     ensures step { IfOk result (λ next. IsStep (OpenState finished.items current) line.now next) }
     ensures memory { IfErr result (λ e. e ≡ Memory) }
 {
@@ -168,7 +169,7 @@ fn step_open(
         let families = close(finished, current)?;
         return Ok(Some(Reading::Ended { families }));
     }
-    if let Some((name, metric_type)) = read_new_type(&finished, &current, line) {
+    if let Some((name, metric_type)) = read_new_type(names, line)? {
         let name = String::from_str(alloc, name)?;
         let finished = close(finished, current)?;
         return Ok(Some(Reading::Headed {
@@ -262,56 +263,30 @@ fn is_last_line(line: &str) -> bool
     line == "# EOF"
 }
 
-// The name and the type on a type line whose name no family has.
+// The name and the type on a type line whose name no family has. The name is among the names then.
 fn read_new_type<'a>(
-    finished: &[FamilySamples],
-    current: &Option<Pending>,
+    names: &mut BTreeSet<&'a str>,
     line: &'a str,
-) -> Option<(&'a str, MetricType)>
-    ensures { FoundNewType (closed finished.now current.now) line.now (option_map shown_type result) }
+) -> Result<Option<(&'a str, MetricType)>, ReadError>
+    ensures found { IfOk result (λ found. FoundNoted names.old line.now (option_map shown_type found) names.new) }
+    ensures memory { IfErr result (λ e. e ≡ Memory) }
 {
     let Some((name, metric_type)) = read_type(line) else {
-        return None;
+        return Ok(None);
     };
-    if !is_new_name(finished, current, name) {
-        return None;
+    if !note(names, name)? {
+        return Ok(None);
     }
-    Some((name, metric_type))
+    Ok(Some((name, metric_type)))
 }
 
-// Whether no family has this name.
-fn is_new_name(finished: &[FamilySamples], current: &Option<Pending>, name: &str) -> bool
-    ensures { IsTrue result ↔ IsNewName name.now (closed finished.now current.now) }
+// Adds a name to the names, and says whether it is new. It may find no memory.
+fn note<'a>(names: &mut BTreeSet<&'a str>, name: &'a str) -> Result<bool, ReadError>
+    ensures noted { IfOk result (λ new. IsNoted names.old name.now new names.new) }
+    ensures memory { IfErr result (λ e. e ≡ Memory) }
 {
-    is_new_beside(current, name) && is_new_among(finished, name)
-}
-
-// Whether the family, where there is one, has another name.
-fn is_new_beside(current: &Option<Pending>, name: &str) -> bool
-    ensures { IsTrue result ↔ ((family : Family) → current.now ≡ Some family → family.name ≢ name.now) }
-{
-    match current {
-        Some(family) => !family.is_named(name),
-        None => true,
-    }
-}
-
-// Whether no family of these has this name.
-fn is_new_among(families: &[FamilySamples], name: &str) -> bool
-    ensures { IsTrue result ↔ IsNewName name.now families.now }
-{
-    for family in families {
-        if is_named(family, name) {
-            return false;
-        }
-    }
-    true
-}
-
-fn is_named(family: &FamilySamples, name: &str) -> bool
-    ensures { IsTrue result ↔ (family.now.name ≡ name.now) }
-{
-    family.name() == name
+    let new = names.insert(name)?;
+    Ok(new)
 }
 
 /// The families, where the last line was taken.

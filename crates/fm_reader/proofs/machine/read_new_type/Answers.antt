@@ -1,6 +1,8 @@
-use Rattle.std.proofs.Common.{sym, true≢false}
-use Rattle.fm_reader.proofs.StepLemmas.{taken_type}
+use Rattle.fm_reader.proofs.SeenNames.{found_taken, found_new}
 use Rattle.fm_reader.proofs.machine.read_new_type.Goals as goal
 
-pub returns-then-not-is_new_name : goal.returns-then-not-is_new_name
-returns-then-not-is_new_name c = taken_type _ c.in-Some.name.now c.in-Some.metric_type _ c.in-Some.ensures.0 c.in-Some.ensures.1 (λ new. true≢false (sym (c.if-not-is_new_name.ensures.1 new)))
+pub returns-then-not-branch-clause-found : goal.returns-then-not-branch-clause-found
+returns-then-not-branch-clause-found c = found_taken c.args.names.now c.note.new.names c.args.line.now c.in-Some.name.now c.in-Some.metric_type c.in_ok-note.field-0 c.in-Some.ensures c.in_ok-note.ensures.noted c.if-not-branch.true
+
+pub returns-clause-found : goal.returns-clause-found
+returns-clause-found c = found_new c.args.names.now c.note.new.names c.args.line.now c.in-Some.name.now c.in-Some.metric_type c.in_ok-note.field-0 c.in-Some.ensures c.in_ok-note.ensures.noted c.if-not-branch.false

@@ -23,6 +23,7 @@ loop-front-preserved c =
     record {
       is_text = search rules;
       place = place_next _ _ c.in-Some.front.now c.in-Some.behind.now _ _ _ c.loop-front.invariant.place p.0 (line_of _ p.1) (rw c.in-Some-2.is at c.in_ok-next.ensures.step);
+      names = rw c.in-Some-2.is at c.in_ok-next.ensures.names;
     }
 
 pub overflow_add-result : goal.overflow_add-result
