@@ -24,10 +24,10 @@ for crate in "$top"/crates/*/; do
         done
     [[ -d $folder/crates/$name/out || ! -d $crate/out ]] || cp -a "$crate/out" "$folder/crates/$name/out"
 done
-(cd "$top/bench" && find . -name '*.in') | while read -r file; do
+(cd "$top/bench" && find . -mindepth 2 -name "*.in") | while read -r file; do
     cmp -s "$top/bench/$file" "$folder/crates/${file%.in}" || install -D -m 644 "$top/bench/$file" "$folder/crates/${file%.in}"
 done
-grep -vE '^(fm_test|expose|first_use|worker_pool)' "$top/crates.txt" | cat - "$top/bench/crates.txt" >"$folder/crates.txt"
+grep -vE '^(fm_test|expose|first_use|worker_pool)' "$top/crates.txt" | cat - "$top/bench/crates.in" >"$folder/crates.txt"
 [[ -d $folder/.git ]] || git -C "$folder" init -q
 
 # The program of a scene, proved and built.
