@@ -3,6 +3,7 @@ ghost use Rattle.std.specs.Prelude.{IfOk};
 ghost use Rattle.fm_registry.specs.HasBook.{HasBook};
 
 use crate::boxed::gauge_at;
+use fastmetrics::metrics::counter::ConstCounter;
 use fastmetrics::raw::Unit;
 use fastmetrics::registry::{Registry, RegistryCall, RegistryError};
 use fm_test_support::support::document_of;
@@ -130,15 +131,12 @@ fn taken_names_in_a_run(rt: HostRuntime) -> Result<(), Fail> {
     Ok(())
 }
 
-// A root with the subsystem `db`, in it the gauge `up`, and below it the subsystem `x`.
+// A root with the subsystem `db`, and in it the gauge `up`.
 fn root_with_a_lent_subsystem(alloc: Global) -> Result<Registry, Fail>
     ensures { IfOk result HasBook }
 {
     let mut registry = Registry::default();
     register_below(alloc, &mut registry, "db", "up", gauge(alloc, 1)?)?;
-    let name = String::from_str(alloc, "db")?;
-    let below = String::from_str(alloc, "x")?;
-    registry.subsystem(alloc, name)?.subsystem(alloc, below)?;
     Ok(registry)
 }
 
@@ -146,8 +144,9 @@ fn root_with_a_lent_subsystem(alloc: Global) -> Result<Registry, Fail>
 fn a_taken_name_in_a_lent_subsystem(rt: HostRuntime) -> Result<(), Fail> {
     let alloc = rt.alloc();
     let mut registry = root_with_a_lent_subsystem(alloc)?;
-    let answer = register_below(alloc, &mut registry, "db", "x_y", gauge(alloc, 2)?);
-    assert_eq!(rt; answer, taken(alloc, "x_y")?);
+    let counter = Box::new(alloc, ConstCounter::new(2u64))?;
+    let answer = register_below(alloc, &mut registry, "db", "up", counter);
+    assert_eq!(rt; answer, taken(alloc, "up")?);
     assert_eq!(rt;
         document_of(alloc, &registry)?.as_str(),
         "# TYPE db_up gauge\n# HELP db_up H\ndb_up 1\n# EOF\n"
