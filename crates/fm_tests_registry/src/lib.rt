@@ -1,13 +1,5 @@
-//! Tests of registries: trees, calls one by one and as a list, and what is refused.
+//! Tests of what a registry refuses: names and units, and the numbers and texts of all refusals.
 #![tactic(auto)]
 
 #[cfg(test)]
-mod boxed;
-#[cfg(test)]
-mod calls;
-#[cfg(test)]
-mod names;
-#[cfg(test)]
 mod registering;
-#[cfg(test)]
-mod tree;

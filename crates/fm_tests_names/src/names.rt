@@ -2,14 +2,13 @@
 ghost use Rattle.std.specs.Prelude.{IfOk};
 ghost use Rattle.fm_registry.specs.HasBook.{HasBook};
 
-use crate::boxed::gauge_at;
 use fastmetrics::metrics::counter::ConstCounter;
 use fastmetrics::raw::Unit;
 use fastmetrics::registry::{Registry, RegistryCall, RegistryError};
 use fm_test_support::support::document_of;
 use fm_test_support::trees::{
-    build_below, gauge, have_numbers, is_refused, register, register_below, register_with,
-    subsystem_at, texts,
+    build_below, gauge, have_numbers, is_refused, metric_at, register, register_below,
+    register_with, subsystem_at, texts,
 };
 use std::alloc::{AllocError, Global};
 use std::test::Fail;
@@ -23,6 +22,16 @@ fn gauge_in(alloc: Global, name: &str, unit: Unit) -> Result<RegistryCall, Alloc
         unit: Some(unit),
         metric: gauge(alloc, 1)?,
     })
+}
+
+// The call that registers a gauge with this value at the end of a path.
+fn gauge_at(
+    alloc: Global,
+    path: &[&str],
+    name: &str,
+    value: i64,
+) -> Result<RegistryCall, AllocError> {
+    metric_at(alloc, path, name, gauge(alloc, value)?)
 }
 
 // The call that registers a gauge at the root.

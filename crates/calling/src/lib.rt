@@ -1,0 +1,10 @@
+//! Examples of each kind of metric and of each way to write a document, which docs/CALLING.md shows.
+#![tactic(auto)]
+
+pub mod counters;
+pub mod documents;
+pub mod gauges;
+pub mod histograms;
+pub mod infos;
+pub mod registries;
+pub mod states;
