@@ -20,16 +20,8 @@ use std::sync::Wait;
 use std::test::Fail;
 use std::time::Duration;
 
-// Families of counters and of histograms, by outcome.
-type Counters<H> =
-    Family<Outcome, Counter, DefaultFactory<Counter, H>, BuildHasherDefault<FoldHasher>, H>;
-type Histograms<H> = Family<
-    Outcome,
-    Histogram<H>,
-    DefaultFactory<Histogram<H>, H>,
-    BuildHasherDefault<FoldHasher>,
-    H,
->;
+// A family of such metrics by outcome.
+type FamilyOf<M, H> = Family<Outcome, M, DefaultFactory<M, H>, BuildHasherDefault<FoldHasher>, H>;
 
 // The call that registers a metric at the end of a path, with a help that has to be escaped.
 fn metric_at(
@@ -104,17 +96,32 @@ fn metrics_without_handles(rt: HostRuntime) -> Result<(), Fail> {
     Ok(())
 }
 
+// Calls that register a handle of each type without a lock.
+fn handle_calls(alloc: Global) -> Result<Vec<RegistryCall>, Fail> {
+    let mut calls = Vec::new(alloc);
+    let counter = Box::new(alloc, Counter::<u64>::with_created(alloc, Duration::MAX)?)?;
+    calls.push(metric_at(alloc, &[], "bytes", None, counter)?)?;
+    let gauge = Box::new(alloc, Gauge::<i64>::new(alloc, -5)?)?;
+    calls.push(metric_at(alloc, &[], "level", None, gauge)?)?;
+    let job = Box::new(alloc, StateSet::new(alloc, Job::Failed)?)?;
+    calls.push(metric_at(alloc, &[], "job", None, job)?)?;
+    Ok(calls)
+}
+
 // A family of counters with two members, one of them without labels.
-fn counters<H: Wait + Clone + Drop>(wait: H, alloc: Global) -> Result<Counters<H>, Fail> {
-    let counters = Counters::try_default(wait, alloc)?;
+fn counters<H: Wait + Clone + Drop>(wait: H, alloc: Global) -> Result<FamilyOf<Counter, H>, Fail> {
+    let counters = FamilyOf::<Counter, H>::try_default(wait, alloc)?;
     counters.with_or_new(&Outcome { error: Some(false) }, |count| count.inc())?;
     counters.with_or_new(&Outcome { error: None }, |count| count.inc())?;
     Ok(counters)
 }
 
 // A family of histograms with the default bounds and two members.
-fn histograms<H: Wait + Clone + Drop>(wait: H, alloc: Global) -> Result<Histograms<H>, Fail> {
-    let histograms = Histograms::try_default(wait, alloc)?;
+fn histograms<H: Wait + Clone + Drop>(
+    wait: H,
+    alloc: Global,
+) -> Result<FamilyOf<Histogram<H>, H>, Fail> {
+    let histograms = FamilyOf::<Histogram<H>, H>::try_default(wait, alloc)?;
     for error in [true, false] {
         let outcome = Outcome { error: Some(error) };
         histograms.with_or_new(&outcome, |all| all.observe(Fixed::ONE))??;
@@ -122,32 +129,17 @@ fn histograms<H: Wait + Clone + Drop>(wait: H, alloc: Global) -> Result<Histogra
     Ok(histograms)
 }
 
-// The calls that register these families, and a handle of each type.
-fn handle_calls<H: Wait + Drop + Send + Sync + 'static>(
-    alloc: Global,
-    counters: Counters<H>,
-    histograms: Histograms<H>,
-    histogram: Histogram<H>,
-) -> Result<Vec<RegistryCall>, Fail> {
-    let mut calls = Vec::new(alloc);
-    calls.push(metric_at(alloc, &[], "requests", None, Box::new(alloc, counters)?)?)?;
-    calls.push(metric_at(alloc, &[], "times", None, Box::new(alloc, histograms)?)?)?;
-    calls.push(metric_at(alloc, &[], "one", None, Box::new(alloc, histogram)?)?)?;
-    let counter = Counter::<u64>::with_created(alloc, Duration::MAX)?;
-    calls.push(metric_at(alloc, &[], "bytes", None, Box::new(alloc, counter)?)?)?;
-    let gauge = Gauge::<i64>::new(alloc, -5)?;
-    calls.push(metric_at(alloc, &[], "level", None, Box::new(alloc, gauge)?)?)?;
-    let job = StateSet::new(alloc, Job::Failed)?;
-    calls.push(metric_at(alloc, &[], "job", None, Box::new(alloc, job)?)?)?;
-    Ok(calls)
-}
-
 #[test]
 fn handles_and_families(rt: HostRuntime) -> Result<(), Fail> {
     let alloc = rt.alloc();
-    let (counters, histograms) = (counters(rt, alloc)?, histograms(rt, alloc)?);
+    let mut calls = handle_calls(alloc)?;
+    let counters = Box::new(alloc, counters(rt, alloc)?)?;
+    calls.push(metric_at(alloc, &[], "requests", None, counters)?)?;
+    let histograms = Box::new(alloc, histograms(rt, alloc)?)?;
+    calls.push(metric_at(alloc, &[], "times", None, histograms)?)?;
     let histogram = Histogram::with_created(rt, alloc, [].iter().copied(), Duration::ZERO)?;
-    let calls = handle_calls(alloc, counters, histograms, histogram)?;
+    let histogram = Box::new(alloc, histogram)?;
+    calls.push(metric_at(alloc, &[], "one", None, histogram)?)?;
     assert!(rt; is_read_back(alloc, calls, 6)?);
     Ok(())
 }
