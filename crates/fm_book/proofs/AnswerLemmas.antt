@@ -12,6 +12,14 @@ use Rattle.fm_book.proofs.BookLemmas.{metrics_at-calls_below, children_at-calls_
 some_not_none : {T : Type 0} {x : T} → Some x ≡ None → ⊥
 some_not_none e = cc
 
+cons_not_nil : {T : Type 0} {x : T} {xs : List T} → x ∷ xs ≡ [] → ⊥
+cons_not_nil e = cc
+
+-- what comes to nothing by a change of its items is nothing
+map_empty : {A B : Type 0} (f : A → B) (xs : List A) → map f xs ≡ [] → xs ≡ []
+map_empty f [] e = refl
+map_empty f (x ∷ xs) e = absurd (cons_not_nil e)
+
 -- a call that is not refused was to be accepted
 pub accepted : (wanted : Option Refusal) → IsAnswered None wanted → wanted ≡ None
 accepted wanted h = elim h as (λ _. wanted ≡ None) [ inl e ↦ absurd (some_not_none (sym e.0)) | inr e ↦ sym e ]
@@ -24,6 +32,11 @@ none_from (Some x) h = absurd (true≢false h)
 pub or_then-none : (o later : Option Refusal) → or_then o later ≡ None → (o ≡ None) × (later ≡ None)
 or_then-none None later h = (refl, h)
 or_then-none (Some r) later h = absurd (some_not_none h)
+
+-- where nothing later refuses, the first decides
+or_then-first : (o : Option Refusal) → or_then o None ≡ o
+or_then-first None = refl
+or_then-first (Some r) = refl
 
 -- where no test refuses, each of them passes
 two_pass : (c d : Bool) (r s : Refusal) → first_of ((c, r) ∷ (d, s) ∷ []) ≡ None → (c ≡ false) × (d ≡ false)
@@ -148,6 +161,12 @@ module _ {M : Type 0} (there : List (Registration M)) (children : List Text) (n 
   pub child_refusal-new : has_name children n ≡ false → child_refusal there children n ≡ new_name_refusal there children n
   child_refusal-new h = rw h refl
 
+-- a subsystem that is there is refused for its depth and its labels alone
+pub subsystem_refusal-there : {M : Type 0} (depth : ℕ) (there : List (Registration M)) (children : List Text) (n : Text) (labels : Labels) → has_name children n ≡ true
+    → subsystem_refusal depth there children n labels ≡ asking_refusal depth n labels
+subsystem_refusal-there depth there children n labels h =
+    ap (λ o. or_then (asking_refusal depth n labels) o) (child_refusal-there there children n h) ∙ or_then-first (asking_refusal depth n labels)
+
 module _ {M : Type 0} where
   -- a registration that is not refused has a free tail in its registry
   pub registered_free : (b : Book M) (p : Path) (r : Registration M) → answer b (Register p r) ≡ None → is_tail_taken (tails_of (metrics_at b.calls p)) (children_at b.calls p) (tail_of r) ≡ false
@@ -173,6 +192,20 @@ module _ {M : Type 0} where
       ap (λ ms. if◌then◌else◌ {A = List (Call M)} (has_name ms m) [] (Subsystem (n ∷ p) m labels ∷ [])) (children_at-calls_below b.calls n p)
       ∙ elim (has_name (children_at (calls_below b.calls n) p) m) as (λ d. if◌then◌else◌ {A = List (Call M)} d [] (Subsystem (n ∷ p) m labels ∷ []) ≡ map (in_front n) (if◌then◌else◌ {A = List (Call M)} d [] (Subsystem p m labels ∷ [])))
       [ true ↦ refl | false ↦ refl ]
+
+  -- a call below a subsystem that adds nothing adds nothing there
+  pub gained_below-empty : (b : Book M) (n : Text) (call : Call M) → gained b (in_front n call) ≡ [] → gained (book_below b n) call ≡ []
+  gained_below-empty b n call none = map_empty (in_front n) (gained (book_below b n) call) (sym (gained-in_front b n call) ∙ none)
+
+  -- a registration adds itself
+  pub registered-gained : (b : Book M) (p : Path) (r : Registration M) → ¬ (gained b (Register p r) ≡ [])
+  registered-gained b p r e = cons_not_nil e
+
+  -- a subsystem that adds nothing is there
+  pub there_where_empty : (b : Book M) (p : Path) (n : Text) (labels : Labels) → gained b (Subsystem p n labels) ≡ [] → has_name (children_at b.calls p) n ≡ true
+  there_where_empty b p n labels none =
+      elim (has_name (children_at b.calls p) n) as (λ c. if◌then◌else◌ {A = List (Call M)} c [] (Subsystem p n labels ∷ []) ≡ [] → c ≡ true)
+      [ true ↦ λ e. refl | false ↦ λ e. absurd (cons_not_nil e) ] none
 
   -- a call below a subsystem that is not there
   pub missing-answer : (b : Book M) (n : Text) (call : Call M) → has_name (children_at b.calls []) n ≡ false → answer b (in_front n call) ≡ Some (NoSuchSubsystem n)

@@ -8,8 +8,8 @@ use Rattle.fm_book.specs.Texts.{Text, Path}
 use Rattle.fm_book.specs.Book.{Call, Book, in_front}
 use Rattle.fm_book.specs.Tree.{Tree, Reads}
 use Rattle.fm_book.specs.Steps.{place_in}
-use Rattle.fm_book.specs.Answer.{Refusal, NoSuchSubsystem, IsAnswered, refusal_of, answer, after}
-use Rattle.fm_book.specs.Running.{Runs, after_reply, path_of}
+use Rattle.fm_book.specs.Answer.{Refusal, NoSuchSubsystem, refusal_of, after}
+use Rattle.fm_book.specs.Running.{Runs, IsReply, after_reply, path_of}
 use Rattle.fm_book.specs.declared.RegistryError.{RegistryError}
 use Rattle.fm_book.proofs.ApplyLemmas.{apply-missing}
 use Rattle.fm_book.proofs.RunLemmas.{Runs-more, path_of-++, path_of-reversed}
@@ -32,9 +32,9 @@ module _ {M : Type 0} where
 
   -- a name that is not there
   pub request-missing : (t : Tree M) (all names : List (String Global)) (name : String Global) (r : Request M) → all ≡ names ++ name ∷ [] → place_in t.children (string_bytes name) ≡ None
-      → (b : Book M) → Reads t b → IsAnswered (Some (NoSuchSubsystem (string_bytes name))) (answer b (call_at (path_of all) r))
+      → (b : Book M) → Reads t b → IsReply (Some (NoSuchSubsystem (string_bytes name))) b (call_at (path_of all) r)
   request-missing t all names name r e none b reads =
-      subst (λ call. IsAnswered (Some (NoSuchSubsystem (string_bytes name))) (answer b call)) (sym (call_at-pop all names name r e))
+      subst (λ call. IsReply (Some (NoSuchSubsystem (string_bytes name))) b call) (sym (call_at-pop all names name r e))
       (apply-missing t (string_bytes name) (call_at (path_of names) r) none b reads)
 
   -- the path is reversed for the way down
@@ -51,12 +51,12 @@ module _ {M : Type 0} where
   module _ (Types : M → MetricType → Type 0) where
     -- what a call does, by what its request did
     pub called : (g : RegistryCall M) (call made : Call M) (old new : Tree M) (r : Result (Unit {0}) RegistryError) → IsCall Types g call → made ≡ call
-        → ((b : Book M) → Reads old b → IsAnswered (refusal_of r) (answer b made)) → OnOk r ((b : Book M) → Reads old b → Reads new (after b made)) → OnErr r (new ≡ old)
+        → ((b : Book M) → Reads old b → IsReply (refusal_of r) b made) → OnOk r ((b : Book M) → Reads old b → Reads new (after b made)) → OnErr r (new ≡ old)
         → RunsCall Types g old new r
     called g call made old new r is same said reads kept = record {
       call = call;
       is = is;
-      answer = subst (λ k. (b : Book M) → Reads old b → IsAnswered (refusal_of r) (answer b k)) same said;
+      reply = subst (λ k. (b : Book M) → Reads old b → IsReply (refusal_of r) b k) same said;
       ok = subst (λ k. OnOk r ((b : Book M) → Reads old b → Reads new (after b k))) same reads;
       err = kept;
     }
@@ -79,7 +79,7 @@ module _ {M : Type 0} where
       are = AreCalls-more gs h.calls g one.call h.are one.is;
       runs = λ b reads.
           subst (λ replies. Runs b (h.calls ++ one.call ∷ []) replies u) (sym (ap (map refusal_of) new ∙ map-append refusal_of olds (r ∷ [])))
-          (Runs-more b h.calls (map refusal_of olds) one.call r t u one.answer one.ok one.err (h.runs b reads));
+          (Runs-more b h.calls (map refusal_of olds) one.call r t u one.reply one.ok one.err (h.runs b reads));
     }
 
     -- a registry that read a book reads one at the end

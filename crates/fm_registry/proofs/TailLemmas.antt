@@ -1,5 +1,5 @@
 -- The metrics of a registry, as a map by their tails.
-use Rattle.std.proofs.Common.{◌≡◌, ◌≢◌, ℕ, zero, suc, Bool, true, false, ◌||◌, List, [], ◌∷◌, Option, None, Some, is_some, slice_get, cond, if◌then◌else◌, refl, sym, ap, subst, ◌∙◌, true≢false}
+use Rattle.std.proofs.Common.{◌≡◌, ◌≢◌, ℕ, zero, suc, Bool, true, false, ◌||◌, List, [], ◌∷◌, Option, None, Some, is_some, slice_get, cond, if◌then◌else◌, refl, sym, ap, ◌∙◌, true≢false}
 use Rattle.std.specs.Prelude.{position}
 use Rattle.std.specs.Bool.{Decides}
 use Rattle.std.specs.List.{AllByRecursion, IsDistinct, list_any}
@@ -16,7 +16,7 @@ use Rattle.fm_book.specs.Texts.{Text, has_name}
 use Rattle.fm_book.specs.Registration.{Registration, is_same_metric}
 use Rattle.fm_book.specs.Taken.{tail_of, tails_of, is_below}
 use Rattle.fm_book.specs.Tree.{names_in}
-use Rattle.fm_book.specs.Answer.{Refusal, AlreadyExists, NameTaken, first_of, has_metric, standing_refusal}
+use Rattle.fm_book.specs.Answer.{AlreadyExists, NameTaken, first_of, has_metric, standing_refusal}
 use Rattle.fm_book.proofs.MetricLemmas.{one_under_tail, absent_under_tail}
 use Rattle.fm_registry.specs.Names.{refusal_beside}
 use Rattle.fm_registry.specs.View.{seen_metric, seen_metrics, forest_of}

@@ -7,9 +7,9 @@ use Rattle.fm_text.specs.Samples.{labels_of}
 use Rattle.fm_book.specs.Texts.{Path}
 use Rattle.fm_book.specs.Book as book
 use Rattle.fm_book.specs.Book.{Book, Call}
-use Rattle.fm_book.specs.Answer.{Refusal, IsAnswered, refusal_of, answer, after}
+use Rattle.fm_book.specs.Answer.{Refusal, refusal_of, after}
 use Rattle.fm_book.specs.Tree.{Tree, Reads}
-use Rattle.fm_book.specs.Running.{Runs}
+use Rattle.fm_book.specs.Running.{Runs, IsReply}
 use Rattle.fm_book.specs.declared.RegistryError.{RegistryError}
 use Rattle.fm_registry.specs.View.{asked_metric}
 use Rattle.fm_registry.specs.declared.registry.run.RegistryCall as given
@@ -32,17 +32,17 @@ module _ {M : Type 0} (Types : M → MetricType → Type 0) where
   AreCalls [] (call ∷ calls) = ⊥
   AreCalls (g ∷ gs) [] = ⊥
 
-  -- what one call does: for every book that the registry read, the answer is the book's, or there was no memory; at `Ok` the
-  -- registry reads the book after the call, and at `Err` it is as it was
+  -- what one call does: for every book that the registry read, the answer is the book's, or there was no memory where the call may
+  -- take some; at `Ok` the registry reads the book after the call, and at `Err` it is as it was
   pub record RunsCall (g : given.RegistryCall M) (old new : Tree M) (result : Result (Unit {0}) RegistryError) : Type 0 where
     pub call : Call M
     pub is : IsCall g call
-    pub answer : (b : Book M) → Reads old b → IsAnswered (refusal_of result) (answer b call)
+    pub reply : (b : Book M) → Reads old b → IsReply (refusal_of result) b call
     pub ok : OnOk result ((b : Book M) → Reads old b → Reads new (after b call))
     pub err : OnErr result (new ≡ old)
 
   -- what calls in turn do: for every book that the registry read, each reply is the answer of the book of that moment, or there
-  -- was no memory, and the registry reads the book at the end
+  -- was no memory where the call may take some, and the registry reads the book at the end
   pub record RunsCalls (gs : List (given.RegistryCall M)) (old new : Tree M) (replies : List (Option Refusal)) : Type 0 where
     pub calls : List (Call M)
     pub are : AreCalls gs calls

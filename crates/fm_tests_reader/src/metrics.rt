@@ -1,37 +1,145 @@
 //! What a registry's metrics write is read as what was collected.
-use fastmetrics::encoder::EncodeMetric;
+use fastmetrics::encoder::{EncodeMetric, StaticStr};
 use fastmetrics::format::text::{collect, encode, read};
-use fastmetrics::metrics::counter::ConstCounter;
-use fastmetrics::metrics::gauge::ConstGauge;
-use fastmetrics::raw::{Fixed, Unit};
-use fastmetrics::registry::Registry;
-use std::alloc::Global;
-use std::str;
+use fastmetrics::metrics::counter::{ConstCounter, Counter};
+use fastmetrics::metrics::family::{DefaultFactory, Family};
+use fastmetrics::metrics::gauge::{ConstGauge, Gauge};
+use fastmetrics::metrics::histogram::{Histogram, HistogramSnapshot};
+use fastmetrics::metrics::info::Info;
+use fastmetrics::metrics::state_set::{ConstStateSet, StateSet};
+use fastmetrics::metrics::unknown::Unknown;
+use fastmetrics::raw::{Fixed, TryDefault, Unit};
+use fastmetrics::registry::{Registry, RegistryCall};
+use fm_test_support::jobs::Job;
+use fm_test_support::members::OneMember;
+use fm_test_support::replies::Outcome;
+use fm_test_support::trees::{subsystem_at, texts};
+use std::alloc::{AllocError, Global};
+use std::hash::{BuildHasherDefault, FoldHasher};
+use std::sync::Wait;
 use std::test::Fail;
 use std::time::Duration;
 
-// Registers a metric alone, and compares what is read of its document with what is collected.
-fn is_read_back(
+// A family of such metrics by outcome.
+type FamilyOf<M, H> = Family<Outcome, M, DefaultFactory<M, H>, BuildHasherDefault<FoldHasher>, H>;
+
+// The call that registers a metric at the end of a path, with a help that has to be escaped.
+fn metric_at(
     alloc: Global,
+    path: &[&str],
+    name: &str,
     unit: Option<Unit>,
     metric: Box<dyn EncodeMetric>,
-) -> Result<bool, Fail> {
+) -> Result<RegistryCall, AllocError> {
+    Ok(RegistryCall::Register {
+        path: texts(alloc, path)?,
+        name: String::from_str(alloc, name)?,
+        help: String::from_str(alloc, "a \"b\" \\ \n.")?,
+        unit,
+        metric,
+    })
+}
+
+// Makes the calls, and compares what is read of the registry's document with what is collected. It has so many families.
+fn is_read_back(alloc: Global, calls: Vec<RegistryCall>, families: usize) -> Result<bool, Fail> {
     let mut registry = Registry::default();
-    let name = String::from_str(alloc, "m")?;
-    let help = String::from_str(alloc, "a \"b\" \\ \n.")?;
-    registry.register_metric(alloc, name, help, unit, metric)?;
+    for answer in registry.run(alloc, calls)? {
+        answer?;
+    }
     let mut bytes: Vec<u8> = Vec::new(alloc);
     encode(alloc, &mut bytes, &registry)?;
     let text = String::from_utf8(bytes)?;
-    Ok(read(alloc, &text)? == collect(alloc, &registry)?)
+    let exposition = read(alloc, &text)?;
+    Ok(exposition == collect(alloc, &registry)? && exposition.families().len() == families)
+}
+
+// Three values by two bounds.
+fn observed(alloc: Global) -> Result<HistogramSnapshot, Fail> {
+    let mut all = HistogramSnapshot::new(alloc, [Fixed::ZERO, Fixed::ONE].iter().copied())?;
+    for millionths in [0, 500_000, 7_000_000] {
+        all.observe(Fixed::from_millionths(millionths))?;
+    }
+    Ok(all)
+}
+
+// Calls that register a metric without a handle of each type, at the root and in a subsystem whose label has to be
+// escaped.
+fn constant_calls(alloc: Global) -> Result<Vec<RegistryCall>, Fail> {
+    let mut calls = Vec::new(alloc);
+    calls.push(subsystem_at(alloc, &[], "db", &[("k", "a\"b\\c\nd")])?)?;
+    let counter = ConstCounter::with_created(7u32, Duration::from_millis(1005));
+    let counter = Box::new(alloc, counter)?;
+    calls.push(metric_at(alloc, &["db"], "queries", None, counter)?)?;
+    let gauge = Box::new(alloc, ConstGauge::new(Fixed::from_millionths(-1)))?;
+    calls.push(metric_at(alloc, &["db"], "size", Some(Unit::Bytes), gauge)?)?;
+    let unknown = Box::new(alloc, Unknown::new(-5i64))?;
+    calls.push(metric_at(alloc, &["db"], "level", None, unknown)?)?;
+    let info = Info::new([(StaticStr("version"), StaticStr("1.2 \"b\""))]);
+    let info = Box::new(alloc, info)?;
+    calls.push(metric_at(alloc, &["db"], "build", None, info)?)?;
+    let job = Box::new(alloc, ConstStateSet::new(alloc, Job::Running)?)?;
+    calls.push(metric_at(alloc, &[], "job", None, job)?)?;
+    let histogram = Box::new(alloc, observed(alloc)?)?;
+    let unit = Some(Unit::Seconds);
+    calls.push(metric_at(alloc, &["db"], "time", unit, histogram)?)?;
+    let mut stamped = OneMember::gauge(Outcome { error: Some(true) }, ConstGauge::new(i64::MIN));
+    stamped.time = Some(Duration::from_millis(1005));
+    calls.push(metric_at(alloc, &[], "stamped", None, Box::new(alloc, stamped)?)?)?;
+    Ok(calls)
 }
 
 #[test]
-fn constant_metrics(rt: HostRuntime) -> Result<(), Fail> {
+fn metrics_without_handles(rt: HostRuntime) -> Result<(), Fail> {
     let alloc = rt.alloc();
-    let counter = ConstCounter::with_created(7u32, Duration::from_millis(1005));
-    assert!(rt; is_read_back(alloc, None, Box::new(alloc, counter)?)?);
-    let gauge = ConstGauge::new(Fixed::from_millionths(-1));
-    assert!(rt; is_read_back(alloc, Some(Unit::Bytes), Box::new(alloc, gauge)?)?);
+    let calls = constant_calls(alloc)?;
+    assert!(rt; is_read_back(alloc, calls, 7)?);
+    Ok(())
+}
+
+// Calls that register a handle of each type without a lock.
+fn handle_calls(alloc: Global) -> Result<Vec<RegistryCall>, Fail> {
+    let mut calls = Vec::new(alloc);
+    let counter = Box::new(alloc, Counter::<u64>::with_created(alloc, Duration::MAX)?)?;
+    calls.push(metric_at(alloc, &[], "bytes", None, counter)?)?;
+    let gauge = Box::new(alloc, Gauge::<i64>::new(alloc, -5)?)?;
+    calls.push(metric_at(alloc, &[], "level", None, gauge)?)?;
+    let job = Box::new(alloc, StateSet::new(alloc, Job::Failed)?)?;
+    calls.push(metric_at(alloc, &[], "job", None, job)?)?;
+    Ok(calls)
+}
+
+// A family of counters with two members, one of them without labels.
+fn counters<H: Wait + Clone + Drop>(wait: H, alloc: Global) -> Result<FamilyOf<Counter, H>, Fail> {
+    let counters = FamilyOf::<Counter, H>::try_default(wait, alloc)?;
+    counters.with_or_new(&Outcome { error: Some(false) }, |count| count.inc())?;
+    counters.with_or_new(&Outcome { error: None }, |count| count.inc())?;
+    Ok(counters)
+}
+
+// A family of histograms with the default bounds and two members.
+fn histograms<H: Wait + Clone + Drop>(
+    wait: H,
+    alloc: Global,
+) -> Result<FamilyOf<Histogram<H>, H>, Fail> {
+    let histograms = FamilyOf::<Histogram<H>, H>::try_default(wait, alloc)?;
+    for error in [true, false] {
+        let outcome = Outcome { error: Some(error) };
+        histograms.with_or_new(&outcome, |all| all.observe(Fixed::ONE))??;
+    }
+    Ok(histograms)
+}
+
+#[test]
+fn handles_and_families(rt: HostRuntime) -> Result<(), Fail> {
+    let alloc = rt.alloc();
+    let mut calls = handle_calls(alloc)?;
+    let counters = Box::new(alloc, counters(rt, alloc)?)?;
+    calls.push(metric_at(alloc, &[], "requests", None, counters)?)?;
+    let histograms = Box::new(alloc, histograms(rt, alloc)?)?;
+    calls.push(metric_at(alloc, &[], "times", None, histograms)?)?;
+    let histogram = Histogram::with_created(rt, alloc, [].iter().copied(), Duration::ZERO)?;
+    let histogram = Box::new(alloc, histogram)?;
+    calls.push(metric_at(alloc, &[], "one", None, histogram)?)?;
+    assert!(rt; is_read_back(alloc, calls, 6)?);
     Ok(())
 }

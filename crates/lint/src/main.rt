@@ -2,6 +2,8 @@
 //! with status 1: the first line with which what was read so far begins no document.
 #![tactic(auto)]
 
+#[cfg(test)]
+mod tests;
 mod verdict;
 
 use std::io::Read;

@@ -1,12 +1,13 @@
 //! Calls at any registry of a tree, one after the other.
-ghost use Rattle.std.specs.Prelude.{◌≡◌, OnOk, OnErr, IfOk, None, [], map};
+ghost use Rattle.std.specs.Prelude.{◌≡◌, OnOk, OnErr, IfOk, None, true, [], map};
 ghost use Rattle.std.specs.String.{string_bytes};
 ghost use Rattle.fm_text.specs.Samples.{labels_of};
-ghost use Rattle.fm_book.specs.Answer.{refusal_of, subsystem_refusal, answer, after, IsAnswered};
+ghost use Rattle.fm_book.specs.Answer.{refusal_of, asking_refusal, subsystem_refusal, after, IsAnswered};
 ghost use Rattle.fm_book.specs.Book.{Subsystem as AskSubsystem};
+ghost use Rattle.fm_book.specs.Texts.{has_name};
 ghost use Rattle.fm_book.specs.Tree.{Reads, names_in};
 ghost use Rattle.fm_book.specs.Steps.{with_subsystem};
-ghost use Rattle.fm_book.specs.Running.{path_of};
+ghost use Rattle.fm_book.specs.Running.{IsReply, path_of};
 ghost use Rattle.fm_registry.specs.Request.{call_at};
 ghost use Rattle.fm_registry.specs.Calls.{RunsCall, RunsCalls};
 ghost use Rattle.fm_registry.specs.HasBook.{HasBook, Grows};
@@ -61,6 +62,7 @@ impl<M: Drop> Registry<M> {
         labels: Vec<(String, String)>,
     ) -> Result<(), RegistryError>
         ensures answer { IsAnswered (refusal_of result) (subsystem_refusal self.old.facts.depth self.old.facts.metrics (names_in self.old.children) (string_bytes name) (labels_of labels.items)) }
+        ensures there { has_name (names_in self.old.children) (string_bytes name) ≡ true → refusal_of result ≡ asking_refusal self.old.facts.depth (string_bytes name) (labels_of labels.items) }
         ensures ok { OnOk result (self.new ≡ with_subsystem self.old (string_bytes name) (labels_of labels.items)) }
         ensures err { OnErr result (self.new ≡ self.old) }
     {
@@ -77,7 +79,7 @@ impl<M: Drop> Registry<M> {
         name: String,
         labels: Vec<(String, String)>,
     ) -> Result<(), RegistryError>
-        ensures answer { (b : _) → Reads self.old b → IsAnswered (refusal_of result) (answer b (AskSubsystem [] (string_bytes name) (labels_of labels.items))) }
+        ensures reply { (b : _) → Reads self.old b → IsReply (refusal_of result) b (AskSubsystem [] (string_bytes name) (labels_of labels.items)) }
         ensures ok { OnOk result ((b : _) → Reads self.old b → Reads self.new (after b (AskSubsystem [] (string_bytes name) (labels_of labels.items)))) }
         ensures err { OnErr result (self.new ≡ self.old) }
     {
@@ -86,7 +88,7 @@ impl<M: Drop> Registry<M> {
 
     // A request here.
     fn apply_here(&mut self, alloc: Global, request: Request<M>) -> Result<(), RegistryError>
-        ensures answer { (b : _) → Reads self.old b → IsAnswered (refusal_of result) (answer b (call_at [] request)) }
+        ensures reply { (b : _) → Reads self.old b → IsReply (refusal_of result) b (call_at [] request) }
         ensures ok { OnOk result ((b : _) → Reads self.old b → Reads self.new (after b (call_at [] request))) }
         ensures err { OnErr result (self.new ≡ self.old) }
     {
@@ -109,7 +111,7 @@ impl<M: Drop> Registry<M> {
         mut path: Vec<String>,
         request: Request<M>,
     ) -> Result<(), RegistryError>
-        ensures answer { (b : _) → Reads self.old b → IsAnswered (refusal_of result) (answer b (call_at (path_of path.items) request)) }
+        ensures reply { (b : _) → Reads self.old b → IsReply (refusal_of result) b (call_at (path_of path.items) request) }
         ensures ok { OnOk result ((b : _) → Reads self.old b → Reads self.new (after b (call_at (path_of path.items) request))) }
         ensures err { OnErr result (self.new ≡ self.old) }
     {
@@ -169,7 +171,8 @@ impl Registry {
     ///
     /// A call at a path is answered as `register_metric` or a builder of a subsystem answers there, or with
     /// `NoSuchSubsystem` and the first name on the path that is not there. A refused call changes nothing. Room for all
-    /// answers is made first: where that finds no memory (`Memory`, the one error here), no call is made.
+    /// answers is made first: where that finds no memory (`Memory`, the one error here), no call is made. A refusal that these take
+    /// no memory for, and a subsystem that is there, are never answered by `Memory`.
     pub fn run(
         &mut self,
         alloc: Global,

@@ -5,26 +5,26 @@ use Rattle.fm_book.specs.Answer.{refusal_of}
 use Rattle.fm_book.specs.Running.{path_of}
 use Rattle.fm_registry.specs.Request.{call_at}
 use Rattle.fm_book.proofs.ForestLemmas.{place_in-IsPlace}
-use Rattle.fm_book.proofs.ApplyLemmas.{apply-answer, apply-ok, apply-err}
+use Rattle.fm_book.proofs.ApplyLemmas.{apply-reply, apply-ok, apply-err}
 use Rattle.fm_registry.proofs.RequestLemmas.{call_at-pop, request-missing}
 use Rattle.fm_registry.proofs.registry.Registry.+apply.Goals as goal
 
 pub subsystem_at-requires : goal.subsystem_at-requires
 subsystem_at-requires g t c = (place_in-IsPlace _ _ _ (sym c.place_of.ensures ∙ c.in-Some-place_of.is)).there
 
-pub returns-in-None-place_of-clause-answer : goal.returns-in-None-place_of-clause-answer
-returns-in-None-place_of-clause-answer g t c =
+pub returns-in-None-place_of-clause-reply : goal.returns-in-None-place_of-clause-reply
+returns-in-None-place_of-clause-reply g t c =
     request-missing c.args.self.now c.args.path.items c.pop.new.self.items c.in-Some.name c.args.request c.in-Some.ensures.items
     (ap (λ m. place_in c.args.self.now.children m) (sym c.as_str.ensures.value) ∙ sym c.place_of.ensures ∙ c.in-None-place_of.is)
 
-pub returns-in-Some-place_of-clause-answer : goal.returns-in-Some-place_of-clause-answer
-returns-in-Some-place_of-clause-answer g t c =
-    apply-answer c.args.self.now (string_bytes c.in-Some.name) c.in-Some-place_of.place
+pub returns-in-Some-place_of-clause-reply : goal.returns-in-Some-place_of-clause-reply
+returns-in-Some-place_of-clause-reply g t c =
+    apply-reply c.args.self.now (string_bytes c.in-Some.name) c.in-Some-place_of.place
     (ap (λ m. place_in c.args.self.now.children m) (sym c.as_str.ensures.value) ∙ sym c.place_of.ensures ∙ c.in-Some-place_of.is)
     c.subsystem_at.result.now.registry c.deref_mut.result.now c.subsystem_at.ensures.value c.deref_mut.ensures.shows
     (call_at (path_of c.args.path.items) c.args.request) (call_at (path_of c.pop.new.self.items) c.args.request)
     (call_at-pop c.args.path.items c.pop.new.self.items c.in-Some.name c.args.request c.in-Some.ensures.items)
-    (refusal_of c.apply.result) c.apply.ensures.answer
+    (refusal_of c.apply.result) c.apply.ensures.reply
 
 pub returns-in-Some-place_of-clause-ok : goal.returns-in-Some-place_of-clause-ok
 returns-in-Some-place_of-clause-ok g t c =
@@ -34,7 +34,7 @@ returns-in-Some-place_of-clause-ok g t c =
     (call_at (path_of c.args.path.items) c.args.request) (call_at (path_of c.pop.new.self.items) c.args.request)
     (call_at-pop c.args.path.items c.pop.new.self.items c.in-Some.name c.args.request c.in-Some.ensures.items)
     (string_bytes c.subsystem_at.result.now.name) c.subsystem_at.ensures.name c.apply.new.self
-    c.apply.result c.apply.ensures.answer c.apply.ensures.ok
+    c.apply.result c.apply.ensures.reply c.apply.ensures.ok
 
 pub returns-in-Some-place_of-clause-err : goal.returns-in-Some-place_of-clause-err
 returns-in-Some-place_of-clause-err g t c =
