@@ -33,7 +33,7 @@ fn append_escape<O: Output>(text: &mut O, byte: u8) -> Result<(), AllocError>
 fn has_escape(byte: u8) -> bool
     ensures { IsTrue result ⊎ (escape byte ≡ byte ∷ []) }
 {
-    matches!(byte, b'\n' | b'"' | b'\\')
+    (byte == b'\n') | (byte == b'"') | (byte == b'\\')
 }
 
 // How many bytes stand before the first one that is written with an escape.
@@ -47,6 +47,18 @@ fn plain_len(raw: &[u8]) -> usize
         }
     }
     raw.len()
+}
+
+// Whether each byte of a text is written as it is. It asks each of them, so that several are asked at once.
+#[inline]
+pub(crate) fn is_plain(raw: &[u8]) -> bool
+    ensures { IsTrue result → escaped raw.now ≡ raw.now }
+{
+    let mut escapes = false;
+    for byte in raw {
+        escapes |= has_escape(*byte);
+    }
+    !escapes
 }
 
 // Appends a text with its escapes: what stands between two of them at once.
