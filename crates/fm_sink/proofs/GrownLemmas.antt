@@ -1,6 +1,7 @@
 -- Pieces appended to an output one after another.
-use Rattle.std.proofs.Common.{◌≡◌, ℕ, List, [], ◌∷◌, ◌++◌, refl, sym, ap, ◌∙◌, append_assoc, arith, length, length-append, ◌≤◌, ◌<◌, ◌+◌, ◌-◌, ◌^◌, min, get_or, drop, drop-cons, add-one, map, subst}
-use Rattle.std.proofs.lemmas.List.{append-nil, length-map}
+use Rattle.std.proofs.Common.{◌≡◌, ℕ, List, [], ◌∷◌, ◌++◌, refl, sym, ap, ◌∙◌, append_assoc, arith, length, length-append, ◌≤◌, ◌<◌, ◌+◌, ◌-◌, ◌^◌, min, get_or, take, drop, drop-cons, add-one, map, subst}
+use Rattle.std.proofs.lemmas.List.{append-nil, length-map, take-append-drop}
+use Rattle.std.proofs.lemmas.Grind.{flat_map-append}
 use Rattle.std.specs.List.{flat_map}
 use Rattle.std.proofs.Math.ListN.{drop_of_length-le, get_or-map}
 use Rattle.fm_grammar.specs.Exposition.{Text, Label}
@@ -79,6 +80,15 @@ left_of_more piece rest whole old now next left grown = record {
 
 pub left_of_none : (whole : Text) (old now : Text → Type 0) → IsLeftOf [] whole old now → Grows old now whole
 left_of_none whole old now left = rw (sym (append-nil left.front) ∙ left.is) at left.grown
+
+-- a run of items that are written as they are, and the item after it
+pub left_of_run : (f : ℕ → Text) (n b : ℕ) (rest plain others after whole : Text) (old now next last : Text → Type 0) → plain ≡ take n rest → others ≡ drop n rest → flat_map f (take n rest) ≡ take n rest → others ≡ b ∷ after
+    → IsLeftOf (flat_map f rest) whole old now → Grows now next plain → Grows next last (f b) → IsLeftOf (flat_map f after) whole old last
+left_of_run f n b rest plain others after whole old now next last plain_is others_is as_it_is split left grown escape =
+    let parts : flat_map f rest ≡ plain ++ (f b ++ flat_map f after) =
+    ap (flat_map f) (sym (take-append-drop n rest)) ∙ flat_map-append f (take n rest) (drop n rest)
+    ∙ (λ i. (as_it_is ∙ sym plain_is) i ++ flat_map f ((sym others_is ∙ split) i)) in
+    left_of_more (f b) (flat_map f after) whole old next last (left_of_more plain (f b ++ flat_map f after) whole old now next (subst (λ (t : Text). IsLeftOf t whole old now) parts left) grown) escape
 
 -- a first label, and the others with a comma before each, are a list of labels
 pub list_whole : (a b : Text → Type 0) (first : Label) (others labels : List Label) → labels ≡ first ∷ others → Grows a b (label_text first ++ further_labels others) → Grows a b (label_list_text labels)

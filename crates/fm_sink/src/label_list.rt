@@ -143,66 +143,60 @@ pub(crate) fn append_placed_list<O: Output>(
     }
 }
 
-// Appends a text, and labels with a comma before each.
+// Appends labels, and further ones with a comma before each.
 #[tactic(auto, using(crate::proofs::GrownLemmas::grown))]
 fn append_after<O: Output>(
     text: &mut O,
-    front: &[u8],
-    labels: &[(&str, &str)],
+    common: &LabelText,
+    own: &[(&str, &str)],
 ) -> Result<(), AllocError>
-    ensures { OnOk result (Grows (O.stands_for text.old) (O.stands_for text.new) (front.now ++ further_labels (map shown_label labels.now))) }
+    ensures { OnOk result (Grows (O.stands_for text.old) (O.stands_for text.new) (label_list_text common.now.labels ++ further_labels (map shown_label own.now))) }
 {
-    text.put(front)?;
-    append_further_labels(text, labels)
+    common.append_to(text)?;
+    append_further_labels(text, own)
 }
 
-// Appends two lists of labels with commas between them, given the text of the first.
+// Appends two lists of labels with commas between them.
 #[tactic(auto, using(crate::proofs::GrownLemmas::grown, fm_text::proofs::RowLemmas::joined))]
 fn append_joined_list<O: Output>(
     text: &mut O,
     common: &LabelText,
-    common_text: &[u8],
     own: &[(&str, &str)],
 ) -> Result<(), AllocError>
-    requires { common_text.now ≡ label_list_text common.now.labels }
     ensures { OnOk result (Grows (O.stands_for text.old) (O.stands_for text.new) (label_list_text (common.now.labels ++ map shown_label own.now))) }
 {
     if common.len() == 0 {
         append_label_list(text, own)
     } else {
-        append_after(text, common_text, own)
+        append_after(text, common, own)
     }
 }
 
-// Appends two lists of labels in braces, given the text of the first.
+// Appends two lists of labels in braces.
 #[tactic(auto, using(crate::proofs::GrownLemmas::grown), unfolding(fm_grammar::specs::Spelling::in_braces))]
 fn append_joined_braces<O: Output>(
     text: &mut O,
     common: &LabelText,
-    common_text: &[u8],
     own: &[(&str, &str)],
 ) -> Result<(), AllocError>
-    requires { common_text.now ≡ label_list_text common.now.labels }
     ensures { OnOk result (Grows (O.stands_for text.old) (O.stands_for text.new) (in_braces (common.now.labels ++ map shown_label own.now))) }
 {
     text.put(b"{")?;
-    append_joined_list(text, common, common_text, own)?;
+    append_joined_list(text, common, own)?;
     text.put(b"}")
 }
 
-// Appends two lists of labels in braces, and nothing for none, given the text of the first.
+// Appends two lists of labels in braces, and nothing for none.
 #[tactic(auto, using(crate::proofs::GrownLemmas::grown, crate::proofs::GrownLemmas::two_blocks))]
 pub(crate) fn append_joined_block<O: Output>(
     text: &mut O,
     common: &LabelText,
-    common_text: &[u8],
     own: &[(&str, &str)],
 ) -> Result<(), AllocError>
-    requires { common_text.now ≡ label_list_text common.now.labels }
     ensures { OnOk result (Grows (O.stands_for text.old) (O.stands_for text.new) (label_block_text (common.now.labels ++ map shown_label own.now))) }
 {
     if common.len() == 0 && own.is_empty() {
         return Ok(());
     }
-    append_joined_braces(text, common, common_text, own)
+    append_joined_braces(text, common, own)
 }

@@ -1,14 +1,16 @@
 //! Labels in one text.
-ghost use Rattle.std.specs.Prelude.{◌≡◌, ◌++◌, ◌≤◌, ◌↔◌, IsTrue, [], ◌∷◌, length, drop, map, Contains, OnOk, OnErr, IfOk, Some, None, is_some};
+ghost use Rattle.std.specs.Prelude.{◌≡◌, ◌++◌, ◌≤◌, ◌↔◌, IsTrue, [], ◌∷◌, length, drop, map, Contains, OnOk, OnErr, IfOk, Some, None, IsSome, true, is_some, codes, if◌then◌else◌};
 ghost use Rattle.std.specs.Option.{option_map};
 ghost use Rattle.std.specs.List.{AllByRecursion};
-ghost use Rattle.fm_grammar.specs.Spelling.{label_list_text};
+ghost use Rattle.fm_grammar.specs.Spelling.{label_list_text, escaped};
 ghost use Rattle.fm_text.specs.Samples.{shown_label};
-ghost use Rattle.fm_sink.specs.Grown.{Grown};
-ghost use Rattle.fm_sink.specs.LabelTexts.{part_in, label_in, labels_in, IsPart, IsPlace, names_in, whole_label, whole_place};
+ghost use Rattle.fm_sink.specs.Grown.{Grown, Grows};
+ghost use Rattle.fm_sink.specs.LabelTexts.{part_in, label_in, labels_in, IsPart, IsPlace, names_in, name_in_list, whole_label, whole_place};
 
 use crate::growing::GrowingText;
 use crate::label_list::append_placed_list;
+use crate::output::Output;
+use crate::rendering::is_plain;
 use std::alloc::{AllocError, Global};
 use std::marker::Model;
 
@@ -27,6 +29,7 @@ pub(crate) struct Place {
 }
 
 // Appends a name or a value, and answers where it stands.
+#[inline(always)]
 fn append_part(text: &mut GrowingText, part: &str) -> Result<Part, AllocError>
     ensures grown { OnOk result (Grown text.old text.new part.now) }
     ensures part { IfOk result (λ p. IsPart text.new p × (part_in text.new p ≡ part.now)) }
@@ -37,6 +40,23 @@ fn append_part(text: &mut GrowingText, part: &str) -> Result<Part, AllocError>
     Ok(Part {
         start,
         end: text.as_slice().len(),
+    })
+}
+
+// Appends the name of a label, and answers where it stands. Before it come the quote that ends the label before and a comma, behind it the
+// start of the value.
+#[inline(always)]
+fn append_name(text: &mut GrowingText, is_first: bool, name: &str) -> Result<Part, AllocError>
+    ensures grown { OnOk result (Grown text.old text.new (name_in_list is_first name.now)) }
+    ensures part { IfOk result (λ p. IsPart text.new p × (part_in text.new p ≡ name.now)) }
+    ensures kept { OnErr result (text.new ≡ text.old) }
+{
+    let separator: &[u8] = if is_first { b"" } else { b"\"," };
+    text.append_three(separator, name.as_bytes(), b"=\"")?;
+    let end = text.as_slice().len() - 2;
+    Ok(Part {
+        start: end - name.len(),
+        end,
     })
 }
 
@@ -60,6 +80,7 @@ fn str_at(text: &[u8], part: Part) -> &str
 }
 
 // Whether one of the labels has this name.
+#[inline(always)]
 fn is_named(text: &[u8], place: &Place, name: &[u8]) -> bool
     requires { IsPlace text.now place.now }
     ensures { IsTrue result ↔ ((label_in text.now place.now).name ≡ name.now) }
@@ -81,6 +102,7 @@ fn has_name(text: &[u8], places: &[Place], name: &[u8]) -> bool
 }
 
 // Adds the place of a label that has a name and a value.
+#[inline(always)]
 fn push_place(
     places: &mut Vec<Place>,
     name: Option<Part>,
@@ -96,6 +118,30 @@ fn push_place(
         }
         _ => Ok(()),
     }
+}
+
+// Whether a text that is the labels' list, with these parts of a label under way, is that list with a further name too.
+#[inline(always)]
+fn may_take_name(is_listed: bool, name: Option<Part>, value: Option<Part>) -> bool
+    ensures { IsTrue result → (is_listed ≡ true) × (name ≡ None) × (value ≡ None) }
+{
+    is_listed && name.is_none() && value.is_none()
+}
+
+// The same with a further value.
+#[inline(always)]
+fn may_take_value(is_listed: bool, name: Option<Part>, value: Option<Part>, further: &[u8]) -> bool
+    ensures { IsTrue result → (is_listed ≡ true) × IsSome name × (value ≡ None) × (escaped further.now ≡ further.now) }
+{
+    is_listed && name.is_some() && value.is_none() && is_plain(further)
+}
+
+// The same where the label under way ends.
+#[inline(always)]
+fn may_end(is_listed: bool, name: Option<Part>, value: Option<Part>) -> bool
+    ensures { IsTrue result → (is_listed ≡ true) × (is_some name ≡ is_some value) }
+{
+    is_listed && name.is_some() == value.is_some()
 }
 
 // Puts these places in place of others, or none where there is no memory.
@@ -123,20 +169,32 @@ fn pairs_at<'a>(
     Ok(pairs)
 }
 
+// Appends the labels' list, given it without the quote at its end, and whether it is empty.
+#[inline]
+#[tactic(auto, using(crate::proofs::GrownLemmas::grown))]
+fn append_closed<O: Output>(text: &mut O, list: &[u8], is_empty: bool) -> Result<(), AllocError>
+    ensures { OnOk result (Grows (O.stands_for text.old) (O.stands_for text.new) (list.now ++ (if is_empty then [] else codes "\""))) }
+{
+    text.put(list)?;
+    if is_empty { Ok(()) } else { text.put(b"\"") }
+}
+
 /// Labels in one text, and the name and the value of a label under way.
 #[derive(Drop)]
 pub struct LabelText {
-    // The names and values as they are, one behind the other.
+    // The names and values as they are, each in its place of the labels' list.
     text: GrowingText,
     places: Vec<Place>,
     // Those of the label under way.
     name: Option<Part>,
     value: Option<Part>,
+    // The text is the labels' list, but for the quote at its end.
+    is_listed: bool,
 }
 
 impl Model for LabelText {
     ghost use Rattle.std.specs.Option.{option_map};
-    ghost use Rattle.fm_sink.specs.LabelTexts.{LabelsState, labels_in, part_in, AreParts};
+    ghost use Rattle.fm_sink.specs.LabelTexts.{LabelsState, labels_in, part_in, AreKept};
 
     ghost Value = { LabelsState };
 
@@ -146,7 +204,7 @@ impl Model for LabelText {
       value = option_map (part_in l.text) l.value;
     } };
 
-    ghost invariant = { λ l. AreParts l.text l.places.items l.name l.value };
+    ghost invariant = { λ l. AreKept l.is_listed l.text l.places.items l.name l.value };
 }
 
 impl LabelText {
@@ -159,10 +217,12 @@ impl LabelText {
             places: Vec::new(alloc),
             name: None,
             value: None,
+            is_listed: true,
         }
     }
 
     /// How many labels there are.
+    #[inline]
     pub fn len(&self) -> usize
         ensures { result ≡ length self.now.labels }
     {
@@ -170,6 +230,7 @@ impl LabelText {
     }
 
     /// Whether the label under way has a name.
+    #[inline]
     pub fn is_named(&self) -> bool
         ensures { result ≡ is_some self.now.name }
     {
@@ -177,6 +238,7 @@ impl LabelText {
     }
 
     /// Whether the label under way has a value.
+    #[inline]
     pub fn is_valued(&self) -> bool
         ensures { result ≡ is_some self.now.value }
     {
@@ -184,6 +246,7 @@ impl LabelText {
     }
 
     /// Whether one of the labels has this name.
+    #[inline]
     pub fn has_name(&self, name: &str) -> bool
         ensures { IsTrue result ↔ Contains (map (λ label. label.name) self.now.labels) name.now }
     {
@@ -198,40 +261,51 @@ impl LabelText {
         self.places.clear();
         self.name = None;
         self.value = None;
+        self.is_listed = true;
     }
 
     /// Takes copies of these labels in place of its own. It may find no memory; then it has any labels.
     pub fn assign(&mut self, labels: &LabelText) -> Result<(), AllocError>
         ensures { OnOk result (self.new ≡ record { labels = labels.now.labels; name = None; value = None }) }
     {
+        self.is_listed = false;
         self.places.clear();
         self.name = None;
         self.value = None;
         self.text.clear();
         self.text.append(labels.text.as_slice())?;
-        replace_places(&mut self.places, labels.places.as_slice())
+        replace_places(&mut self.places, labels.places.as_slice())?;
+        self.is_listed = may_take_name(labels.is_listed, labels.name, labels.value);
+        Ok(())
     }
 
     /// Begins a label with this name. It may find no memory; then nothing changes.
+    #[inline]
     pub fn set_name(&mut self, name: &str) -> Result<(), AllocError>
         ensures set { OnOk result (self.new ≡ record self.old { name = Some name.now }) }
         ensures kept { OnErr result (self.new ≡ self.old) }
     {
-        self.name = Some(append_part(&mut self.text, name)?);
+        let part = append_name(&mut self.text, self.places.as_slice().is_empty(), name)?;
+        self.is_listed = may_take_name(self.is_listed, self.name, self.value);
+        self.name = Some(part);
         Ok(())
     }
 
     /// Gives the label under way this value. It may find no memory; then nothing changes.
+    #[inline]
     pub fn set_value(&mut self, value: &str) -> Result<(), AllocError>
         ensures set { OnOk result (self.new ≡ record self.old { value = Some value.now }) }
         ensures kept { OnErr result (self.new ≡ self.old) }
     {
-        self.value = Some(append_part(&mut self.text, value)?);
+        let part = append_part(&mut self.text, value)?;
+        self.is_listed = may_take_value(self.is_listed, self.name, self.value, value.as_bytes());
+        self.value = Some(part);
         Ok(())
     }
 
     /// Ends the label under way: one that has a name and a value is the last of the labels, another one is forgotten. It may find
     /// no memory; then nothing changes.
+    #[inline]
     pub fn end_label(&mut self) -> Result<(), AllocError>
         ensures ended { OnOk result (self.new ≡ record {
           labels = self.old.labels ++ whole_label self.old.name self.old.value;
@@ -241,6 +315,7 @@ impl LabelText {
         ensures kept { OnErr result (self.new ≡ self.old) }
     {
         push_place(&mut self.places, self.name, self.value)?;
+        self.is_listed = may_end(self.is_listed, self.name, self.value);
         self.name = None;
         self.value = None;
         Ok(())
@@ -255,9 +330,16 @@ impl LabelText {
     }
 
     /// Appends the labels with commas between them. It may find no memory.
-    pub(crate) fn append_to(&self, text: &mut GrowingText) -> Result<(), AllocError>
-        ensures { OnOk result (Grown text.old text.new (label_list_text self.now.labels)) }
+    pub(crate) fn append_to<O: Output>(&self, text: &mut O) -> Result<(), AllocError>
+        ensures { OnOk result (Grows (O.stands_for text.old) (O.stands_for text.new) (label_list_text self.now.labels)) }
     {
-        append_placed_list(text, self.text.as_slice(), &self.places)
+        if !may_take_name(self.is_listed, self.name, self.value) {
+            return append_placed_list(text, self.text.as_slice(), &self.places);
+        }
+        append_closed(
+            text,
+            self.text.as_slice(),
+            self.places.as_slice().is_empty(),
+        )
     }
 }

@@ -1,5 +1,5 @@
 //! The lines of a document so far.
-ghost use Rattle.std.specs.Prelude.{◌≡◌, ◌++◌, [], map, OnOk, OnErr};
+ghost use Rattle.std.specs.Prelude.{◌≡◌, ◌++◌, [], map, OnOk};
 ghost use Rattle.std.specs.Option.{option_map, option_copied};
 ghost use Rattle.fm_text.specs.Rows.{sample_row, head_rows};
 ghost use Rattle.fm_text.specs.Samples.{shown_label, value_of, exemplar_at};
@@ -15,28 +15,21 @@ use std::alloc::{AllocError, Global};
 use std::marker::Model;
 use std::mem;
 
-/// Lines so far, and the common labels of the next samples, which are rendered once.
+/// Lines so far, and the common labels of the next samples.
 ///
 /// Where there is no memory for a line, a part of it may stand at the end.
 #[derive(Drop)]
 pub struct Lines {
     text: GrowingText,
     common: LabelText,
-    common_text: GrowingText,
-    // The memory of the common labels' text before.
-    spare: GrowingText,
 }
 
 impl Model for Lines {
-    ghost use Rattle.std.specs.Prelude.{◌≡◌};
-    ghost use Rattle.fm_grammar.specs.Spelling.{label_list_text};
     ghost use Rattle.fm_sink.specs.Output.{LinesState};
 
     ghost Value = { LinesState };
 
     ghost view = { λ l. record { common = l.common.labels; text = l.text } };
-
-    ghost invariant = { λ l. l.common_text ≡ label_list_text l.common.labels };
 }
 
 impl Lines {
@@ -47,8 +40,6 @@ impl Lines {
         Lines {
             text: GrowingText::new(alloc),
             common: LabelText::new(alloc),
-            common_text: GrowingText::new(alloc),
-            spare: GrowingText::new(alloc),
         }
     }
 
@@ -99,20 +90,13 @@ impl Lines {
         ensures { self.new ≡ record self.old { common = [] } }
     {
         self.common.clear();
-        self.common_text.clear();
     }
 
-    /// Takes the common labels of the next samples, and answers those before, for their memory. Where there is no memory nothing
-    /// changes.
-    pub fn share(&mut self, common: LabelText) -> Result<LabelText, AllocError>
-        ensures text { self.new.text ≡ self.old.text }
-        ensures common { OnOk result (self.new.common ≡ common.labels) }
-        ensures kept { OnErr result (self.new ≡ self.old) }
+    /// Takes the common labels of the next samples, and answers those before, for their memory.
+    pub fn share(&mut self, common: LabelText) -> LabelText
+        ensures { self.new ≡ record self.old { common = common.labels } }
     {
-        self.spare.clear();
-        common.append_to(&mut self.spare)?;
-        mem::swap(&mut self.common_text, &mut self.spare);
-        Ok(mem::replace(&mut self.common, common))
+        mem::replace(&mut self.common, common)
     }
 
     /// Appends the line of a sample whose own labels come after the common ones. It may find no memory.
@@ -139,7 +123,6 @@ impl Lines {
             name,
             kind,
             &self.common,
-            self.common_text.as_slice(),
             own,
             &value,
             time,

@@ -1,5 +1,5 @@
 // The texts of the parts of a sample's line, appended to an output.
-ghost use Rattle.std.specs.Prelude.{◌≡◌, ◌++◌, codes, OnOk};
+ghost use Rattle.std.specs.Prelude.{◌≡◌, ◌⊎◌, ◌≤◌, ◌++◌, [], ◌∷◌, length, take, codes, IsTrue, OnOk};
 ghost use Rattle.std.specs.Option.{option_map};
 ghost use Rattle.fm_grammar.specs.Kinds.{suffix_of};
 ghost use Rattle.fm_grammar.specs.Spelling.{escape, escaped, label_text, label_list_text, in_braces, label_block_text, value_text, time_text, exemplar_text, sample_line};
@@ -27,14 +27,54 @@ fn append_escape<O: Output>(text: &mut O, byte: u8) -> Result<(), AllocError>
     }
 }
 
-// Appends a text with its escapes.
+// Whether a byte is written with an escape.
+#[inline(always)]
+#[tactic(auto, unfolding(fm_grammar::specs::Spelling::escape))]
+fn has_escape(byte: u8) -> bool
+    ensures { IsTrue result ⊎ (escape byte ≡ byte ∷ []) }
+{
+    (byte == b'\n') | (byte == b'"') | (byte == b'\\')
+}
+
+// How many bytes stand before the first one that is written with an escape.
+fn plain_len(raw: &[u8]) -> usize
+    ensures within { result ≤ length raw.now }
+    ensures plain { escaped (take result raw.now) ≡ take result raw.now }
+{
+    for i in 0..raw.len() {
+        if has_escape(raw[i]) {
+            return i;
+        }
+    }
+    raw.len()
+}
+
+// Whether each byte of a text is written as it is. It asks each of them, so that several are asked at once.
+#[inline]
+pub(crate) fn is_plain(raw: &[u8]) -> bool
+    ensures { IsTrue result → escaped raw.now ≡ raw.now }
+{
+    let mut escapes = false;
+    for byte in raw {
+        escapes |= has_escape(*byte);
+    }
+    !escapes
+}
+
+// Appends a text with its escapes: what stands between two of them at once.
 pub(crate) fn append_escaped<O: Output>(text: &mut O, raw: &[u8]) -> Result<(), AllocError>
     ensures { OnOk result (Grows (O.stands_for text.old) (O.stands_for text.new) (escaped raw.now)) }
 {
-    for byte in raw {
-        append_escape(text, *byte)?;
+    let mut rest = raw;
+    loop {
+        let (plain, others) = rest.split_at(plain_len(rest));
+        text.put(plain)?;
+        let Some((first, after)) = others.split_first() else {
+            return Ok(());
+        };
+        append_escape(text, *first)?;
+        rest = after;
     }
-    Ok(())
 }
 
 // Appends a label.

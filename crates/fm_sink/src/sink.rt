@@ -118,7 +118,7 @@ impl Sink {
                 store.share(shared(self.alloc, &common)?);
                 self.spare = mem::replace(before, common);
             }
-            Form::Lines(lines) => self.spare = lines.share(common)?,
+            Form::Lines(lines) => self.spare = lines.share(common),
         }
         Ok(())
     }

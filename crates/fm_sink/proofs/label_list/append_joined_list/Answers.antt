@@ -7,4 +7,4 @@ use Rattle.fm_sink.proofs.label_list.append_joined_list.Goals as goal
 pub returns-else-len-eq0 : goal.returns-else-len-eq0
 returns-else-len-eq0 g c =
     let some : 0 < length c.args.common.now.labels = omega (arith, c.len.ensures, c.if-len-eq0.false) in
-    on_ok_more c.append_after.result _ _ (λ grown. joined_whole _ _ c.args.common.now.labels (map shown_label c.args.own.now) some (rw c.requires at grown)) c.append_after.ensures
+    on_ok_more c.append_after.result _ _ (λ grown. joined_whole _ _ c.args.common.now.labels (map shown_label c.args.own.now) some grown) c.append_after.ensures

@@ -1,14 +1,19 @@
-use Rattle.fm_sink.proofs.LabelTextLemmas.{parts_assigned, shown_assigned}
+use Rattle.std.proofs.Common.{◌≡◌, None, ap, ◌∙◌}
+use Rattle.fm_sink.specs.LabelTexts.{LabelsState, labels_in}
+use Rattle.fm_sink.proofs.LabelTextLemmas.{kept_copied}
 use Rattle.fm_sink.proofs.label_text.LabelText.assign.Goals as goal
 
 pub invariant_of-self-2 : goal.invariant_of-self-2
 invariant_of-self-2 c =
-    let grown = rw (c.clear-2.ensures, c.as_slice.ensures) at c.in_ok-append.ensures.grown in
-    let places = rw (c.as_slice-2.ensures.value) at c.replace_places.ensures.replaced in
-    parts_assigned c.replace_places.result _ _ _ _ grown c.labels.invariant.places places c.replace_places.ensures.none
+    let other = c.labels.inside in
+    let next = c.may_take_name-self-inside in
+    let texts : c.append.new.self ≡ other.text = rw (c.clear-2.ensures, c.as_slice.ensures) at c.in_ok-append.ensures.grown.bytes in
+    let places : c.replace_places.new.places.items ≡ other.places.items = c.in_ok-replace_places.ensures.replaced ∙ c.as_slice-2.ensures.value in
+    kept_copied other.is_listed next.result _ _ _ _ other.name other.value next.ensures texts places c.labels.invariant
 
 pub returns : goal.returns
 returns c =
-    let grown = rw (c.clear-2.ensures, c.as_slice.ensures) at c.in_ok-append.ensures.grown in
-    let places = rw (c.as_slice-2.ensures.value) at c.replace_places.ensures.replaced in
-    rw (← c.labels.view_is) (shown_assigned c.replace_places.result _ _ _ _ grown places)
+    let other = c.labels.inside in
+    let texts : c.append.new.self ≡ other.text = rw (c.clear-2.ensures, c.as_slice.ensures) at c.in_ok-append.ensures.grown.bytes in
+    let places : c.replace_places.new.places.items ≡ other.places.items = c.in_ok-replace_places.ensures.replaced ∙ c.as_slice-2.ensures.value in
+    (λ i. record { labels = labels_in (texts i) (places i); name = None; value = None }) ∙ ap (λ (l : LabelsState). record { labels = l.labels; name = None; value = None }) c.labels.view_is
