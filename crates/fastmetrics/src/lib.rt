@@ -1,7 +1,8 @@
 //! fastmetrics, an OpenMetrics client library: metrics that instrumented programs count and observe with, registries
 //! that hold them, and the text that a scraper such as Prometheus reads.
 //!
-//! - [`metrics`]: counters, gauges, histograms, unknowns, infos, state sets, families of them, tallies.
+//! - [`metrics`]: counters, gauges, histograms, gauge histograms, quantiles of summaries, unknowns, infos, state sets,
+//!   families of them, tallies.
 //! - [`registry`]: registries of metrics, with their subsystems.
 //! - [`format`]: `format::text::encode` writes a registry's document, and `format::text::read` reads one back.
 //! - [`encoder`]: what metrics, points and labels of your own implement.
@@ -62,20 +63,26 @@ pub mod metrics {
     }
 
     pub mod gauge_histogram {
-        //! What gauge histograms show: counts of current values by bounds.
+        //! Gauge histograms: counts of current values by bounds.
         pub use fm_bucket::{
             BUCKET_LABEL, Bound, Bucket, BucketError, DEFAULT_BUCKETS, ExponentialBuckets,
             LinearBuckets, Probe, Steps, default_buckets, exponential_buckets,
             exponential_buckets_range, find_bucket, linear_buckets,
         };
-        pub use fm_histogram::GaugeHistogramSnapshot;
+        pub use fm_histogram::{GaugeHistogram, GaugeHistogramSnapshot};
+    }
+
+    pub mod summary {
+        //! Quantiles of summaries. A summary is a metric of a user's own, which hands its point to `encode_summary`.
+        pub use fm_bucket::quantile::{QUANTILE_LABEL, Quantile};
     }
 }
 
 pub mod raw {
-    //! Numbers, atomic words, units, metadata, and the buckets of histograms.
+    //! Numbers, atomic words, units, metadata, the buckets of histograms, and the quantiles of summaries.
     pub use fm_atomic::{Atomic, CounterValue, GaugeValue, TryDefault, UnknownValue, atomic};
     pub use fm_bucket as bucket;
+    pub use fm_bucket::quantile;
     pub use fm_raw::{
         Fixed, FixedBuffer, FixedSum, Metadata, MetricError, MetricType, Number, TypedMetric, Unit,
         error, fixed, is_label_name, is_snake_case, is_unit_text, metadata, name, number, types,

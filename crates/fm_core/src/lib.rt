@@ -14,8 +14,8 @@ pub mod encoder {
         CounterValueEncoder, EncodeCounterValue, EncodeError, EncodeExemplar, EncodeGaugeValue,
         EncodeLabel, EncodeLabelName, EncodeLabelSet, EncodeLabelValue, EncodeMetric, EncodePoint,
         EncodeUnknownValue, ExemplarEncoder, GaugeValueEncoder, LabelEncoder, LabelSetEncoder,
-        LabelSlice, LabelStr, MetricEncoder, PointEncoder, StaticStr, UnknownValueEncoder,
-        exemplar, label, label_set, label_value, metric, point, value,
+        LabelSlice, LabelStr, LabeledExemplar, MetricEncoder, PointEncoder, StaticStr,
+        UnknownValueEncoder, exemplar, label, label_set, label_value, metric, point, value,
     };
 }
 

@@ -1,11 +1,11 @@
 -- Buckets, one after the other.
-use Rattle.std.proofs.Common.{◌≡◌, ◌<◌, ◌≤◌, ◌+◌, ◌^◌, ℕ, ℤ, zero, suc, List, [], ◌∷◌, ◌++◌, length, get_or, take, map, Contains, ◌⊎◌, inl, inr, refl, Option, Some, None, Result, Ok, Err, sym, ap, subst, ◌∙◌, arith, append-nil, append_assoc, codes}
+use Rattle.std.proofs.Common.{◌≡◌, ◌<◌, ◌≤◌, ◌+◌, ◌^◌, ℕ, ℤ, pos, zero, suc, List, [], ◌∷◌, ◌++◌, length, get_or, take, map, Contains, ◌⊎◌, inl, inr, refl, Option, Some, None, Result, Ok, Err, sym, ap, subst, ◌∙◌, arith, append-nil, append_assoc, codes}
 use Rattle.std.specs.List.{AllByRecursion}
 use Rattle.std.specs.Borrow.{Bor}
 use Rattle.fm_grammar.specs.declared.MetricType.{MetricType}
 use Rattle.fm_grammar.specs.declared.MetricType.TheVariants.{Unknown, Gauge, Counter, StateSet, Info, Histogram, GaugeHistogram, Summary}
-use Rattle.fm_grammar.specs.Exposition.{Label, Value, Fixed, Sample}
-use Rattle.fm_grammar.specs.declared.SampleKind.TheVariants.{Sum as SumKind}
+use Rattle.fm_grammar.specs.Exposition.{Label, Value, Whole, Fixed, Sample}
+use Rattle.fm_grammar.specs.declared.SampleKind.{SampleKind}
 use Rattle.fm_grammar.specs.WellFormed.{ValueFits, IsSample}
 use Rattle.fm_grammar.specs.Names.{IsLabelName}
 use Rattle.fm_bucket.specs.declared.bound.Bucket.{Bucket}
@@ -14,11 +14,11 @@ use Rattle.fm_sink.proofs.OutputLemmas.{appended-append}
 use Rattle.fm_encoder.specs.Labels.{IsReserved}
 use Rattle.fm_grammar.proofs.Runs.{all_append}
 use Rattle.fm_text.specs.declared.error.EncodeError.{EncodeError}
-use Rattle.fm_encoder.specs.Points.{HandedExemplar, Setting, ExemplarClean, values_in, BucketsFault, HistogramPoint, point_samples, bucket_line, bucket_sample, bucket_samples, count_sample, sum_sample, created_samples}
+use Rattle.fm_encoder.specs.Points.{HandedExemplar, Setting, Point, ExemplarClean, values_in, BucketsClean, BucketsFault, PartsClean, type_of, point_samples, bucket_line, bucket_sample, bucket_samples}
 use Rattle.fm_encoder.specs.Gathered.{GatheredPoints, OwnRefusal, answer}
 use Rattle.fm_encoder.specs.Hands.{SamePlace, HandsPoints, points_samples}
 use Rattle.fm_encoder.specs.Steps.{FitsType, PushesSample, PushesSamples}
-use Rattle.fm_encoder.specs.Buckets.{HasBuckets, slots_of, BeginsBuckets, PushesBucket, PushesBuckets}
+use Rattle.fm_encoder.specs.Buckets.{HasBuckets, HasTotals, slots_of, BeginsBuckets, PushesBucket, PushesBuckets}
 use Rattle.std.proofs.lemmas.List.{take_more, length-map}
 use Rattle.std.proofs.lemmas.List.Sums.{sum_by-append, sum_by-cons, sum_by_more_le}
 use Rattle.std.proofs.lemmas.List.Elements.{Contains-get_or}
@@ -191,7 +191,15 @@ PushesSamples-push f xs old mid new before accepting one = record {
   refused = one.refused;
 }
 
--- the first samples of a loop over what is seen as items, and then the next one's
+-- the first samples of a loop, and then the next one's
+pub PushesSamples-more : {T : Type 0} (f : Setting → List Label → T → Sample) (xs : List T) (i : ℕ) (x : T) (old mid new : GatheredPoints) → i < length xs → x ≡ get_or xs i x → PushesSamples (map (f old.setting old.common) (take i xs)) old mid → mid.refused ≡ None → PushesSample (f mid.setting mid.common x) mid new → PushesSamples (map (f old.setting old.common) (take (i + 1) xs)) old new
+PushesSamples-more {T} f xs i x old mid new within is before accepting one =
+    let g = f old.setting old.common in
+    let longer : take (i + 1) xs ≡ take i xs ++ x ∷ [] = take_more xs i x within ∙ ap (λ (y : T). take i xs ++ y ∷ []) (sym is) in
+    let mapped : map g (take (i + 1) xs) ≡ map g (take i xs) ++ g x ∷ [] = ap (map g) longer ∙ map-push g (take i xs) x in
+    subst (λ (ss : List Sample). PushesSamples ss old new) (sym mapped) (PushesSamples-push (λ s ls. f s ls x) (map g (take i xs)) old mid new before accepting one)
+
+-- the same of items that are seen as others
 pub PushesSamples-seen : {S T : Type 0} (view : S → T) (f : Setting → List Label → T → Sample) (xs : List S) (i : ℕ) (d : S) (old mid new : GatheredPoints) → i < length xs → PushesSamples (map (f old.setting old.common) (map view (take i xs))) old mid → mid.refused ≡ None → PushesSample (f mid.setting mid.common (view (get_or xs i d))) mid new → PushesSamples (map (f old.setting old.common) (map view (take (i + 1) xs))) old new
 PushesSamples-seen view f xs i d old mid new within before accepting one =
     let g = f old.setting old.common in
@@ -200,40 +208,87 @@ PushesSamples-seen view f xs i d old mid new within before accepting one =
     let mapped : map g (map view (take (i + 1) xs)) ≡ map g (map view (take i xs)) ++ g (view x) ∷ [] = ap (map g) seen ∙ map-push g (map view (take i xs)) (view x) in
     subst (λ (ss : List Sample). PushesSamples ss old new) (sym mapped) (PushesSamples-push (λ s ls. f s ls (view x)) (map g (map view (take i xs))) old mid new before accepting one)
 
--- a histogram's point: its first tests, its buckets, and what comes behind them
-pub HandsPoints-histogram : (buckets : List Bucket) (slots : List (List HandedExemplar)) (count : ℕ) (sum : ℤ) (created : Option ℕ) (F : Type 0) (n : ℕ) (old begun pushed new : GatheredPoints) → length slots ≡ n → BeginsBuckets Histogram (length buckets) n old begun → begun.refused ≡ None → PushesBuckets buckets slots F begun pushed → pushed.refused ≡ None → PushesSamples (count_sample pushed.setting pushed.common count ∷ sum_sample pushed.setting pushed.common sum ∷ created_samples pushed.setting pushed.common created) pushed new → HandsPoints (λ ps. ps ≡ HistogramPoint buckets slots count sum created ∷ []) F old new (answer new.refused)
-HandsPoints-histogram buckets slots count sum created F n old begun pushed new same_number begins begun_none push pushed_none totals =
-    let point = HistogramPoint buckets slots count sum created in
-    let place = SamePlace-then old begun pushed begins.place push.place in
-    let buckets_at = λ (s : Setting) (common : List Label). bucket_samples s common [] buckets slots in
-    let totals_at = λ (s : Setting) (common : List Label). count_sample s common count ∷ sum_sample s common sum ∷ created_samples s common created in
-    let name = old.setting.name in
-    let output : new.refused ≡ None → new.output ≡ appended name old.output (points_samples old (point ∷ [])) = λ none.
-    totals.output none
-    ∙ ((λ i. appended (place.setting i).name (push.output pushed_none i) (totals_at (place.setting i) (place.common i)))
-    ∙ ((λ i. appended name (appended (begins.place.setting i).name (begins.output i) (buckets_at (begins.place.setting i) (begins.place.common i))) (totals_at old.setting old.common))
-    ∙ (sym (appended-append name old.output (buckets_at old.setting old.common) (totals_at old.setting old.common))
-    ∙ ap (λ (more : List Sample). appended name old.output more) (sym (append-nil (point_samples old.setting old.common point))))))
-    in
-    let buckets_in = subst (λ (s : Setting). AllByRecursion (IsSample s.metric_type) (buckets_at s begun.common)) begins.place.setting (push.formed pushed_none) in
-    let buckets_formed = subst (λ (ls : List Label). AllByRecursion (IsSample old.setting.metric_type) (buckets_at old.setting ls)) begins.place.common buckets_in in
-    let totals_in = λ (none : new.refused ≡ None). subst (λ (s : Setting). AllByRecursion (IsSample s.metric_type) (totals_at s pushed.common)) place.setting (totals.formed none) in
-    let totals_formed = λ (none : new.refused ≡ None). subst (λ (ls : List Label). AllByRecursion (IsSample old.setting.metric_type) (totals_at old.setting ls)) place.common (totals_in none) in
-    let formed = λ (none : new.refused ≡ None). all_append (IsSample old.setting.metric_type) (buckets_at old.setting old.common) (totals_at old.setting old.common) buckets_formed (totals_formed none) in
-    let kept : (k : EncodeError) → ¬ (old.refused ≡ Some k) = λ k is. (let same : begun ≡ old = begins.kept k is in cc) in
-    record {
-      place = SamePlace-then old pushed new place totals.place;
-      kept = λ k is. absurd (kept k is);
-      handed = λ o none r. (
-        point ∷ [],
-        refl,
-        ((begins.no_deferred begun_none, record { type = begins.same_type begun_none; parts = (same_number ∙ begins.same_number begun_none, push.fits pushed_none, push.clean pushed_none); formed = formed none }, tt)),
-        output none,
+-- samples, and then others
+pub PushesSamples-then : (xs : List Sample) (ys : Setting → List Label → List Sample) (old mid new : GatheredPoints) → PushesSamples xs old mid → mid.refused ≡ None → PushesSamples (ys mid.setting mid.common) mid new → PushesSamples (xs ++ ys old.setting old.common) old new
+PushesSamples-then xs ys old mid new before accepting more = record {
+  place = SamePlace-then old mid new before.place more.place;
+  formed = λ none. all_append (IsSample old.setting.metric_type) xs (ys old.setting old.common) (before.formed accepting) (
+      subst (λ (ls : List Label). AllByRecursion (IsSample old.setting.metric_type) (ys old.setting ls)) before.place.common
+      (subst (λ (s : Setting). AllByRecursion (IsSample s.metric_type) (ys s mid.common)) before.place.setting (more.formed none))
       );
+  output = λ none. more.output none
+      ∙ ((λ i. appended (before.place.setting i).name (before.output accepting i) (ys (before.place.setting i) (before.place.common i)))
+      ∙ sym (appended-append old.setting.name old.output xs (ys old.setting old.common)));
+  refused = more.refused;
+}
+
+-- one sample alone
+pub PushesSamples-one : (wanted sample : Sample) (old new : GatheredPoints) → PushesSample sample old new → sample ≡ wanted → PushesSamples (wanted ∷ []) old new
+PushesSamples-one wanted sample old new one is = subst (λ (s : Sample). PushesSamples (s ∷ []) old new) is (record {
+  place = one.place;
+  formed = λ none. (one.formed none, tt);
+  output = one.output;
+  refused = one.refused;
+})
+
+-- the samples of buckets are there
+PushesSamples-buckets : (buckets : List Bucket) (slots : List (List HandedExemplar)) (F : Type 0) (old new : GatheredPoints) → PushesBuckets buckets slots F old new → new.refused ≡ None → PushesSamples (bucket_samples old.setting old.common [] buckets slots) old new
+PushesSamples-buckets buckets slots F old new push none = record {
+  place = push.place;
+  formed = push.formed;
+  output = push.output;
+  refused = λ k is. absurd cc;
+}
+
+-- a point whose first tests passed, and the samples that it has then
+pub HandsPoints-made : (point : Point) (xs : Setting → List Label → List Sample) (F : Type 0) (old begun new : GatheredPoints) → SamePlace old begun → begun.output ≡ old.output → ((k : EncodeError) → old.refused ≡ Some k → begun ≡ old) → begun.refused ≡ None → type_of point ≡ old.setting.metric_type → old.deferred ≡ None → PartsClean old.setting old.common point → point_samples old.setting old.common point ≡ xs old.setting old.common → PushesSamples (xs begun.setting begun.common) begun new → HandsPoints (λ ps. ps ≡ point ∷ []) F old new (answer new.refused)
+HandsPoints-made point xs F old begun new place output kept begun_none type deferred parts is push =
+    let name = old.setting.name in
+    let never : (k : EncodeError) → ¬ (old.refused ≡ Some k) = λ k e. (let same : begun ≡ old = kept k e in cc) in
+    let put : new.refused ≡ None → new.output ≡ appended name old.output (points_samples old (point ∷ [])) = λ none.
+    push.output none
+    ∙ ((λ i. appended (place.setting i).name (output i) (xs (place.setting i) (place.common i)))
+    ∙ ap (λ (more : List Sample). appended name old.output more) (sym (append-nil (point_samples old.setting old.common point) ∙ is)))
+    in
+    let formed = λ (none : new.refused ≡ None). subst (AllByRecursion (IsSample old.setting.metric_type)) (sym is)
+    (subst (λ (ls : List Label). AllByRecursion (IsSample old.setting.metric_type) (xs old.setting ls)) place.common
+    (subst (λ (s : Setting). AllByRecursion (IsSample s.metric_type) (xs s begun.common)) place.setting (push.formed none)))
+    in
+    record {
+      place = SamePlace-then old begun new place push.place;
+      kept = λ k e. absurd (never k e);
+      handed = λ o none r. (point ∷ [], refl, ((deferred, record { type = type; parts = parts; formed = formed none }, tt)), put none);
       own = λ e none r. (let not : Ok tt ≡ Err e = rw none at r in absurd cc);
-      refused = λ k o is. inl (inl (totals.refused k is));
+      refused = λ k o e. inl (inl (push.refused k e));
     }
 
--- a sum is a value of a histogram's sample
-pub FitsType-sum : (type : MetricType) (v : Value) (sum : ℤ) → type ≡ Histogram → v ≡ Fixed sum → ValueFits (Fixed sum) → FitsType type SumKind v None
-FitsType-sum type v sum is value fits = rw (is, value) (record { kind = (2, omega arith, refl); suits = tt; value = fits; allowed = refl; exemplar = tt })
+-- a point with buckets: its first tests, its buckets, and the totals after them
+pub HandsPoints-buckets : (point : Point) (totals : Setting → List Label → List Sample) (buckets : List Bucket) (slots : List (List HandedExemplar)) (F : Type 0) (n : ℕ) (old begun pushed new : GatheredPoints) → ((common : List Label) → BucketsClean buckets slots → PartsClean old.setting common point) → ((common : List Label) → point_samples old.setting common point ≡ bucket_samples old.setting common [] buckets slots ++ totals old.setting common) → length slots ≡ n → BeginsBuckets (type_of point) (length buckets) n old begun → begun.refused ≡ None → PushesBuckets buckets slots F begun pushed → pushed.refused ≡ None → PushesSamples (totals pushed.setting pushed.common) pushed new → HandsPoints (λ ps. ps ≡ point ∷ []) F old new (answer new.refused)
+HandsPoints-buckets point totals buckets slots F n old begun pushed new clean is same_number begins begun_none push pushed_none added =
+    let all = PushesSamples-then (bucket_samples begun.setting begun.common [] buckets slots) totals begun pushed new (PushesSamples-buckets buckets slots F begun pushed push pushed_none) pushed_none added in
+    let parts = clean old.common (same_number ∙ begins.same_number begun_none, push.fits pushed_none, push.clean pushed_none) in
+    HandsPoints-made point (λ s common. bucket_samples s common [] buckets slots ++ totals s common) F old begun new begins.place begins.output begins.kept begun_none (begins.same_type begun_none) (begins.no_deferred begun_none) parts (is old.common) all
+
+-- a count and a sum are values of a point's totals
+pub FitsType-count : (type : MetricType) (of_count of_sum : SampleKind) (v : Value) (count : ℕ) → HasTotals type of_count of_sum → v ≡ Whole (pos count) → ValueFits (Whole (pos count)) → FitsType type of_count v None
+FitsType-count type of_count of_sum v count (inl (inl is, counts, sums)) value fits = rw (is, counts, value) (record { kind = (1, omega arith, refl); suits = tt; value = fits; allowed = refl; exemplar = tt })
+FitsType-count type of_count of_sum v count (inl (inr is, counts, sums)) value fits = rw (is, counts, value) (record { kind = (1, omega arith, refl); suits = tt; value = fits; allowed = refl; exemplar = tt })
+FitsType-count type of_count of_sum v count (inr (is, counts, sums)) value fits = rw (is, counts, value) (record { kind = (1, omega arith, refl); suits = tt; value = fits; allowed = refl; exemplar = tt })
+
+pub FitsType-sum : (type : MetricType) (of_count of_sum : SampleKind) (v : Value) (sum : ℤ) → HasTotals type of_count of_sum → v ≡ Fixed sum → ValueFits (Fixed sum) → FitsType type of_sum v None
+FitsType-sum type of_count of_sum v sum (inl (inl is, counts, sums)) value fits = rw (is, sums, value) (record { kind = (2, omega arith, refl); suits = tt; value = fits; allowed = refl; exemplar = tt })
+FitsType-sum type of_count of_sum v sum (inl (inr is, counts, sums)) value fits = rw (is, sums, value) (record { kind = (2, omega arith, refl); suits = tt; value = fits; allowed = refl; exemplar = tt })
+FitsType-sum type of_count of_sum v sum (inr (is, counts, sums)) value fits = rw (is, sums, value) (record { kind = (2, omega arith, refl); suits = tt; value = fits; allowed = refl; exemplar = tt })
+
+-- the name of a quantile's label is a label name
+pub quantile_is_label_name : IsLabelName (codes "quantile")
+quantile_is_label_name = (
+  inl (omega arith, omega arith),
+  (
+    inl (inl (omega arith, omega arith)),
+    (
+      inl (inl (omega arith, omega arith)),
+      (inl (inl (omega arith, omega arith)), (inl (inl (omega arith, omega arith)), (inl (inl (omega arith, omega arith)), (inl (inl (omega arith, omega arith)), (inl (inl (omega arith, omega arith)), tt))))),
+    ),
+  ),
+)

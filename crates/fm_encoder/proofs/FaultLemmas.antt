@@ -5,8 +5,9 @@ use Rattle.fm_grammar.specs.Exposition.{Text, Label, Value}
 use Rattle.fm_text.specs.declared.error.EncodeError.{EncodeError}
 use Rattle.fm_text.specs.declared.error.EncodeError.TheVariants.{MalformedLabel, KindMismatch, DuplicateLabel, ExemplarCountMismatch, BucketOverflow, ExemplarTwice, ExemplarTooLong, MetricFault, Write, WriteZero}
 use Rattle.fm_text.specs.Written.{IsWritersFault}
+use Rattle.fm_bucket.specs.declared.bound.Bucket.{Bucket}
 use Rattle.fm_encoder.specs.Labels.{HandedLabel, NameFault, LabelFault, LabelsFault}
-use Rattle.fm_encoder.specs.Points.{HandedExemplar, Point, UnknownPoint, GaugePoint, CounterPoint, StateSetPoint, InfoPoint, HistogramPoint, Member, Setting, Context, NumberFault, ExemplarFault, PartsFault, PointFault, MembersFault}
+use Rattle.fm_encoder.specs.Points.{HandedExemplar, Point, UnknownPoint, GaugePoint, CounterPoint, StateSetPoint, InfoPoint, HistogramPoint, GaugeHistogramPoint, SummaryPoint, Member, Setting, Context, NumberFault, ExemplarFault, BucketsFault, PartsFault, PointFault, MembersFault}
 use Rattle.fm_encoder.specs.Offers.{MetricHasFault, context_at}
 
 is_other : (k j : EncodeError) → k ≡ j → ¬ (IsWritersFault j) → ¬ (IsWritersFault k)
@@ -36,6 +37,10 @@ ExemplarFault-not_writing k exemplars (inl (is, twice)) = is_other k ExemplarTwi
 ExemplarFault-not_writing k exemplars (inr (exemplar, there, inl fault)) = LabelsFault-not_writing k _ _ exemplar.labels fault
 ExemplarFault-not_writing k exemplars (inr (exemplar, there, inr (is, long))) = is_other k ExemplarTooLong is (λ never. never)
 
+BucketsFault-not_writing : (k : EncodeError) (buckets : List Bucket) (slots : List (List HandedExemplar)) → BucketsFault k buckets slots → ¬ (IsWritersFault k)
+BucketsFault-not_writing k buckets slots (inl (is, overflow)) = is_other k BucketOverflow is (λ never. never)
+BucketsFault-not_writing k buckets slots (inr (exemplars, there, fault)) = ExemplarFault-not_writing k exemplars fault
+
 PartsFault-not_writing : (k : EncodeError) (setting : Setting) (common : List Label) (point : Point) → PartsFault k setting common point → ¬ (IsWritersFault k)
 PartsFault-not_writing k setting common (UnknownPoint numbers) fault = NumberFault-not_writing k numbers fault
 PartsFault-not_writing k setting common (GaugePoint numbers) fault = NumberFault-not_writing k numbers fault
@@ -43,8 +48,9 @@ PartsFault-not_writing k setting common (CounterPoint numbers exemplars created)
 PartsFault-not_writing k setting common (CounterPoint numbers exemplars created) (inr fault) = ExemplarFault-not_writing k exemplars fault
 PartsFault-not_writing k setting common (StateSetPoint states) fault = is_other k DuplicateLabel fault.0 (λ never. never)
 PartsFault-not_writing k setting common (InfoPoint labels) fault = LabelsFault-not_writing k _ common labels fault
-PartsFault-not_writing k setting common (HistogramPoint buckets slots count sum created) (inl (is, overflow)) = is_other k BucketOverflow is (λ never. never)
-PartsFault-not_writing k setting common (HistogramPoint buckets slots count sum created) (inr (exemplars, there, fault)) = ExemplarFault-not_writing k exemplars fault
+PartsFault-not_writing k setting common (HistogramPoint buckets slots count sum created) fault = BucketsFault-not_writing k buckets slots fault
+PartsFault-not_writing k setting common (GaugeHistogramPoint buckets slots count sum) fault = BucketsFault-not_writing k buckets slots fault
+PartsFault-not_writing k setting common (SummaryPoint quantiles sum count created) fault = absurd fault
 
 PointFault-not_writing : (k : EncodeError) (setting : Setting) (common : List Label) (point : Point) → PointFault k setting common point → ¬ (IsWritersFault k)
 PointFault-not_writing k setting common point (inl (inl (is, mismatch))) = is_other k KindMismatch is (λ never. never)

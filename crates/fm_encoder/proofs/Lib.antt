@@ -8,3 +8,4 @@ pub mod MemberLemmas
 pub mod FaultLemmas
 pub mod BucketLemmas
 pub mod OwnLabels
+pub mod ExemplarLemmas

@@ -4,7 +4,9 @@ use Rattle.std.specs.Option.{option_map_or}
 use Rattle.std.specs.List.{AllByRecursion}
 use Rattle.std.specs.Borrow.{Bor}
 use Rattle.fm_grammar.specs.declared.MetricType.{MetricType}
-use Rattle.fm_grammar.specs.declared.MetricType.TheVariants.{Histogram, GaugeHistogram}
+use Rattle.fm_grammar.specs.declared.MetricType.TheVariants.{Histogram, GaugeHistogram, Summary}
+use Rattle.fm_grammar.specs.declared.SampleKind.{SampleKind}
+use Rattle.fm_grammar.specs.declared.SampleKind.TheVariants.{Count, Sum, GCount, GSum}
 use Rattle.fm_grammar.specs.WellFormed.{IsSample}
 use Rattle.fm_text.specs.declared.error.EncodeError.{EncodeError}
 use Rattle.fm_text.specs.declared.error.EncodeError.TheVariants.{KindMismatch, ExemplarCountMismatch, BucketOverflow}
@@ -19,6 +21,12 @@ abbrev pub HasBuckets : MetricType → Type 0
 HasBuckets Histogram = Unit {0}
 HasBuckets GaugeHistogram = Unit {0}
 HasBuckets _ = ⊥
+
+-- metrics of the type show how many values there are in a sample of this kind, and their sum in one of that
+abbrev pub HasTotals : MetricType → SampleKind → SampleKind → Type 0
+HasTotals type of_count of_sum =
+    (((type ≡ Histogram) ⊎ (type ≡ Summary)) × (of_count ≡ Count) × (of_sum ≡ Sum))
+    ⊎ ((type ≡ GaugeHistogram) × (of_count ≡ GCount) × (of_sum ≡ GSum))
 
 -- the exemplars of each slot
 abbrev pub slots_of : {E : Type 0} → (E → List HandedExemplar) → List (Option (Bor E)) → List (List HandedExemplar)

@@ -2,14 +2,14 @@
 -- nothing is refused, `Ok` means that the parts were handed over whole and are clean, and an error is want of memory or
 -- one that was declared. What is refused is want of memory, a declared error, or a fault that stands in the parts.
 -- Of the answer nothing is said once something is refused: a metric may lie, and breaks no document.
-use Rattle.std.specs.Prelude.{◌≡◌, ◌≤◌, List, [], ◌∷◌, ◌++◌, map, length, Some, None, Result, Ok, Err, ◌⊎◌}
-use Rattle.std.specs.List.{flat_map}
+use Rattle.std.specs.Prelude.{◌≡◌, ◌≤◌, List, [], ◌∷◌, ◌++◌, map, length, Contains, Some, None, Result, Ok, Err, ◌⊎◌}
+use Rattle.std.specs.List.{AllByRecursion, flat_map}
 use Rattle.fm_grammar.specs.Exposition.{Value, Sample}
 use Rattle.fm_text.specs.declared.error.EncodeError.{EncodeError}
-use Rattle.fm_text.specs.declared.error.EncodeError.TheVariants.{Memory, ValueTwice}
+use Rattle.fm_text.specs.declared.error.EncodeError.TheVariants.{Memory, ValueTwice, ExemplarTwice}
 use Rattle.fm_sink.specs.Output.{appended}
 use Rattle.fm_encoder.specs.Labels.{HandedLabel, PieceFault, LabelsFault, LabelsClean, all_written}
-use Rattle.fm_encoder.specs.Points.{HandedExemplar, ExemplarClean, ExemplarFault, written_as, Point, PointClean, HeadFault, PartsFault, point_samples, Member, MembersClean, MembersFault, members_samples}
+use Rattle.fm_encoder.specs.Points.{HandedExemplar, ExemplarPartsClean, ExemplarPartsFault, written_as, Point, PointClean, HeadFault, PartsFault, point_samples, Member, MembersClean, MembersFault, members_samples}
 use Rattle.fm_encoder.specs.Gathered.{GatheredPieces, GatheredLabels, GatheredNumbers, GatheredExemplars, GatheredPoints, GatheredMembers, OwnRefusal, OwnError}
 
 -- of what hands these pieces of a label to a label encoder
@@ -37,13 +37,14 @@ pub record HandsNumbers (numbers : List Value) (MayFault : Type 0) (old new : Ga
   pub own : (e : EncodeError) → new.refused ≡ None → result ≡ Err e → OwnError MayFault e
   pub refused : (k : EncodeError) → old.refused ≡ None → new.refused ≡ Some k → (k ≡ ValueTwice) × (2 ≤ length (old.numbers ++ numbers))
 
--- of what hands these exemplars to an exemplar encoder that has none
+-- of what hands these exemplars to an exemplar encoder
 pub record HandsExemplars (exemplars : List HandedExemplar) (MayFault : Type 0) (old new : GatheredExemplars) (result : Result (Unit {0}) EncodeError) : Type 0 where
   pub kept : (k : EncodeError) → old.refused ≡ Some k → new ≡ old
-  pub clean : old.refused ≡ None → new.refused ≡ None → result ≡ Ok tt → old.exemplars ≡ [] → ExemplarClean exemplars
+  pub clean : old.refused ≡ None → new.refused ≡ None → result ≡ Ok tt → AllByRecursion ExemplarPartsClean exemplars
   pub handed : old.refused ≡ None → new.refused ≡ None → result ≡ Ok tt → new.exemplars ≡ old.exemplars ++ map written_as exemplars
   pub own : (e : EncodeError) → new.refused ≡ None → result ≡ Err e → OwnError MayFault e
-  pub refused : (k : EncodeError) → old.refused ≡ None → old.exemplars ≡ [] → new.refused ≡ Some k → OwnRefusal MayFault k ⊎ ExemplarFault k exemplars
+  pub refused : (k : EncodeError) → old.refused ≡ None → new.refused ≡ Some k
+      → OwnRefusal MayFault k ⊎ (((k ≡ ExemplarTwice) × (2 ≤ length (old.exemplars ++ map written_as exemplars))) ⊎ ((exemplar : HandedExemplar) × Contains exemplars exemplar × ExemplarPartsFault k exemplar))
 
 -- points under the common labels of one member
 abbrev pub PointsClean : GatheredPoints → List Point → Type 0

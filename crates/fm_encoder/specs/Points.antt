@@ -4,16 +4,18 @@ use Rattle.std.specs.List.{AllByRecursion, flat_map}
 use Rattle.std.specs.Duration.{as_nanos}
 use Rattle.std.specs.declared.time.Duration.{Duration}
 use Rattle.fm_grammar.specs.declared.MetricType.{MetricType}
-use Rattle.fm_grammar.specs.declared.MetricType.TheVariants.{Unknown, Gauge, Counter, StateSet, Info as InfoType, Histogram}
+use Rattle.fm_grammar.specs.declared.MetricType.TheVariants.{Unknown, Gauge, Counter, StateSet, Info as InfoType, Histogram, GaugeHistogram, Summary}
 use Rattle.fm_grammar.specs.declared.SampleKind.{SampleKind}
-use Rattle.fm_grammar.specs.declared.SampleKind.TheVariants.{Plain, Total, Created, Bucket as BucketKind, Count, Sum, Info}
+use Rattle.fm_grammar.specs.declared.SampleKind.TheVariants.{Plain, Total, Created, Bucket as BucketKind, Count, Sum, GCount, GSum, Info}
 use Rattle.fm_grammar.specs.Exposition.{Text, Label, Value, Whole, Fixed, Millis, Exemplar, Sample}
+use Rattle.fm_grammar.specs.Numbers.{fixed_text}
 use Rattle.fm_grammar.specs.WellFormed.{label_code_points, IsSample}
 use Rattle.fm_text.specs.declared.error.EncodeError.{EncodeError}
 use Rattle.fm_text.specs.declared.error.EncodeError.TheVariants.{DuplicateLabel, KindMismatch, MissingValue, ValueTwice, ExemplarCountMismatch, BucketOverflow, ExemplarTwice, ExemplarTooLong}
 use Rattle.fm_bucket.specs.BoundTests.{bound_text}
 use Rattle.fm_bucket.specs.declared.bound.Bound.{Bound}
 use Rattle.fm_bucket.specs.declared.bound.Bucket.{Bucket}
+use Rattle.fm_bucket.specs.declared.quantile.Quantile.{Quantile}
 use Rattle.fm_encoder.specs.Labels.{HandedLabel, LabelsFault, LabelsClean, all_written, handed_again, label_names}
 
 -- the whole milliseconds of a duration
@@ -28,7 +30,8 @@ pub record HandedExemplar : Type 0 where
 
 -- A point as it is handed over. A value is the list of the numbers that its object wrote, an exemplar the list of the
 -- exemplars that its object wrote, a time of creation is in milliseconds. Buckets have their own counts, and each a slot for
--- an exemplar; behind them come how many values there are, and the values' sum in millionths.
+-- an exemplar; behind them come how many values there are, and the values' sum in millionths. A summary has quantiles, the values' sum,
+-- and how many there are.
 pub data Point : Type 0 where
   UnknownPoint : List Value → Point
   GaugePoint : List Value → Point
@@ -36,6 +39,8 @@ pub data Point : Type 0 where
   StateSetPoint : List (Text × Bool) → Point
   InfoPoint : List HandedLabel → Point
   HistogramPoint : List Bucket → List (List HandedExemplar) → ℕ → ℤ → Option ℕ → Point
+  GaugeHistogramPoint : List Bucket → List (List HandedExemplar) → ℕ → ℤ → Point
+  SummaryPoint : List Quantile → ℤ → ℕ → Option ℕ → Point
 
 -- a member: its labels, each as its pieces, and its point
 pub record Member : Type 0 where
@@ -61,6 +66,8 @@ type_of (CounterPoint numbers exemplars created) = Counter
 type_of (StateSetPoint states) = StateSet
 type_of (InfoPoint labels) = InfoType
 type_of (HistogramPoint buckets slots count sum created) = Histogram
+type_of (GaugeHistogramPoint buckets slots count sum) = GaugeHistogram
+type_of (SummaryPoint quantiles sum count created) = Summary
 
 -- a value object wrote just one number
 abbrev pub NumberClean : List Value → Type 0
@@ -71,8 +78,15 @@ NumberFault MissingValue numbers = numbers ≡ []
 NumberFault ValueTwice numbers = 2 ≤ length numbers
 NumberFault _ numbers = ⊥
 
--- An exemplar object wrote nothing, or one exemplar with clean labels of at most 128 code points. Exemplar labels have no
--- reserved names, as those of an unknown metric have none.
+-- What stands in one exemplar: clean labels of at most 128 code points. Exemplar labels have no reserved names, as those of an
+-- unknown metric have none.
+abbrev pub ExemplarPartsClean : HandedExemplar → Type 0
+ExemplarPartsClean exemplar = LabelsClean Unknown [] exemplar.labels × (label_code_points (all_written exemplar.labels) ≤ 128)
+
+abbrev pub ExemplarPartsFault : EncodeError → HandedExemplar → Type 0
+ExemplarPartsFault k exemplar = LabelsFault k Unknown [] exemplar.labels ⊎ ((k ≡ ExemplarTooLong) × (128 < label_code_points (all_written exemplar.labels)))
+
+-- an exemplar object wrote nothing, or one clean exemplar
 abbrev pub ExemplarClean : List HandedExemplar → Type 0
 ExemplarClean exemplars =
     (exemplars ≡ []) ⊎ ((exemplar : HandedExemplar) × (exemplars ≡ exemplar ∷ []) × LabelsClean Unknown [] exemplar.labels
@@ -81,8 +95,7 @@ ExemplarClean exemplars =
 abbrev pub ExemplarFault : EncodeError → List HandedExemplar → Type 0
 ExemplarFault k exemplars =
     ((k ≡ ExemplarTwice) × (2 ≤ length exemplars))
-    ⊎ ((exemplar : HandedExemplar) × Contains exemplars exemplar
-    × (LabelsFault k Unknown [] exemplar.labels ⊎ ((k ≡ ExemplarTooLong) × (128 < label_code_points (all_written exemplar.labels)))))
+    ⊎ ((exemplar : HandedExemplar) × Contains exemplars exemplar × ExemplarPartsFault k exemplar)
 
 -- how many values the buckets have together
 abbrev pub values_in : List Bucket → ℕ
@@ -101,6 +114,7 @@ BucketsFault k buckets slots =
 -- the point has buckets, and slots of another number
 abbrev pub SlotsDiffer : Point → Type 0
 SlotsDiffer (HistogramPoint buckets slots count sum created) = ¬ (length slots ≡ length buckets)
+SlotsDiffer (GaugeHistogramPoint buckets slots count sum) = ¬ (length slots ≡ length buckets)
 SlotsDiffer _ = ⊥
 
 -- what stands in a point of its family's type, under these common labels
@@ -111,6 +125,8 @@ PartsClean setting common (CounterPoint numbers exemplars created) = NumberClean
 PartsClean setting common (StateSetPoint states) = (states ≡ []) ⊎ (¬ (Contains (label_names common) setting.name))
 PartsClean setting common (InfoPoint labels) = LabelsClean setting.metric_type common labels
 PartsClean setting common (HistogramPoint buckets slots count sum created) = BucketsClean buckets slots
+PartsClean setting common (GaugeHistogramPoint buckets slots count sum) = BucketsClean buckets slots
+PartsClean setting common (SummaryPoint quantiles sum count created) = Unit {0}
 
 abbrev pub PartsFault : EncodeError → Setting → List Label → Point → Type 0
 PartsFault k setting common (UnknownPoint numbers) = NumberFault k numbers
@@ -119,6 +135,8 @@ PartsFault k setting common (CounterPoint numbers exemplars created) = NumberFau
 PartsFault k setting common (StateSetPoint states) = (k ≡ DuplicateLabel) × (¬ (states ≡ [])) × Contains (label_names common) setting.name
 PartsFault k setting common (InfoPoint labels) = LabelsFault k setting.metric_type common labels
 PartsFault k setting common (HistogramPoint buckets slots count sum created) = BucketsFault k buckets slots
+PartsFault k setting common (GaugeHistogramPoint buckets slots count sum) = BucketsFault k buckets slots
+PartsFault k setting common (SummaryPoint quantiles sum count created) = ⊥
 
 -- the fault stands in the point, whatever its labels are: in its type, or in the number of its slots
 abbrev pub HeadFault : EncodeError → Setting → Point → Type 0
@@ -176,12 +194,29 @@ bucket_samples setting common before (bucket ∷ buckets) (exemplars ∷ slots) 
     bucket_sample setting common before bucket exemplars ∷ bucket_samples setting common (before ++ bucket ∷ []) buckets slots
 bucket_samples setting common before _ _ = []
 
--- how many values there are, and their sum
-abbrev pub count_sample : Setting → List Label → ℕ → Sample
-count_sample setting common count = plain_sample setting common Count [] (Whole (pos count))
+-- how many values there are, and their sum, in samples of these kinds
+abbrev pub count_sample : Setting → List Label → SampleKind → ℕ → Sample
+count_sample setting common of_count count = plain_sample setting common of_count [] (Whole (pos count))
 
-abbrev pub sum_sample : Setting → List Label → ℤ → Sample
-sum_sample setting common sum = plain_sample setting common Sum [] (Fixed sum)
+abbrev pub sum_sample : Setting → List Label → SampleKind → ℤ → Sample
+sum_sample setting common of_sum sum = plain_sample setting common of_sum [] (Fixed sum)
+
+-- how many values there are, their sum, and a `Created` sample, where there is one
+abbrev pub total_samples : Setting → List Label → ℕ → ℤ → Option ℕ → List Sample
+total_samples setting common count sum created =
+    count_sample setting common Count count ∷ sum_sample setting common Sum sum ∷ created_samples setting common created
+
+-- the same of values that rise and fall
+abbrev pub gauge_total_samples : Setting → List Label → ℕ → ℤ → List Sample
+gauge_total_samples setting common count sum = count_sample setting common GCount count ∷ sum_sample setting common GSum sum ∷ []
+
+-- the own label of a quantile
+abbrev pub quantile_label : Quantile → Label
+quantile_label quantile = record { name = codes "quantile"; value = fixed_text quantile.quantile }
+
+-- the sample of a quantile shows its value
+abbrev pub quantile_sample : Setting → List Label → Quantile → Sample
+quantile_sample setting common quantile = plain_sample setting common Plain (quantile_label quantile ∷ []) (Fixed quantile.value)
 
 -- the samples of a clean point under these common labels, in order
 abbrev pub point_samples : Setting → List Label → Point → List Sample
@@ -192,8 +227,11 @@ point_samples setting common (CounterPoint numbers exemplars created) =
 point_samples setting common (StateSetPoint states) = map (state_sample setting common) states
 point_samples setting common (InfoPoint labels) = plain_sample setting common Info (all_written labels) (Whole (pos 1)) ∷ []
 point_samples setting common (HistogramPoint buckets slots count sum created) =
-    bucket_samples setting common [] buckets slots
-    ++ (count_sample setting common count ∷ sum_sample setting common sum ∷ created_samples setting common created)
+    bucket_samples setting common [] buckets slots ++ total_samples setting common count sum created
+point_samples setting common (GaugeHistogramPoint buckets slots count sum) =
+    bucket_samples setting common [] buckets slots ++ gauge_total_samples setting common count sum
+point_samples setting common (SummaryPoint quantiles sum count created) =
+    map (quantile_sample setting common) quantiles ++ total_samples setting common count sum created
 
 -- the point has its family's type, its parts are clean, and its samples are well formed
 pub record PointClean (setting : Setting) (common : List Label) (point : Point) : Type 0 where

@@ -1,15 +1,29 @@
 //! Exemplars: what hands them over, and the encoder that takes one.
-ghost use Rattle.std.specs.Prelude.{◌≡◌, ◌⊎◌, List, [], MatchResult, MatchOption, Option, IfSome, None};
+ghost use Rattle.std.specs.Prelude.{◌≡◌, ◌^◌, ◌⊎◌, List, [], ◌∷◌, MatchResult, MatchOption, Option, IfSome, None, Some, Err};
 ghost use Rattle.std.specs.Option.{option_map, option_map_or};
-ghost use Rattle.fm_grammar.specs.WellFormed.{IsExemplar};
-ghost use Rattle.fm_text.specs.Samples.{exemplar_of};
-ghost use Rattle.fm_encoder.specs.Points.{HandedExemplar, ExemplarClean, ExemplarFault, written_exemplar};
-ghost use Rattle.fm_encoder.specs.Gathered.{OwnRefusal};
+ghost use Rattle.fm_grammar.specs.declared.MetricType.TheVariants.{Unknown};
+ghost use Rattle.fm_grammar.specs.WellFormed.{IsBetween, IsExemplar, AreMillis};
+ghost use Rattle.fm_text.specs.Samples.{labels_of, exemplar_of};
+ghost use Rattle.fm_encoder.specs.Labels.{LabelsClean, LabelsFault, all_written};
+ghost use Rattle.fm_encoder.specs.Points.{HandedExemplar, ExemplarPartsClean, ExemplarPartsFault, ExemplarClean, ExemplarFault, written_as, written_exemplar, millis};
+ghost use Rattle.fm_encoder.specs.Gathered.{OwnRefusal, answer};
 ghost use Rattle.fm_encoder.specs.Hands.{HandsExemplars};
 
+use crate::label::LabelSetEncoder;
+use crate::label_set::EncodeLabelSet;
 use crate::own::own_refusal;
-use fm_text::{EncodeError, Exemplar};
+use fm_code_points::are_short;
+use fm_grammar::MetricType;
+use fm_raw::fixed::Fixed;
+use fm_sink::{LabelText, owned_labels};
+use fm_text::{EncodeError, Exemplar, make};
+use std::alloc::Global;
 use std::marker::Model;
+use std::time::Duration;
+
+mod labeled;
+
+pub use labeled::LabeledExemplar;
 
 /// Something that hands over an exemplar, or none.
 pub trait EncodeExemplar {
@@ -37,6 +51,7 @@ impl EncodeExemplar for () {
 /// Takes the exemplar of a sample.
 #[derive(Drop)]
 pub struct ExemplarEncoder {
+    alloc: Global,
     exemplar: Option<Exemplar>,
     refused: Option<EncodeError>,
 }
@@ -58,8 +73,103 @@ impl Model for ExemplarEncoder {
     ghost invariant = { λ e. IfSome e.exemplar (λ x. IsExemplar (exemplar_of x)) };
 }
 
+impl ExemplarEncoder {
+    fn refuse(&mut self, error: EncodeError) -> Result<(), EncodeError>
+        ensures refused { self.new ≡ record self.old { refused = Some error } }
+        ensures answered { result ≡ Err error }
+    {
+        self.refused = Some(error);
+        Err(error)
+    }
+
+    /// Takes the exemplar: its labels, the value of the observation, and when it was made, of which whole milliseconds are
+    /// written. The labels are always read.
+    ///
+    /// It is refused, in this order, as `ExemplarTwice` after another exemplar, then for its labels, which have no reserved
+    /// names, and as `ExemplarTooLong` where their names and values have more than 128 code points together. It may find no memory.
+    pub fn encode<LS: EncodeLabelSet>(
+        &mut self,
+        labels: &LS,
+        value: Fixed,
+        time: Option<Duration>,
+    ) -> Result<(), EncodeError>
+        ensures handed { HandsExemplars (record { labels = LS.labels labels.now; value = value; time = option_map millis time } ∷ []) (LS.may_fault labels.now) self.old self.new result }
+        ensures answered { result ≡ answer self.new.refused }
+    {
+        if let Some(error) = self.refused {
+            return Err(error);
+        }
+        if self.exemplar.is_some() {
+            return self.refuse(EncodeError::ExemplarTwice);
+        }
+        match exemplar_from(self.alloc, labels, value, time) {
+            Ok(exemplar) => {
+                self.exemplar = Some(exemplar);
+                Ok(())
+            }
+            Err(error) => self.refuse(error),
+        }
+    }
+}
+
+// The exemplar of these parts.
+fn exemplar_from<LS: EncodeLabelSet>(
+    alloc: Global,
+    labels: &LS,
+    value: Fixed,
+    time: Option<Duration>,
+) -> Result<Exemplar, EncodeError>
+    ensures { let handed : HandedExemplar = record { labels = LS.labels labels.now; value = value; time = option_map millis time } in
+        MatchResult result
+        (λ x. ExemplarPartsClean handed × (exemplar_of x ≡ written_as handed) × IsExemplar (exemplar_of x))
+        (λ k. OwnRefusal (LS.may_fault labels.now) k ⊎ ExemplarPartsFault k handed) }
+{
+    let written = written_labels(alloc, labels)?;
+    if !are_short(&written) {
+        return Err(EncodeError::ExemplarTooLong);
+    }
+    Ok(make::exemplar(written, in_range(value), whole_millis(time)))
+}
+
+// The same value, of which the range is known.
+#[tactic(auto, using(crate::proofs::ExemplarLemmas::between_of_signed))]
+fn in_range(value: Fixed) -> Fixed
+    ensures same { result ≡ value }
+    ensures fits { IsBetween (2 ^ 63) (2 ^ 63) value }
+{
+    Fixed::from_millionths(value.millionths())
+}
+
+// The whole milliseconds of a time, where there is one.
+fn whole_millis(time: Option<Duration>) -> Option<u128>
+    ensures whole { result ≡ option_map millis time }
+    ensures fit { IfSome result AreMillis }
+{
+    match time {
+        Some(time) => Some(time.as_millis()),
+        None => None,
+    }
+}
+
+// The labels that a label set hands over to an exemplar.
+fn written_labels<LS: EncodeLabelSet>(
+    alloc: Global,
+    labels: &LS,
+) -> Result<Vec<(String, String)>, EncodeError>
+    ensures { MatchResult result
+        (λ ls. LabelsClean Unknown [] (LS.labels labels.now) × (labels_of ls.items ≡ all_written (LS.labels labels.now)))
+        (λ k. OwnRefusal (LS.may_fault labels.now) k ⊎ LabelsFault k Unknown [] (LS.labels labels.now)) }
+{
+    let mut encoder = LabelSetEncoder::behind(MetricType::Unknown, LabelText::new(alloc));
+    let visited = labels.encode(&mut encoder);
+    let read = encoder.end(visited)?;
+    let pairs = read.pairs(alloc, 0)?;
+    Ok(owned_labels(alloc, &pairs)?)
+}
+
 // The exemplar that an exemplar object hands over, if it hands one over.
 pub(crate) fn exemplar_given<E: EncodeExemplar>(
+    alloc: Global,
     exemplar: &E,
 ) -> Result<Option<Exemplar>, EncodeError>
     ensures { MatchResult result
@@ -67,11 +177,16 @@ pub(crate) fn exemplar_given<E: EncodeExemplar>(
         (λ k. OwnRefusal (E.may_fault exemplar.now) k ⊎ ExemplarFault k (E.exemplars exemplar.now)) }
 {
     let mut encoder = ExemplarEncoder {
+        alloc,
         exemplar: None,
         refused: None,
     };
     let visited = exemplar.encode(&mut encoder);
-    let ExemplarEncoder { exemplar, refused } = encoder;
+    let ExemplarEncoder {
+        exemplar,
+        refused,
+        ..
+    } = encoder;
     if let Some(error) = refused {
         return Err(error);
     }
@@ -83,6 +198,7 @@ pub(crate) fn exemplar_given<E: EncodeExemplar>(
 
 // The same of an exemplar that may be missing.
 pub(crate) fn exemplar_if_any<E: EncodeExemplar>(
+    alloc: Global,
     exemplar: Option<&E>,
 ) -> Result<Option<Exemplar>, EncodeError>
     ensures { let handed = option_map_or (λ e. E.exemplars e.now) exemplar.entry [] in
@@ -91,7 +207,7 @@ pub(crate) fn exemplar_if_any<E: EncodeExemplar>(
         (λ k. OwnRefusal (MatchOption exemplar.entry ⊥ (λ e. E.may_fault e.now)) k ⊎ ExemplarFault k handed) }
 {
     match exemplar {
-        Some(exemplar) => exemplar_given(exemplar),
+        Some(exemplar) => exemplar_given(alloc, exemplar),
         None => Ok(None),
     }
 }

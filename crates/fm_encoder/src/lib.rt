@@ -20,14 +20,14 @@ mod own;
 pub mod point;
 pub mod value;
 
-pub use exemplar::{EncodeExemplar, ExemplarEncoder};
+pub use exemplar::{EncodeExemplar, ExemplarEncoder, LabeledExemplar};
 pub use fm_text::EncodeError;
 pub use label::{EncodeLabel, EncodeLabelName, EncodeLabelValue, LabelEncoder, LabelSetEncoder};
 pub use label_set::{EncodeLabelSet, LabelSlice};
 pub use label_value::{LabelStr, StaticStr};
 pub use law::counts_add_up;
 pub use metric::{EncodeMetric, MetricEncoder};
-pub use point::histogram::bare::encode_bare_histogram;
+pub use point::histogram::bare::{encode_bare_gauge_histogram, encode_bare_histogram};
 pub use point::{EncodePoint, PointEncoder};
 pub use value::{
     CounterValueEncoder, EncodeCounterValue, EncodeGaugeValue, EncodeUnknownValue,

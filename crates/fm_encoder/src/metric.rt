@@ -26,6 +26,7 @@ use std::marker::Model;
 use std::time::Duration;
 
 mod histogram;
+mod summary;
 
 /// A metric, which a registry holds in a box.
 ///

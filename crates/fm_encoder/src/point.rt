@@ -31,6 +31,8 @@ use std::marker::Model;
 use std::time::Duration;
 
 pub(crate) mod histogram;
+mod summary;
+mod totals;
 
 /// Something that hands over points, mostly one.
 pub trait EncodePoint {
@@ -265,7 +267,7 @@ impl PointEncoder {
             Ok(number) => number,
             Err(error) => return self.refuse(error),
         };
-        let exemplar = match exemplar_if_any(exemplar) {
+        let exemplar = match exemplar_if_any(self.alloc, exemplar) {
             Ok(exemplar) => exemplar,
             Err(error) => return self.refuse(error),
         };

@@ -1,15 +1,15 @@
 -- What histograms hand over to encoders.
-use Rattle.std.proofs.Common.{◌≡◌, ℕ, ℤ, Bool, List, [], ◌∷◌, Option, Result, inl, inr}
+use Rattle.std.proofs.Common.{◌≡◌, ℤ, Bool, [], ◌∷◌, Result, inl, inr}
 use Rattle.fm_text.specs.declared.error.EncodeError.{EncodeError}
+use Rattle.fm_encoder.specs.Points.{Point}
 use Rattle.fm_encoder.specs.Gathered.{GatheredPoints}
 use Rattle.fm_encoder.specs.Hands.{HandsPoints}
 use Rattle.fm_histogram.specs.Histogram.{Histogram, CountsTaken}
-use Rattle.fm_histogram.specs.Shown.{point_of}
 
 -- the point of one histogram is that of some
-pub HandsPoints-some : (taken : ℤ → Bool) (s : Histogram) (created : Option ℕ) (old new : GatheredPoints) (r : Result (Unit {0}) EncodeError) → CountsTaken taken s → HandsPoints (λ ps. ps ≡ point_of s created ∷ []) ⊥ old new r
-    → HandsPoints (λ ps. (some : Histogram) × CountsTaken taken some × (ps ≡ point_of some created ∷ [])) ⊥ old new r
-HandsPoints-some taken s created old new r counts a = record {
+pub HandsPoints-some : (point : Histogram → Point) (taken : ℤ → Bool) (s : Histogram) (old new : GatheredPoints) (r : Result (Unit {0}) EncodeError) → CountsTaken taken s → HandsPoints (λ ps. ps ≡ point s ∷ []) ⊥ old new r
+    → HandsPoints (λ ps. (some : Histogram) × CountsTaken taken some × (ps ≡ point some ∷ [])) ⊥ old new r
+HandsPoints-some point taken s old new r counts a = record {
   place = a.place;
   kept = a.kept;
   handed = λ o n e. (let h = a.handed o n e in (h.0, (s, counts, h.1), h.2, h.3));

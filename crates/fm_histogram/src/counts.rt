@@ -2,10 +2,11 @@
 ghost use Rattle.std.specs.Prelude.{◌≡◌, ℕ, ℤ, pos, true, ◌+◌, ◌^◌, ◌<◌, ◌≤◌, ◌↔◌, List, [], ◌∷◌, ◌++◌, None, Err, IfOk, IfErr, OnOk, OnErr, length, ◌⊎◌, ◌≢◌, IsTrue, slice_index_or, slice_set};
 ghost use Rattle.fm_raw.specs.declared.error.MetricError.TheVariants.{Memory, CountFull, UnequalBounds};
 ghost use Rattle.fm_bucket.specs.declared.bound.Bucket.{Bucket as OneBucket};
+ghost use Rattle.fm_bucket.specs.Bounds.{default_bounds};
 ghost use Rattle.fm_histogram.specs.Histogram.{IsCounts, rises, upper_bounds, one_more, merged, merged_buckets};
 
 use crate::place::place_of;
-use fm_bucket::{Bound, Bucket};
+use fm_bucket::{Bound, Bucket, default_buckets};
 use fm_raw::{Fixed, MetricError};
 use std::alloc::Global;
 use std::marker::{Brand, Model};
@@ -49,6 +50,14 @@ impl Counts {
             count: 0,
             sum: 0,
         })
+    }
+
+    // Counts of no values, by the bounds that suit most durations.
+    pub(crate) fn with_default_bounds(alloc: Global) -> Result<Counts, MetricError>
+        ensures bounds { IfOk result (IsCounts default_bounds []) }
+        ensures only_memory { IfErr result (λ e. e ≡ Memory) }
+    {
+        Counts::new(alloc, default_buckets().to_vec(alloc)?)
     }
 
     pub(crate) fn buckets(&self) -> &[Bucket]

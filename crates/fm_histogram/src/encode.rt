@@ -1,13 +1,16 @@
-// Snapshots of histograms as metrics.
+// Snapshots of histograms and gauge histograms as metrics.
 ghost use Rattle.std.specs.Prelude.{◌≡◌, [], ◌∷◌, None};
 ghost use Rattle.std.specs.Option.{option_map};
-ghost use Rattle.fm_grammar.specs.declared.MetricType.TheVariants.{Histogram as HistogramType};
+ghost use Rattle.fm_grammar.specs.declared.MetricType.TheVariants.{Histogram as HistogramType, GaugeHistogram as GaugeHistogramType};
 ghost use Rattle.fm_encoder.specs.Points.{millis};
 ghost use Rattle.fm_encoder.specs.Hands.{HandsPoints};
-ghost use Rattle.fm_histogram.specs.Shown.{point_of, member_of};
+ghost use Rattle.fm_histogram.specs.Shown.{point_of, member_of, gauge_point_of, gauge_member_of};
 
-use crate::snapshot::HistogramSnapshot;
-use fm_encoder::{EncodeMetric, EncodePoint, MetricEncoder, PointEncoder, encode_bare_histogram};
+use crate::snapshot::{GaugeHistogramSnapshot, HistogramSnapshot};
+use fm_encoder::{
+    EncodeMetric, EncodePoint, MetricEncoder, PointEncoder, encode_bare_gauge_histogram,
+    encode_bare_histogram,
+};
 use fm_raw::{MetricType, TypedMetric};
 use fm_text::EncodeError;
 use std::time::Duration;
@@ -55,6 +58,39 @@ impl EncodeMetric for HistogramSnapshot {
 
     fn metric_type(&self) -> MetricType {
         MetricType::Histogram
+    }
+
+    fn timestamp(&self) -> Option<Duration> {
+        None
+    }
+}
+
+impl TypedMetric for GaugeHistogramSnapshot {
+    ghost TYPE = { GaugeHistogramType };
+
+    const TYPE: MetricType = MetricType::GaugeHistogram;
+}
+
+/// The snapshot's buckets without exemplars, its count and its sum.
+impl EncodePoint for GaugeHistogramSnapshot {
+    ghost points = { λ s ps. ps ≡ gauge_point_of s ∷ [] };
+
+    fn encode(&self, points: &mut PointEncoder) -> Result<(), EncodeError> {
+        encode_bare_gauge_histogram(points, self.buckets(), self.gcount(), self.gsum())
+    }
+}
+
+impl EncodeMetric for GaugeHistogramSnapshot {
+    ghost types = { λ _ t. t ≡ GaugeHistogramType };
+
+    ghost offers = { λ s ms. ms ≡ gauge_member_of s ∷ [] };
+
+    fn encode(&self, encoder: &mut MetricEncoder) -> Result<(), EncodeError> {
+        encoder.encode(&(), self)
+    }
+
+    fn metric_type(&self) -> MetricType {
+        MetricType::GaugeHistogram
     }
 
     fn timestamp(&self) -> Option<Duration> {

@@ -7,7 +7,7 @@ ghost use Rattle.fm_histogram.specs.Histogram.{IsHistogram, CountsTaken, IsBound
 
 use crate::counts::Counts;
 use crate::rising::rising_bounds;
-use fm_bucket::{Bucket, default_buckets};
+use fm_bucket::Bucket;
 use fm_raw::{Fixed, FixedSum, MetricError};
 use std::alloc::Global;
 use std::marker::Model;
@@ -51,7 +51,7 @@ impl HistogramSnapshot {
         ensures bounds { IfOk result (IsHistogram is_taken default_bounds []) }
         ensures only_memory { IfErr result (λ e. e ≡ Memory) }
     {
-        let counts = Counts::new(alloc, default_buckets().to_vec(alloc)?)?;
+        let counts = Counts::with_default_bounds(alloc)?;
         Ok(HistogramSnapshot { counts })
     }
 
@@ -146,6 +146,15 @@ impl GaugeHistogramSnapshot {
         Ok(GaugeHistogramSnapshot { counts })
     }
 
+    // A gauge histogram of no values with the bounds that suit most durations.
+    pub(crate) fn with_default_bounds(alloc: Global) -> Result<GaugeHistogramSnapshot, MetricError>
+        ensures bounds { IfOk result (IsHistogram takes_all default_bounds []) }
+        ensures only_memory { IfErr result (λ e. e ≡ Memory) }
+    {
+        let counts = Counts::with_default_bounds(alloc)?;
+        Ok(GaugeHistogramSnapshot { counts })
+    }
+
     /// The buckets, from the least bound on. The last one has the bound `Inf`.
     pub fn buckets(&self) -> &[Bucket]
         ensures { result.now ≡ self.now.buckets }
@@ -165,6 +174,13 @@ impl GaugeHistogramSnapshot {
         ensures { result ≡ self.now.sum }
     {
         FixedSum::from_millionths(self.counts.sum())
+    }
+
+    // Each snapshot counts some values.
+    pub(crate) fn counts_taken(&self)
+        ensures { CountsTaken takes_all self.now }
+    {
+        let _ = &self.counts;
     }
 
     /// Counts a value in the first bucket whose bound is not below it.

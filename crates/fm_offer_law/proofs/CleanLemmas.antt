@@ -10,7 +10,7 @@ use Rattle.fm_text.specs.declared.error.EncodeError.{EncodeError}
 use Rattle.fm_text.specs.declared.error.EncodeError.TheVariants.{InvalidLabelName, ReservedLabel, DuplicateLabel, MissingValue, ValueTwice}
 use Rattle.fm_bucket.specs.declared.bound.Bucket.{Bucket}
 use Rattle.fm_encoder.specs.Labels.{HandedLabel, NamePiece, ValuePiece, NameFits, NameFault, LabelClean, LabelFault, LabelsClean, LabelsFault, all_written}
-use Rattle.fm_encoder.specs.Points.{HandedExemplar, Point, UnknownPoint, GaugePoint, CounterPoint, StateSetPoint, InfoPoint, HistogramPoint, Member, Setting, Context, NumberClean, NumberFault, ExemplarClean, ExemplarFault, BucketsClean, BucketsFault, PartsClean, PartsFault, PointClean, PointFault, SlotsDiffer, MemberClean, MemberFault, MembersClean, MembersFault, common_handed, common_written}
+use Rattle.fm_encoder.specs.Points.{HandedExemplar, Point, UnknownPoint, GaugePoint, CounterPoint, StateSetPoint, InfoPoint, HistogramPoint, GaugeHistogramPoint, SummaryPoint, Member, Setting, Context, NumberClean, NumberFault, ExemplarClean, ExemplarFault, BucketsClean, BucketsFault, PartsClean, PartsFault, PointClean, PointFault, SlotsDiffer, MemberClean, MemberFault, MembersClean, MembersFault, common_handed, common_written}
 
 -- elements of short lists
 
@@ -100,9 +100,12 @@ parts_clean k setting common (StateSetPoint states) (inl none) fault = fault.1 n
 parts_clean k setting common (StateSetPoint states) (inr fresh) fault = fresh fault.2
 parts_clean k setting common (InfoPoint labels) clean fault = labels_clean k _ common labels clean fault
 parts_clean k setting common (HistogramPoint buckets slots count sum created) clean fault = buckets_clean k buckets slots clean fault
+parts_clean k setting common (GaugeHistogramPoint buckets slots count sum) clean fault = buckets_clean k buckets slots clean fault
+parts_clean k setting common (SummaryPoint quantiles sum count created) clean fault = fault
 
 slots_clean : (setting : Setting) (common : List Label) (point : Point) → PartsClean setting common point → ¬ (SlotsDiffer point)
 slots_clean setting common (HistogramPoint buckets slots count sum created) clean differ = differ clean.0
+slots_clean setting common (GaugeHistogramPoint buckets slots count sum) clean differ = differ clean.0
 slots_clean setting common _ clean differ = differ
 
 point_clean : (k : EncodeError) (setting : Setting) (common : List Label) (point : Point) → PointClean setting common point → ¬ (PointFault k setting common point)

@@ -18,7 +18,7 @@ use Rattle.fm_text.specs.declared.error.EncodeError.{EncodeError}
 use Rattle.fm_text.specs.declared.error.EncodeError.TheVariants.{InvalidLabelName, ReservedLabel, DuplicateLabel, MalformedLabel, MissingValue, ValueTwice, KindMismatch, ExemplarCountMismatch, BucketOverflow, ExemplarTwice, ExemplarTooLong}
 use Rattle.fm_bucket.specs.declared.bound.Bucket.{Bucket}
 use Rattle.fm_encoder.specs.Labels.{HandedLabel, NamePiece, ValuePiece, IsReserved, IsMalformed, NameFits, NameFault, LabelClean, LabelFault, LabelsClean, LabelsFault, label_names, all_written, written}
-use Rattle.fm_encoder.specs.Points.{HandedExemplar, Point, UnknownPoint, GaugePoint, CounterPoint, StateSetPoint, InfoPoint, HistogramPoint, Member, Setting, Context, NumberClean, NumberFault, ExemplarClean, ExemplarFault, BucketsClean, BucketsFault, PartsClean, PartsFault, PointClean, PointFault, MemberClean, MemberFault, MembersClean, MembersFault, common_handed, common_written, values_in, type_of, point_samples}
+use Rattle.fm_encoder.specs.Points.{HandedExemplar, Point, UnknownPoint, GaugePoint, CounterPoint, StateSetPoint, InfoPoint, HistogramPoint, GaugeHistogramPoint, SummaryPoint, Member, Setting, Context, NumberClean, NumberFault, ExemplarClean, ExemplarFault, BucketsClean, BucketsFault, PartsClean, PartsFault, PointClean, PointFault, SlotsDiffer, MemberClean, MemberFault, MembersClean, MembersFault, common_handed, common_written, values_in, type_of, point_samples}
 
 -- some error names a fault that stands there
 abbrev pub SomeFault : (EncodeError → Type 0) → Type 0
@@ -138,10 +138,14 @@ buckets_or_fault buckets slots even = elim (at_most_or_more (2 ^ 64) (values_in 
   ])
 ]
 
-histogram_or_fault : (setting : Setting) (common : List Label) (buckets : List Bucket) (slots : List (List HandedExemplar)) (count : _) (sum : _) (created : _) → PartsClean setting common (HistogramPoint buckets slots count sum created) ⊎ SomeFault (λ k. PointFault k setting common (HistogramPoint buckets slots count sum created))
-histogram_or_fault setting common buckets slots count sum created = elim (known (length slots == length buckets) (Decides-eqb (length slots) (length buckets))) [
-  | inl even ↦ point_of_parts setting common (HistogramPoint buckets slots count sum created) (buckets_or_fault buckets slots even)
-  | inr differ ↦ inr (ExemplarCountMismatch, inl (inr (refl, differ)))
+-- a point whose parts are its buckets
+buckets_point_or_fault : (setting : Setting) (common : List Label) (point : Point) (buckets : List Bucket) (slots : List (List HandedExemplar)) → (BucketsClean buckets slots → PartsClean setting common point) → ((k : EncodeError) → BucketsFault k buckets slots → PartsFault k setting common point) → (¬ (length slots ≡ length buckets) → SlotsDiffer point) → PartsClean setting common point ⊎ SomeFault (λ k. PointFault k setting common point)
+buckets_point_or_fault setting common point buckets slots are_clean are_fault differ = elim (known (length slots == length buckets) (Decides-eqb (length slots) (length buckets))) [
+  | inr uneven ↦ inr (ExemplarCountMismatch, inl (inr (refl, differ uneven)))
+  | inl even ↦ (elim (buckets_or_fault buckets slots even) [
+    | inl clean ↦ inl (are_clean clean)
+    | inr (k, fault) ↦ inr (k, inr (are_fault k fault))
+  ])
 ]
 
 parts_or_fault : (setting : Setting) (common : List Label) (point : Point) → PartsClean setting common point ⊎ SomeFault (λ k. PointFault k setting common point)
@@ -151,7 +155,9 @@ parts_or_fault setting common (CounterPoint numbers exemplars created) =
     point_of_parts setting common (CounterPoint numbers exemplars created) (counter_or_fault setting common numbers exemplars created)
 parts_or_fault setting common (StateSetPoint states) = point_of_parts setting common (StateSetPoint states) (states_or_fault setting common states)
 parts_or_fault setting common (InfoPoint labels) = point_of_parts setting common (InfoPoint labels) (labels_or_fault setting.metric_type common labels)
-parts_or_fault setting common (HistogramPoint buckets slots count sum created) = histogram_or_fault setting common buckets slots count sum created
+parts_or_fault setting common (HistogramPoint buckets slots count sum created) = buckets_point_or_fault setting common (HistogramPoint buckets slots count sum created) buckets slots (λ clean. clean) (λ k fault. fault) (λ differ. differ)
+parts_or_fault setting common (GaugeHistogramPoint buckets slots count sum) = buckets_point_or_fault setting common (GaugeHistogramPoint buckets slots count sum) buckets slots (λ clean. clean) (λ k fault. fault) (λ differ. differ)
+parts_or_fault setting common (SummaryPoint quantiles sum count created) = inl tt
 
 -- a point's samples are well formed, where its parts are clean
 abbrev pub Forms : Setting → List Label → Point → Type 0

@@ -1,22 +1,23 @@
 -- The samples of a point are well formed, where its numbers are in range and its labels and its parts are clean.
-use Rattle.std.proofs.Common.{◌≡◌, ℕ, ℤ, pos, ◌<◌, ◌+◌, ◌^◌, ◌++◌, List, [], ◌∷◌, map, Bool, true, false, Option, Some, None, IfSome, inl, inr, refl, sym, subst, append_assoc, append-nil, arith}
+use Rattle.std.proofs.Common.{◌≡◌, ℕ, ℤ, pos, ◌<◌, ◌+◌, ◌^◌, ◌++◌, List, [], ◌∷◌, map, Bool, true, false, Option, codes, Some, None, IfSome, inl, inr, refl, sym, subst, append_assoc, append-nil, arith}
 use Rattle.std.specs.Prelude.{Contains}
 use Rattle.std.specs.List.{AllByRecursion}
 use Rattle.std.proofs.lemmas.List.Sums.{sum_by-append}
 use Rattle.fm_grammar.specs.declared.MetricType.{MetricType}
-use Rattle.fm_grammar.specs.declared.MetricType.TheVariants.{Unknown, Gauge, Counter, StateSet, Info as InfoType, Histogram}
-use Rattle.fm_grammar.specs.declared.SampleKind.TheVariants.{Plain, Total, Created, Info}
+use Rattle.fm_grammar.specs.declared.MetricType.TheVariants.{Unknown, Gauge, Counter, StateSet, Info as InfoType, Histogram, GaugeHistogram, Summary}
+use Rattle.fm_grammar.specs.declared.SampleKind.TheVariants.{Plain, Total, Created, Bucket as BucketKind, Count, Sum, Info}
 use Rattle.fm_grammar.specs.Exposition.{Text, Label, Value, Whole, Fixed, Millis}
 use Rattle.fm_grammar.specs.Names.{IsSnakeCase}
 use Rattle.fm_grammar.specs.WellFormed.{kinds_of, AreLabels, ValueSuits, ValueFits, AreMillis, IsExemplar, IsSample}
 use Rattle.fm_grammar.proofs.Runs.{all_append}
 use Rattle.fm_bucket.specs.declared.bound.Bucket.{Bucket}
-use Rattle.fm_encoder.specs.Labels.{HandedLabel, AreFree, LabelsClean, label_names, all_written}
-use Rattle.fm_encoder.specs.Points.{HandedExemplar, Point, UnknownPoint, GaugePoint, CounterPoint, StateSetPoint, InfoPoint, HistogramPoint, Member, Setting, Context, ExemplarClean, BucketsClean, PartsClean, type_of, common_handed, common_written, values_in, plain_sample, written_exemplar, created_samples, total_sample, state_value, state_sample, bound_label, bucket_samples, count_sample, sum_sample, point_samples}
+use Rattle.fm_bucket.specs.declared.quantile.Quantile.{Quantile}
+use Rattle.fm_encoder.specs.Labels.{HandedLabel, IsReserved, AreFree, LabelsClean, label_names, all_written}
+use Rattle.fm_encoder.specs.Points.{HandedExemplar, Point, UnknownPoint, GaugePoint, CounterPoint, StateSetPoint, InfoPoint, HistogramPoint, GaugeHistogramPoint, SummaryPoint, Member, Setting, Context, ExemplarClean, BucketsClean, PartsClean, type_of, common_handed, common_written, values_in, plain_sample, written_exemplar, created_samples, total_sample, state_value, state_sample, bound_label, bucket_samples, total_samples, quantile_label, quantile_sample, point_samples}
 use Rattle.fm_encoder.specs.Steps.{IsNumber}
 use Rattle.fm_encoder.proofs.NameLemmas.{AreLabels-written, AreLabels-behind, AreLabels-named, AreLabels-own, AreFree-written}
-use Rattle.fm_encoder.proofs.BucketLemmas.{le_is_label_name}
-use Rattle.fm_offer_law.specs.Ranges.{ExemplarNumbersFit, PointNumbersFit}
+use Rattle.fm_encoder.proofs.BucketLemmas.{le_is_label_name, quantile_is_label_name}
+use Rattle.fm_offer_law.specs.Ranges.{ExemplarNumbersFit, SlotsFit, PointNumbersFit}
 use Rattle.fm_offer_law.proofs.FaultLemmas.{Forms, MemberForms}
 
 number_fits : (v : Value) → IsNumber v → ValueFits v
@@ -86,37 +87,67 @@ module _ (setting : Setting) (common : List Label) (labels : AreLabels common) (
     states_formed name fresh states,
   )
 
-  buckets_formed : AreFree Histogram common → (before buckets : List Bucket) (slots : List (List HandedExemplar)) → values_in (before ++ buckets) < 2 ^ 64
-      → AllByRecursion ExemplarClean slots → AllByRecursion (λ exemplars. AllByRecursion ExemplarNumbersFit exemplars) slots
-      → AllByRecursion (IsSample Histogram) (bucket_samples setting common before buckets slots)
-  buckets_formed free before [] slots few clean fit = tt
-  buckets_formed free before (bucket ∷ buckets) [] few clean fit = tt
-  buckets_formed free before (bucket ∷ buckets) (exemplars ∷ slots) few clean fit =
-      let same : (before ++ bucket ∷ []) ++ buckets ≡ before ++ (bucket ∷ buckets) = append_assoc before (bucket ∷ []) buckets in
-      let still : values_in ((before ++ bucket ∷ []) ++ buckets) < 2 ^ 64 = subst (λ (bs : List Bucket). values_in bs < 2 ^ 64) (sym same) few in
-      let split : values_in ((before ++ bucket ∷ []) ++ buckets) ≡ values_in (before ++ bucket ∷ []) + values_in buckets = sum_by-append (λ (b : Bucket). b.count) (before ++ bucket ∷ []) buckets in
-      let here : values_in (before ++ bucket ∷ []) < 2 ^ 64 = omega (arith, still, split) in (
-        record {
-          kind = (0, omega arith, refl);
-          labels = AreLabels-own Histogram common _ (bound_label bucket.upper_bound) labels free refl le_is_label_name refl;
-          suits = tt;
-          value = here;
-          time = time;
-          allowed = tt;
-          exemplar = exemplar_formed exemplars fit.0 clean.0;
-        },
-        buckets_formed free (before ++ bucket ∷ []) buckets slots still clean.1 fit.1,
-      )
+  module _ (type : MetricType) (kind : Contains (kinds_of type) BucketKind) (reserved : IsReserved type (codes "le")) (free : AreFree type common) where
+    buckets_formed : (before buckets : List Bucket) (slots : List (List HandedExemplar)) → values_in (before ++ buckets) < 2 ^ 64
+        → AllByRecursion ExemplarClean slots → SlotsFit slots → AllByRecursion (IsSample type) (bucket_samples setting common before buckets slots)
+    buckets_formed before [] slots few clean fit = tt
+    buckets_formed before (bucket ∷ buckets) [] few clean fit = tt
+    buckets_formed before (bucket ∷ buckets) (exemplars ∷ slots) few clean fit =
+        let same : (before ++ bucket ∷ []) ++ buckets ≡ before ++ (bucket ∷ buckets) = append_assoc before (bucket ∷ []) buckets in
+        let still : values_in ((before ++ bucket ∷ []) ++ buckets) < 2 ^ 64 = subst (λ (bs : List Bucket). values_in bs < 2 ^ 64) (sym same) few in
+        let split : values_in ((before ++ bucket ∷ []) ++ buckets) ≡ values_in (before ++ bucket ∷ []) + values_in buckets = sum_by-append (λ (b : Bucket). b.count) (before ++ bucket ∷ []) buckets in
+        let here : values_in (before ++ bucket ∷ []) < 2 ^ 64 = omega (arith, still, split) in (
+          record {
+            kind = kind;
+            labels = AreLabels-own type common _ (bound_label bucket.upper_bound) labels free reserved le_is_label_name refl;
+            suits = tt;
+            value = here;
+            time = time;
+            allowed = tt;
+            exemplar = exemplar_formed exemplars fit.0 clean.0;
+          },
+          buckets_formed (before ++ bucket ∷ []) buckets slots still clean.1 fit.1,
+        )
+
+  sums_formed : (type : MetricType) → Contains (kinds_of type) Count → Contains (kinds_of type) Sum → Contains (kinds_of type) Created → (count : ℕ) (sum : ℤ) (created : Option ℕ)
+      → count < 2 ^ 64 → ValueFits (Fixed sum) → IfSome created AreMillis → AllByRecursion (IsSample type) (total_samples setting common count sum created)
+  sums_formed type counts sums times count sum created count_fits sum_fits created_fits = (
+    record { kind = counts; labels = alone; suits = tt; value = count_fits; time = time; allowed = refl; exemplar = tt },
+    (
+      record { kind = sums; labels = alone; suits = tt; value = sum_fits; time = time; allowed = refl; exemplar = tt },
+      created_formed type times created created_fits,
+    ),
+  )
 
   histogram_formed : AreFree Histogram common → (buckets : List Bucket) (slots : List (List HandedExemplar)) (count : ℕ) (sum : ℤ) (created : Option ℕ)
       → PointNumbersFit (HistogramPoint buckets slots count sum created) → BucketsClean buckets slots → AllByRecursion (IsSample Histogram) (point_samples setting common (HistogramPoint buckets slots count sum created))
   histogram_formed free buckets slots count sum created (slots_fit, count_fits, sum_fits, created_fits) (even, few, clean) =
-      let counted : IsSample Histogram (count_sample setting common count) =
-      record { kind = (1, omega arith, refl); labels = alone; suits = tt; value = count_fits; time = time; allowed = refl; exemplar = tt } in
-      let summed : IsSample Histogram (sum_sample setting common sum) =
-      record { kind = (2, omega arith, refl); labels = alone; suits = tt; value = sum_fits; time = time; allowed = refl; exemplar = tt } in
-      all_append (IsSample Histogram) (bucket_samples setting common [] buckets slots) _ (buckets_formed free [] buckets slots few clean slots_fit)
-      (counted, (summed, created_formed Histogram (3, omega arith, refl) created created_fits))
+      all_append (IsSample Histogram) (bucket_samples setting common [] buckets slots) _ (buckets_formed Histogram (0, omega arith, refl) refl free [] buckets slots few clean slots_fit)
+      (sums_formed Histogram (1, omega arith, refl) (2, omega arith, refl) (3, omega arith, refl) count sum created count_fits sum_fits created_fits)
+
+  gauge_histogram_formed : AreFree GaugeHistogram common → (buckets : List Bucket) (slots : List (List HandedExemplar)) (count : ℕ) (sum : ℤ)
+      → PointNumbersFit (GaugeHistogramPoint buckets slots count sum) → BucketsClean buckets slots → AllByRecursion (IsSample GaugeHistogram) (point_samples setting common (GaugeHistogramPoint buckets slots count sum))
+  gauge_histogram_formed free buckets slots count sum (slots_fit, count_fits, sum_fits) (even, few, clean) =
+      all_append (IsSample GaugeHistogram) (bucket_samples setting common [] buckets slots) _ (buckets_formed GaugeHistogram (0, omega arith, refl) refl free [] buckets slots few clean slots_fit) (
+        record { kind = (1, omega arith, refl); labels = alone; suits = tt; value = count_fits; time = time; allowed = refl; exemplar = tt },
+        (record { kind = (2, omega arith, refl); labels = alone; suits = tt; value = sum_fits; time = time; allowed = refl; exemplar = tt }, tt),
+      )
+
+  quantiles_formed : AreFree Summary common → (quantiles : List Quantile) → AllByRecursion (λ quantile. ValueFits (Fixed quantile.value)) quantiles
+      → AllByRecursion (IsSample Summary) (map (quantile_sample setting common) quantiles)
+  quantiles_formed free [] fit = tt
+  quantiles_formed free (quantile ∷ quantiles) fit = (
+    record {
+      kind = (0, omega arith, refl);
+      labels = AreLabels-own Summary common _ (quantile_label quantile) labels free refl quantile_is_label_name refl;
+      suits = tt;
+      value = fit.0;
+      time = time;
+      allowed = refl;
+      exemplar = tt;
+    },
+    quantiles_formed free quantiles fit.1,
+  )
 
   info_formed : (type : MetricType) (handed : List HandedLabel) → LabelsClean type common handed → IsSample InfoType (plain_sample setting common Info (all_written handed) (Whole (pos 1)))
   info_formed type handed clean = record {
@@ -139,6 +170,10 @@ module _ (setting : Setting) (common : List Label) (labels : AreLabels common) (
   own_formed name (StateSetPoint states) free fit (inr fresh) = states_formed name fresh states
   own_formed name (InfoPoint handed) free fit clean = (info_formed setting.metric_type handed clean, tt)
   own_formed name (HistogramPoint buckets slots count sum created) free fit clean = histogram_formed free buckets slots count sum created fit clean
+  own_formed name (GaugeHistogramPoint buckets slots count sum) free fit clean = gauge_histogram_formed free buckets slots count sum fit clean
+  own_formed name (SummaryPoint quantiles sum count created) free (quantiles_fit, count_fits, sum_fits, created_fits) clean =
+      all_append (IsSample Summary) (map (quantile_sample setting common) quantiles) _ (quantiles_formed free quantiles quantiles_fit)
+      (sums_formed Summary (1, omega arith, refl) (2, omega arith, refl) (3, omega arith, refl) count sum created count_fits sum_fits created_fits)
 
 point_forms : (setting : Setting) (common : List Label) → AreLabels common → AreFree setting.metric_type common → IfSome setting.time AreMillis → IsSnakeCase setting.name → (point : Point) → PointNumbersFit point → Forms setting common point
 point_forms setting common labels free time name point fit same clean =

@@ -15,5 +15,5 @@ mod writing;
 pub use growing::GrowingText;
 pub use label_text::LabelText;
 pub use lines::Lines;
-pub use sink::Sink;
+pub use sink::{Sink, owned_labels};
 pub use writing::encode_exposition;

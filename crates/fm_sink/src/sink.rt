@@ -21,8 +21,11 @@ enum Form {
     Lines(Lines),
 }
 
-// Labels of their own memory, equal to the lent ones.
-fn owned_labels(alloc: Global, labels: &[(&str, &str)]) -> Result<Vec<(String, String)>, AllocError>
+/// Labels of their own memory, equal to the lent ones. It may find no memory.
+pub fn owned_labels(
+    alloc: Global,
+    labels: &[(&str, &str)],
+) -> Result<Vec<(String, String)>, AllocError>
     ensures { IfOk result (λ owned. labels_of owned.items ≡ map shown_label labels.now) }
 {
     let mut owned = Vec::new(alloc);

@@ -1,7 +1,7 @@
-//! Histograms without member labels.
+//! Histograms and gauge histograms without member labels.
 ghost use Rattle.std.specs.Prelude.{◌≡◌, [], ◌∷◌};
 ghost use Rattle.std.specs.Option.{option_map};
-ghost use Rattle.fm_encoder.specs.Points.{HistogramPoint, millis};
+ghost use Rattle.fm_encoder.specs.Points.{HistogramPoint, GaugeHistogramPoint, millis};
 ghost use Rattle.fm_encoder.specs.Buckets.{slots_of, MaySlotsFault};
 ghost use Rattle.fm_encoder.specs.Gathered.{answer};
 ghost use Rattle.fm_encoder.specs.Hands.{HandsMembers};
@@ -40,6 +40,25 @@ impl<E: EncodeExemplar> EncodePoint for HistogramParts<'_, E> {
     }
 }
 
+// The point of a gauge histogram's parts.
+#[derive(Drop)]
+struct GaugeHistogramParts<'a, E> {
+    buckets: &'a [Bucket],
+    exemplars: &'a [Option<&'a E>],
+    count: u64,
+    sum: FixedSum,
+}
+
+impl<E: EncodeExemplar> EncodePoint for GaugeHistogramParts<'_, E> {
+    ghost points = { λ p ps. ps ≡ GaugeHistogramPoint p.buckets.now (slots_of E.exemplars p.exemplars.now) p.count p.sum ∷ [] };
+
+    ghost may_fault = { λ p. MaySlotsFault E.may_fault p.exemplars.now };
+
+    fn encode(&self, encoder: &mut PointEncoder) -> Result<(), EncodeError> {
+        encoder.encode_gauge_histogram(self.buckets, self.exemplars, self.count, self.sum)
+    }
+}
+
 impl MetricEncoder {
     /// Takes the point of a histogram without member labels, as `PointEncoder::encode_histogram` does.
     pub fn encode_histogram<E: EncodeExemplar>(
@@ -62,6 +81,28 @@ impl MetricEncoder {
             count,
             sum,
             created,
+        };
+        self.encode(&(), &parts)
+    }
+    /// Takes the point of a gauge histogram without member labels, as `PointEncoder::encode_gauge_histogram` does.
+    pub fn encode_gauge_histogram<E: EncodeExemplar>(
+        &mut self,
+        buckets: &[Bucket],
+        exemplars: &[Option<&E>],
+        count: u64,
+        sum: FixedSum,
+    ) -> Result<(), EncodeError>
+        ensures handed { HandsMembers (λ ms. ms ≡ record {
+          labels = [];
+          point = GaugeHistogramPoint buckets.now (slots_of E.exemplars exemplars.now) count sum;
+        } ∷ []) (MaySlotsFault E.may_fault exemplars.now) self.old self.new result }
+        ensures answered { result ≡ answer self.new.refused }
+    {
+        let parts = GaugeHistogramParts {
+            buckets,
+            exemplars,
+            count,
+            sum,
         };
         self.encode(&(), &parts)
     }

@@ -1,16 +1,15 @@
-//! The points of histograms.
+//! The points of histograms and gauge histograms.
 ghost use Rattle.std.specs.Prelude.{◌≡◌, ◌++◌, [], ◌∷◌, length, None, Some, pos, MatchOption, IfSome};
 ghost use Rattle.std.specs.Option.{option_map, option_map_or};
 ghost use Rattle.fm_grammar.specs.declared.MetricType.{MetricType};
-ghost use Rattle.fm_grammar.specs.WellFormed.{IsExemplar, ValueFits};
-ghost use Rattle.fm_grammar.specs.Exposition.{Whole, Fixed as Millionths};
+ghost use Rattle.fm_grammar.specs.WellFormed.{IsExemplar};
+ghost use Rattle.fm_grammar.specs.Exposition.{Whole};
 ghost use Rattle.fm_grammar.specs.declared.SampleKind.TheVariants.{Bucket as BucketKind};
 ghost use Rattle.fm_text.specs.Samples.{exemplar_of};
-ghost use Rattle.fm_text.specs.declared.exposition.Value.TheVariants.{Fixed as FixedValue};
-ghost use Rattle.fm_encoder.specs.Points.{HistogramPoint, millis, plain_sample, bound_label, count_sample, sum_sample, created_samples};
+ghost use Rattle.fm_encoder.specs.Points.{HistogramPoint, GaugeHistogramPoint, millis, plain_sample, bound_label};
 ghost use Rattle.fm_encoder.specs.Gathered.{answer};
 ghost use Rattle.fm_encoder.specs.Hands.{HandsPoints};
-ghost use Rattle.fm_encoder.specs.Steps.{PushesSample, PushesSamples};
+ghost use Rattle.fm_encoder.specs.Steps.{PushesSample};
 ghost use Rattle.fm_encoder.specs.Buckets.{HasBuckets, slots_of, MaySlotsFault, BeginsBuckets, PushesBucket, PushesBuckets};
 
 use crate::exemplar::{EncodeExemplar, exemplar_if_any};
@@ -22,14 +21,6 @@ use fm_text::{EncodeError, Exemplar, Value};
 use std::time::Duration;
 
 pub mod bare;
-
-// The value of a sum.
-fn sum_value(sum: FixedSum) -> Value
-    ensures value { result ≡ FixedValue sum }
-    ensures fits { ValueFits (Millionths sum) }
-{
-    Value::Fixed(FixedSum::from_millionths(sum.millionths()))
-}
 
 impl PointEncoder {
     /// Takes a histogram's point: its buckets with their own counts, a slot for an exemplar of each, how many values there
@@ -55,6 +46,25 @@ impl PointEncoder {
         self.begin_buckets(MetricType::Histogram, buckets.len(), exemplars.len())?;
         self.push_buckets(buckets, exemplars)?;
         self.push_totals(count, sum, created)
+    }
+
+    /// Takes a gauge histogram's point: its buckets, how many values there are and their sum, with the refusals of
+    /// `encode_histogram`.
+    pub fn encode_gauge_histogram<E: EncodeExemplar>(
+        &mut self,
+        buckets: &[Bucket],
+        exemplars: &[Option<&E>],
+        count: u64,
+        sum: FixedSum,
+    ) -> Result<(), EncodeError>
+        ensures handed { HandsPoints
+            (λ ps. ps ≡ GaugeHistogramPoint buckets.now (slots_of E.exemplars exemplars.now) count sum ∷ [])
+            (MaySlotsFault E.may_fault exemplars.now) self.old self.new result }
+        ensures answered { result ≡ answer self.new.refused }
+    {
+        self.begin_buckets(MetricType::GaugeHistogram, buckets.len(), exemplars.len())?;
+        self.push_buckets(buckets, exemplars)?;
+        self.push_count_and_sum(SampleKind::GCount, count, SampleKind::GSum, sum)
     }
 
     // Tests a point's type, then that each bucket has a slot, and then whether the common labels were refused.
@@ -107,7 +117,7 @@ impl PointEncoder {
             self.refused = Some(EncodeError::BucketOverflow);
             return Err(EncodeError::BucketOverflow);
         };
-        let exemplar = match exemplar_if_any(exemplar) {
+        let exemplar = match exemplar_if_any(self.alloc, exemplar) {
             Ok(exemplar) => exemplar,
             Err(error) => {
                 self.refused = Some(error);
@@ -136,25 +146,5 @@ impl PointEncoder {
         let value = Value::Whole(i128::from(values));
         let own = [(BUCKET_LABEL, text)];
         self.push_labeled(SampleKind::Bucket, &own, value, exemplar)
-    }
-
-    // Adds the samples of how many values a histogram has, of their sum, and of its time of creation.
-    fn push_totals(
-        &mut self,
-        count: u64,
-        sum: FixedSum,
-        created: Option<Duration>,
-    ) -> Result<(), EncodeError>
-        requires accepting { self.old.refused ≡ None }
-        requires histogram { self.old.setting.metric_type ≡ MetricType.Histogram }
-        ensures pushed { PushesSamples
-            (count_sample self.old.setting self.old.common count
-            ∷ sum_sample self.old.setting self.old.common sum
-            ∷ created_samples self.old.setting self.old.common (option_map millis created)) self.old self.new }
-        ensures answered { result ≡ answer self.new.refused }
-    {
-        self.push_sample(SampleKind::Count, Value::Whole(i128::from(count)), None)?;
-        self.push_sample(SampleKind::Sum, sum_value(sum), None)?;
-        self.push_created(created)
     }
 }

@@ -1,14 +1,14 @@
-//! Histograms none of whose buckets has an exemplar.
+//! Histograms and gauge histograms none of whose buckets has an exemplar.
 ghost use Rattle.std.specs.Prelude.{◌≡◌, [], ◌∷◌, None, map};
 ghost use Rattle.std.specs.Option.{option_map};
-ghost use Rattle.fm_encoder.specs.Points.{HistogramPoint, millis};
+ghost use Rattle.fm_encoder.specs.Points.{HistogramPoint, GaugeHistogramPoint, millis};
 ghost use Rattle.fm_encoder.specs.Gathered.{answer};
 ghost use Rattle.fm_encoder.specs.Hands.{HandsPoints};
 ghost use Rattle.fm_encoder.specs.Buckets.{HasBuckets, PushesBuckets};
 
 use crate::point::PointEncoder;
 use fm_bucket::Bucket;
-use fm_grammar::MetricType;
+use fm_grammar::{MetricType, SampleKind};
 use fm_raw::fixed::FixedSum;
 use fm_text::EncodeError;
 use std::time::Duration;
@@ -29,6 +29,24 @@ pub fn encode_bare_histogram(
     points.begin_buckets(MetricType::Histogram, buckets.len(), buckets.len())?;
     push_bare_buckets(points, buckets)?;
     points.push_totals(count, sum, created)
+}
+
+/// Hands over a gauge histogram's point as `PointEncoder::encode_gauge_histogram` does where each slot is empty, and takes no list of
+/// such slots.
+pub fn encode_bare_gauge_histogram(
+    points: &mut PointEncoder,
+    buckets: &[Bucket],
+    count: u64,
+    sum: FixedSum,
+) -> Result<(), EncodeError>
+    ensures handed { HandsPoints
+        (λ ps. ps ≡ GaugeHistogramPoint buckets.now (map (λ _. []) buckets.now) count sum ∷ [])
+        ⊥ points.old points.new result }
+    ensures answered { result ≡ answer points.new.refused }
+{
+    points.begin_buckets(MetricType::GaugeHistogram, buckets.len(), buckets.len())?;
+    push_bare_buckets(points, buckets)?;
+    points.push_count_and_sum(SampleKind::GCount, count, SampleKind::GSum, sum)
 }
 
 // Adds a sample without exemplar for each bucket, in order.

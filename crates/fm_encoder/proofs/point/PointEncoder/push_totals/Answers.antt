@@ -1,23 +1,29 @@
-use Rattle.std.proofs.Common.{rules, ◌∷◌, [], ap, ◌∙◌}
+use Rattle.std.proofs.Common.{◌≡◌, ◌⊎◌, ◌∷◌, [], inl, inr, refl, ap, subst, sym, arith, Contains}
 use Rattle.std.specs.Option.{option_map}
-use Rattle.fm_grammar.specs.declared.SampleKind.TheVariants.{Sum}
-use Rattle.fm_text.specs.Samples.{value_of}
-use Rattle.fm_encoder.specs.Points.{Setting, millis, plain_sample, count_sample, sum_sample, created_samples}
+use Rattle.fm_grammar.specs.declared.MetricType.{MetricType}
+use Rattle.fm_grammar.specs.declared.MetricType.TheVariants.{Histogram, Summary}
+use Rattle.fm_grammar.specs.declared.SampleKind.TheVariants.{Count, Sum, Created}
+use Rattle.fm_grammar.specs.WellFormed.{kinds_of}
+use Rattle.fm_encoder.specs.Points.{Setting, millis, count_sample, sum_sample, created_samples}
 use Rattle.fm_encoder.proofs.Cases.{none_from_answer}
-use Rattle.fm_encoder.proofs.BucketLemmas.{FitsType-sum, PushesSamples-after}
+use Rattle.fm_encoder.proofs.BucketLemmas.{PushesSamples-then}
 use Rattle.fm_encoder.proofs.point.PointEncoder.push_totals.Goals as goal
 
-pub push_sample-requires-2-clause-fits : goal.push_sample-requires-2-clause-fits
-push_sample-requires-2-clause-fits c =
-    let histogram = ap (λ (s : Setting). s.metric_type) c.push_sample.ensures.pushed.place.setting ∙ c.requires.histogram in
-    FitsType-sum _ _ c.args.sum histogram (ap value_of c.sum_value.ensures.value) c.sum_value.ensures.fits
+type_has_created : (type : MetricType) → (type ≡ Histogram) ⊎ (type ≡ Summary) → Contains (kinds_of type) Created
+type_has_created type (inl is) = subst (λ (t : MetricType). Contains (kinds_of t) Created) (sym is) (3, omega arith, refl)
+type_has_created type (inr is) = subst (λ (t : MetricType). Contains (kinds_of t) Created) (sym is) (3, omega arith, refl)
+
+pub push_count_and_sum-requires-clause-kinds : goal.push_count_and_sum-requires-clause-kinds
+push_count_and_sum-requires-clause-kinds c = inl (c.requires.has_created, refl, refl)
+
+pub push_created-requires-clause-kind : goal.push_created-requires-clause-kind
+push_created-requires-clause-kind c =
+    let same = ap (λ (s : Setting). s.metric_type) c.push_count_and_sum.ensures.pushed.place.setting in
+    type_has_created _ (subst (λ (t : MetricType). (t ≡ Histogram) ⊎ (t ≡ Summary)) (sym same) c.requires.has_created)
 
 pub returns-clause-pushed : goal.returns-clause-pushed
 returns-clause-pushed c =
+    let old = c.args.self.now in
     let created = option_map millis c.args.created in
-    let counted = none_from_answer _ c.push_sample.ensures.answered c.in_ok-push_sample.was in
-    let summed = none_from_answer _ c.push_sample-2.ensures.answered c.in_ok-push_sample-2.was in
-    let after_count = c.push_sample.new.self in
-    let sum_is = ap (λ v. plain_sample after_count.setting after_count.common Sum [] (value_of v)) c.sum_value.ensures.value in
-    let rest = PushesSamples-after (λ s ls. sum_sample s ls c.args.sum) (λ s ls. created_samples s ls created) _ after_count _ _ c.push_sample-2.ensures.pushed summed c.push_created.ensures.pushed sum_is in
-    PushesSamples-after (λ s ls. count_sample s ls c.args.count) (λ s ls. sum_sample s ls c.args.sum ∷ created_samples s ls created) _ c.args.self.now _ _ c.push_sample.ensures.pushed counted rest (search rules)
+    let pushed = none_from_answer _ c.push_count_and_sum.ensures.answered c.in_ok-push_count_and_sum.was in
+    PushesSamples-then (count_sample old.setting old.common Count c.args.count ∷ sum_sample old.setting old.common Sum c.args.sum ∷ []) (λ s ls. created_samples s ls created) old _ _ c.push_count_and_sum.ensures.pushed pushed c.push_created.ensures.pushed

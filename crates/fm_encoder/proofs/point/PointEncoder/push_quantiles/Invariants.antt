@@ -1,0 +1,10 @@
+use Rattle.std.proofs.Common.{◌≡◌, take, map, None}
+use Rattle.fm_encoder.specs.Points.{quantile_sample}
+use Rattle.fm_encoder.specs.Steps.{PushesSamples}
+use Rattle.fm_encoder.proofs.point.PointEncoder.push_quantiles.Given as goal
+
+abbrev pub invariant-loop-quantile : goal.invariant-loop-quantile
+invariant-loop-quantile l = record {
+  pushed : PushesSamples (map (quantile_sample l.fn.self.setting l.fn.self.common) (take l.quantile-index l.quantiles)) l.fn.self l.self;
+  accepting : l.self.refused ≡ None;
+}

@@ -1,0 +1,63 @@
+//! The points of summaries.
+ghost use Rattle.std.specs.Prelude.{◌≡◌, [], ◌∷◌, None, map};
+ghost use Rattle.std.specs.Option.{option_map};
+ghost use Rattle.fm_grammar.specs.declared.MetricType.{MetricType};
+ghost use Rattle.fm_encoder.specs.Points.{SummaryPoint, millis, quantile_sample};
+ghost use Rattle.fm_encoder.specs.Gathered.{answer};
+ghost use Rattle.fm_encoder.specs.Hands.{HandsPoints};
+ghost use Rattle.fm_encoder.specs.Steps.{PushesSample, PushesSamples};
+
+use crate::point::PointEncoder;
+use fm_bucket::{QUANTILE_LABEL, Quantile};
+use fm_grammar::{MetricType, SampleKind};
+use fm_raw::fixed::{FixedBuffer, FixedSum};
+use fm_text::{EncodeError, Value};
+use std::time::Duration;
+
+impl PointEncoder {
+    /// Takes a summary's point: its quantiles, the sum of the values, how many there are, and when it was created, of which
+    /// whole milliseconds are written. A quantile's sample has the quantile in a label `quantile`, and shows its value.
+    ///
+    /// It is refused as `KindMismatch` in a family of another type, then for its labels. It may find no memory.
+    pub fn encode_summary(
+        &mut self,
+        quantiles: &[Quantile],
+        sum: FixedSum,
+        count: u64,
+        created: Option<Duration>,
+    ) -> Result<(), EncodeError>
+        ensures handed { HandsPoints (λ ps. ps ≡ SummaryPoint quantiles.now sum count (option_map millis created) ∷ []) ⊥ self.old self.new result }
+        ensures answered { result ≡ answer self.new.refused }
+    {
+        self.begin_point(MetricType::Summary)?;
+        self.push_quantiles(quantiles)?;
+        self.push_totals(count, sum, created)
+    }
+
+    // Adds a sample for each quantile, in order.
+    fn push_quantiles(&mut self, quantiles: &[Quantile]) -> Result<(), EncodeError>
+        requires accepting { self.old.refused ≡ None }
+        requires summary { self.old.setting.metric_type ≡ MetricType.Summary }
+        ensures pushed { PushesSamples (map (quantile_sample self.old.setting self.old.common) quantiles.now) self.old self.new }
+        ensures answered { result ≡ answer self.new.refused }
+    {
+        for quantile in quantiles {
+            self.push_quantile(quantile)?;
+        }
+        Ok(())
+    }
+
+    // Adds the sample of one quantile.
+    fn push_quantile(&mut self, quantile: &Quantile) -> Result<(), EncodeError>
+        requires accepting { self.old.refused ≡ None }
+        requires summary { self.old.setting.metric_type ≡ MetricType.Summary }
+        ensures pushed { PushesSample (quantile_sample self.old.setting self.old.common quantile.now) self.old self.new }
+        ensures answered { result ≡ answer self.new.refused }
+    {
+        let mut buffer = FixedBuffer::new();
+        let text = buffer.format(FixedSum::from(quantile.quantile()));
+        let value = Value::Fixed(FixedSum::from(quantile.value()));
+        let own = [(QUANTILE_LABEL, text)];
+        self.push_labeled(SampleKind::Plain, &own, value, None)
+    }
+}
