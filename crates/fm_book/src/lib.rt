@@ -9,7 +9,9 @@ ghost use Rattle.fm_book.specs.Book.{Book, metrics_at, children_at};
 ghost use Rattle.fm_book.specs.Accepted.{IsBook};
 ghost use Rattle.fm_book.specs.Listing.{listed_name, order};
 ghost use Rattle.fm_book.specs.Errors.{error_number};
+ghost use Rattle.fm_book.specs.declared.RegistryError.TheVariants.{Memory};
 
+use std::alloc::{AllocError, AllocFailed};
 use thiserror::Error;
 
 /// Why a registry refuses a call. Each kind but `Memory` carries the text that it is about.
@@ -72,6 +74,22 @@ impl RegistryError {
             RegistryError::TooDeep { .. } => 11,
             RegistryError::NameTaken { .. } => 12,
         }
+    }
+}
+
+impl From<AllocError> for RegistryError {
+    ghost from_gives = { λ _ e. e ≡ Memory };
+
+    fn from(_: AllocError) -> RegistryError {
+        RegistryError::Memory
+    }
+}
+
+impl<T: Drop> From<AllocFailed<T>> for RegistryError {
+    ghost from_gives = { λ _ e. e ≡ Memory };
+
+    fn from(_: AllocFailed<T>) -> RegistryError {
+        RegistryError::Memory
     }
 }
 
