@@ -3,6 +3,7 @@
 
 pub mod counters;
 pub mod documents;
+pub mod families;
 pub mod gauges;
 pub mod histograms;
 pub mod infos;
