@@ -3,14 +3,18 @@
 
 mod request;
 
+ghost use Rattle.fastmetrics.specs.HasBook.{HasBook};
+
+use fastmetrics::encoder::EncodeMetric;
 use fastmetrics::format::text::encode;
 use fastmetrics::metrics::counter::Counter;
 use fastmetrics::metrics::family::{DefaultFactory, Family};
 use fastmetrics::metrics::histogram::Histogram;
 use fastmetrics::raw::bucket::exponential_buckets;
 use fastmetrics::raw::{Fixed, TryDefault, Unit};
-use fastmetrics::registry::Registry;
+use fastmetrics::registry::{Registry, RegistryError};
 use request::{Method, Request};
+use std::alloc::Global;
 use std::hash::{BuildHasherDefault, FoldHasher};
 
 type Requests<H> = Family<
@@ -20,6 +24,22 @@ type Requests<H> = Family<
     BuildHasherDefault<FoldHasher>,
     H,
 >;
+
+// Registers a metric by its name and its help text. The registry was made by its calls, and still is.
+fn register(
+    alloc: Global,
+    registry: &mut Registry,
+    (name, help): (&str, &str),
+    unit: Option<Unit>,
+    metric: Box<dyn EncodeMetric>,
+) -> Result<(), RegistryError>
+    requires { HasBook registry.old }
+    ensures { HasBook registry.new }
+{
+    let name = String::from_str(alloc, name)?;
+    let help = String::from_str(alloc, help)?;
+    registry.register_metric(alloc, name, help, unit, metric)
+}
 
 fn main(rt: HostRuntime) -> anyhow::Result<()> {
     let alloc = rt.alloc();
@@ -31,21 +51,20 @@ fn main(rt: HostRuntime) -> anyhow::Result<()> {
         .build()?;
 
     let connections = Counter::<u64>::try_default(rt, alloc)?;
-    let (name, help) = (
-        owned("connections")?,
-        owned("Connections that were opened")?,
-    );
-    registry.register(alloc, name, help, Box::new(alloc, connections.clone()?)?)?;
+    let metric = Box::new(alloc, connections.clone()?)?;
+    let named = ("connections", "Connections that were opened");
+    register(alloc, &mut registry, named, None, metric)?;
 
     let requests = Requests::try_default(rt, alloc)?;
-    let (name, help) = (owned("requests")?, owned("Requests by method and status")?);
-    registry.register(alloc, name, help, Box::new(alloc, requests.clone()?)?)?;
+    let metric = Box::new(alloc, requests.clone()?)?;
+    let named = ("requests", "Requests by method and status");
+    register(alloc, &mut registry, named, None, metric)?;
 
     let bounds = exponential_buckets(Fixed::from_millionths(5_000), 4, 5)?;
     let duration = Histogram::new(rt, alloc, bounds)?;
-    let (name, help) = (owned("duration")?, owned("Time to answer")?);
     let metric = Box::new(alloc, duration.clone()?)?;
-    registry.register_with_unit(alloc, name, help, Unit::Seconds, metric)?;
+    let named = ("duration", "Time to answer");
+    register(alloc, &mut registry, named, Some(Unit::Seconds), metric)?;
 
     connections.inc();
     let request = Request {
