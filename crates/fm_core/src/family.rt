@@ -36,6 +36,14 @@ fn whole_millis(time: Option<Duration>) -> Option<u128>
     }
 }
 
+// The room that a text takes with an underscore beside it.
+fn room_of(text: Option<&str>) -> usize {
+    match text {
+        Some(text) => text.len().saturating_add(1),
+        None => 0,
+    }
+}
+
 // Namespace, name and unit, those that are there, joined by underscores.
 pub(crate) fn joined_name(
     alloc: Global,
@@ -45,7 +53,10 @@ pub(crate) fn joined_name(
 ) -> Result<String, AllocError>
     ensures { IfOk result (λ text. string_bytes text ≡ printed_name (option_copied namespace.entry) name.now (option_copied unit.entry)) }
 {
-    let mut text = String::new(alloc);
+    let room = room_of(namespace)
+        .saturating_add(name.len())
+        .saturating_add(room_of(unit));
+    let mut text = String::with_capacity(alloc, room)?;
     if let Some(namespace) = namespace {
         text.push_str(namespace)?;
         text.push_str("_")?;

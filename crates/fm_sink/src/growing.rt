@@ -9,8 +9,6 @@ use std::marker::Model;
 const FIRST_ROOM: usize = 64;
 
 // Lengthens a list of bytes to so many, or to twice as many as there are where that is more.
-#[cold]
-#[inline(never)]
 fn lengthen(bytes: &mut Vec<u8>, at_least: usize) -> Result<(), AllocError>
     requires { length bytes.old.items ≤ at_least }
     ensures kept { take (length bytes.old.items) bytes.new.items ≡ bytes.old.items }
@@ -22,7 +20,6 @@ fn lengthen(bytes: &mut Vec<u8>, at_least: usize) -> Result<(), AllocError>
 }
 
 // Where three pieces end that stand behind so many bytes.
-#[inline(always)]
 fn end_of_three(start: usize, first: usize, second: usize, third: usize) -> Option<usize>
     ensures { IfSome result (λ end. end ≡ start + first + second + third) }
 {
@@ -33,7 +30,6 @@ fn end_of_three(start: usize, first: usize, second: usize, third: usize) -> Opti
 }
 
 // Writes a piece behind the first `at` bytes, and answers where it ends.
-#[inline(always)]
 fn write_piece(bytes: &mut [u8], at: usize, piece: &[u8]) -> usize
     requires { at + length piece.now ≤ length bytes.old }
     ensures end { result ≡ at + length piece.now }
@@ -45,7 +41,6 @@ fn write_piece(bytes: &mut [u8], at: usize, piece: &[u8]) -> usize
 }
 
 // Writes three pieces behind the first `at` bytes, and answers where they end.
-#[inline(always)]
 fn write_three(bytes: &mut [u8], at: usize, first: &[u8], second: &[u8], third: &[u8]) -> usize
     requires { at + length first.now + length second.now + length third.now ≤ length bytes.old }
     ensures end { result ≡ at + length first.now + length second.now + length third.now }
@@ -97,7 +92,6 @@ impl GrowingText {
     }
 
     /// The bytes so far.
-    #[inline(always)]
     pub fn as_slice(&self) -> &[u8]
         ensures { result.now ≡ self.now }
     {
@@ -112,7 +106,6 @@ impl GrowingText {
     }
 
     /// Appends bytes. It may find no memory; then the text stays.
-    #[inline(always)]
     pub fn append(&mut self, bytes: &[u8]) -> Result<(), AllocError>
         ensures grown { OnOk result (Grown self.old self.new bytes.now) }
         ensures kept { OnErr result (self.new ≡ self.old) }
@@ -129,7 +122,6 @@ impl GrowingText {
     }
 
     /// Appends three pieces, all or none. It may find no memory; then the text stays.
-    #[inline(always)]
     pub fn append_three(
         &mut self,
         first: &[u8],

@@ -29,7 +29,6 @@ pub(crate) struct Place {
 }
 
 // Appends a name or a value, and answers where it stands.
-#[inline(always)]
 fn append_part(text: &mut GrowingText, part: &str) -> Result<Part, AllocError>
     ensures grown { OnOk result (Grown text.old text.new part.now) }
     ensures part { IfOk result (λ p. IsPart text.new p × (part_in text.new p ≡ part.now)) }
@@ -45,7 +44,6 @@ fn append_part(text: &mut GrowingText, part: &str) -> Result<Part, AllocError>
 
 // Appends the name of a label, and answers where it stands. Before it come the quote that ends the label before and a comma, behind it the
 // start of the value.
-#[inline(always)]
 fn append_name(text: &mut GrowingText, is_first: bool, name: &str) -> Result<Part, AllocError>
     ensures grown { OnOk result (Grown text.old text.new (name_in_list is_first name.now)) }
     ensures part { IfOk result (λ p. IsPart text.new p × (part_in text.new p ≡ name.now)) }
@@ -80,7 +78,6 @@ fn str_at(text: &[u8], part: Part) -> &str
 }
 
 // Whether one of the labels has this name.
-#[inline(always)]
 fn is_named(text: &[u8], place: &Place, name: &[u8]) -> bool
     requires { IsPlace text.now place.now }
     ensures { IsTrue result ↔ ((label_in text.now place.now).name ≡ name.now) }
@@ -102,7 +99,6 @@ fn has_name(text: &[u8], places: &[Place], name: &[u8]) -> bool
 }
 
 // Adds the place of a label that has a name and a value.
-#[inline(always)]
 fn push_place(
     places: &mut Vec<Place>,
     name: Option<Part>,
@@ -121,7 +117,6 @@ fn push_place(
 }
 
 // Whether a text that is the labels' list, with these parts of a label under way, is that list with a further name too.
-#[inline(always)]
 fn may_take_name(is_listed: bool, name: Option<Part>, value: Option<Part>) -> bool
     ensures { IsTrue result → (is_listed ≡ true) × (name ≡ None) × (value ≡ None) }
 {
@@ -129,7 +124,6 @@ fn may_take_name(is_listed: bool, name: Option<Part>, value: Option<Part>) -> bo
 }
 
 // The same with a further value.
-#[inline(always)]
 fn may_take_value(is_listed: bool, name: Option<Part>, value: Option<Part>, further: &[u8]) -> bool
     ensures { IsTrue result → (is_listed ≡ true) × IsSome name × (value ≡ None) × (escaped further.now ≡ further.now) }
 {
@@ -137,7 +131,6 @@ fn may_take_value(is_listed: bool, name: Option<Part>, value: Option<Part>, furt
 }
 
 // The same where the label under way ends.
-#[inline(always)]
 fn may_end(is_listed: bool, name: Option<Part>, value: Option<Part>) -> bool
     ensures { IsTrue result → (is_listed ≡ true) × (is_some name ≡ is_some value) }
 {
@@ -170,7 +163,6 @@ fn pairs_at<'a>(
 }
 
 // Appends the labels' list, given it without the quote at its end, and whether it is empty.
-#[inline]
 #[tactic(auto, using(crate::proofs::GrownLemmas::grown))]
 fn append_closed<O: Output>(text: &mut O, list: &[u8], is_empty: bool) -> Result<(), AllocError>
     ensures { OnOk result (Grows (O.stands_for text.old) (O.stands_for text.new) (list.now ++ (if is_empty then [] else codes "\""))) }
@@ -222,7 +214,6 @@ impl LabelText {
     }
 
     /// How many labels there are.
-    #[inline]
     pub fn len(&self) -> usize
         ensures { result ≡ length self.now.labels }
     {
@@ -230,7 +221,6 @@ impl LabelText {
     }
 
     /// Whether the label under way has a name.
-    #[inline]
     pub fn is_named(&self) -> bool
         ensures { result ≡ is_some self.now.name }
     {
@@ -238,7 +228,6 @@ impl LabelText {
     }
 
     /// Whether the label under way has a value.
-    #[inline]
     pub fn is_valued(&self) -> bool
         ensures { result ≡ is_some self.now.value }
     {
@@ -246,7 +235,6 @@ impl LabelText {
     }
 
     /// Whether one of the labels has this name.
-    #[inline]
     pub fn has_name(&self, name: &str) -> bool
         ensures { IsTrue result ↔ Contains (map (λ label. label.name) self.now.labels) name.now }
     {
@@ -280,7 +268,6 @@ impl LabelText {
     }
 
     /// Begins a label with this name. It may find no memory; then nothing changes.
-    #[inline]
     pub fn set_name(&mut self, name: &str) -> Result<(), AllocError>
         ensures set { OnOk result (self.new ≡ record self.old { name = Some name.now }) }
         ensures kept { OnErr result (self.new ≡ self.old) }
@@ -292,7 +279,6 @@ impl LabelText {
     }
 
     /// Gives the label under way this value. It may find no memory; then nothing changes.
-    #[inline]
     pub fn set_value(&mut self, value: &str) -> Result<(), AllocError>
         ensures set { OnOk result (self.new ≡ record self.old { value = Some value.now }) }
         ensures kept { OnErr result (self.new ≡ self.old) }
@@ -305,7 +291,6 @@ impl LabelText {
 
     /// Ends the label under way: one that has a name and a value is the last of the labels, another one is forgotten. It may find
     /// no memory; then nothing changes.
-    #[inline]
     pub fn end_label(&mut self) -> Result<(), AllocError>
         ensures ended { OnOk result (self.new ≡ record {
           labels = self.old.labels ++ whole_label self.old.name self.old.value;

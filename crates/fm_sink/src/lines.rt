@@ -22,6 +22,8 @@ use std::mem;
 pub struct Lines {
     text: GrowingText,
     common: LabelText,
+    // The memory of the common labels before, which goes from family to family.
+    spare: LabelText,
 }
 
 impl Model for Lines {
@@ -40,6 +42,7 @@ impl Lines {
         Lines {
             text: GrowingText::new(alloc),
             common: LabelText::new(alloc),
+            spare: LabelText::new(alloc),
         }
     }
 
@@ -92,11 +95,18 @@ impl Lines {
         self.common.clear();
     }
 
-    /// Takes the common labels of the next samples, and answers those before, for their memory.
-    pub fn share(&mut self, common: LabelText) -> LabelText
+    /// Memory for labels that are to be shared: some labels, of which nothing is known.
+    pub fn take_spare(&mut self, alloc: Global) -> LabelText
+        ensures { self.new ≡ self.old }
+    {
+        mem::replace(&mut self.spare, LabelText::new(alloc))
+    }
+
+    /// Takes the common labels of the next samples.
+    pub fn share(&mut self, common: LabelText)
         ensures { self.new ≡ record self.old { common = common.labels } }
     {
-        mem::replace(&mut self.common, common)
+        self.spare = mem::replace(&mut self.common, common);
     }
 
     /// Appends the line of a sample whose own labels come after the common ones. It may find no memory.

@@ -27,12 +27,10 @@ pub(crate) trait Output {
 impl Output for GrowingText {
     ghost stands_for = { λ output text. output ≡ text };
 
-    #[inline(always)]
     fn put(&mut self, bytes: &[u8]) -> Result<(), AllocError> {
         self.append(bytes)
     }
 
-    #[inline(always)]
     fn put_output(&mut self, other: &GrowingText) -> Result<(), AllocError> {
         self.append(other.as_slice())
     }

@@ -28,7 +28,6 @@ fn append_escape<O: Output>(text: &mut O, byte: u8) -> Result<(), AllocError>
 }
 
 // Whether a byte is written with an escape.
-#[inline(always)]
 #[tactic(auto, unfolding(fm_grammar::specs::Spelling::escape))]
 fn has_escape(byte: u8) -> bool
     ensures { IsTrue result ⊎ (escape byte ≡ byte ∷ []) }
@@ -50,7 +49,6 @@ fn plain_len(raw: &[u8]) -> usize
 }
 
 // Whether each byte of a text is written as it is. It asks each of them, so that several are asked at once.
-#[inline]
 pub(crate) fn is_plain(raw: &[u8]) -> bool
     ensures { IsTrue result → escaped raw.now ≡ raw.now }
 {

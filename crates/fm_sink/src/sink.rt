@@ -52,7 +52,7 @@ fn shared(alloc: Global, labels: &LabelText) -> Result<CommonLabels, AllocError>
 pub struct Sink {
     alloc: Global,
     form: Form,
-    // The memory of the common labels before.
+    // The memory of the common labels before, of samples that are kept.
     spare: LabelText,
 }
 
@@ -107,7 +107,10 @@ impl Sink {
     pub fn take_spare(&mut self) -> LabelText
         ensures { self.new ≡ self.old }
     {
-        mem::replace(&mut self.spare, LabelText::new(self.alloc))
+        match &mut self.form {
+            Form::Samples(_, _) => mem::replace(&mut self.spare, LabelText::new(self.alloc)),
+            Form::Lines(lines) => lines.take_spare(self.alloc),
+        }
     }
 
     /// Ends the point. The samples of the next points share these labels. Where there is no memory the common labels stay.
@@ -121,7 +124,7 @@ impl Sink {
                 store.share(shared(self.alloc, &common)?);
                 self.spare = mem::replace(before, common);
             }
-            Form::Lines(lines) => self.spare = lines.share(common),
+            Form::Lines(lines) => lines.share(common),
         }
         Ok(())
     }
