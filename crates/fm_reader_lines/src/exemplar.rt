@@ -4,8 +4,9 @@ ghost use Rattle.std.specs.Option.{option_map};
 ghost use Rattle.fm_text.specs.Samples.{exemplar_of};
 ghost use Rattle.fm_reader_lines.specs.Parts.{tail_text, FoundSmall, FoundBody, FoundExemplar, takes_exemplar as kind_takes_exemplar};
 
-use crate::labels::{are_short, read_braces};
+use crate::labels::read_braces;
 use crate::values::{read_time, split_token};
+use fm_code_points::are_short;
 use fm_grammar::SampleKind;
 use fm_raw::Fixed;
 use fm_reader_parts::number::read_fixed;

@@ -1,7 +1,6 @@
-//! Reads label lists whose names differ, and tests label lists.
-ghost use Rattle.std.specs.Prelude.{◌≡◌, ◌≤◌, ◌↔◌, IsTrue, IfOk, map};
+//! Reads label lists whose names differ.
+ghost use Rattle.std.specs.Prelude.{◌≡◌, ◌↔◌, IsTrue, IfOk, map};
 ghost use Rattle.fm_grammar.specs.Names.{AllDifferent};
-ghost use Rattle.fm_grammar.specs.WellFormed.{begins_character as byte_begins_character, code_points as text_code_points, label_code_points};
 ghost use Rattle.fm_text.specs.Samples.{labels_of};
 ghost use Rattle.fm_reader_parts.specs.Fronts.{seen_labels};
 ghost use Rattle.fm_reader_lines.specs.Parts.{IsBracesFront, IsBlockFront};
@@ -9,9 +8,6 @@ ghost use Rattle.fm_reader_lines.specs.Parts.{IsBracesFront, IsBlockFront};
 use fm_reader_parts::labels::read_labels;
 use std::alloc::{AllocError, Global};
 use std::collections::BTreeSet;
-
-// How many code points the labels of an exemplar have at most.
-const MAX_CODE_POINTS: usize = 128;
 
 /// A sample's labels up to the space in front of its value, and what is behind that; None where none stand there.
 pub(crate) fn read_block(
@@ -66,41 +62,4 @@ fn are_different(alloc: Global, labels: &[(String, String)]) -> Result<bool, All
         }
     }
     Ok(true)
-}
-
-/// Whether the names and values have no more code points together than an exemplar may have.
-pub(crate) fn are_short(labels: &[(String, String)]) -> bool
-    ensures { IsTrue result ↔ (label_code_points (labels_of labels.now) ≤ 128) }
-{
-    let mut left = MAX_CODE_POINTS;
-    for (name, value) in labels {
-        let Some(behind_name) = left.checked_sub(code_points(name)) else {
-            return false;
-        };
-        let Some(behind_value) = behind_name.checked_sub(code_points(value)) else {
-            return false;
-        };
-        left = behind_value;
-    }
-    true
-}
-
-// How many code points a text has.
-fn code_points(text: &str) -> usize
-    ensures { result ≡ text_code_points text.now }
-{
-    let mut count = 0;
-    for byte in text.as_bytes() {
-        if begins_character(*byte) {
-            count += 1;
-        }
-    }
-    count
-}
-
-// Whether a byte doesn't go on with a character.
-fn begins_character(byte: u8) -> bool
-    ensures { result ≡ byte_begins_character byte }
-{
-    byte < 128 || 192 <= byte
 }
