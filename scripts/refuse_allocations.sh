@@ -16,7 +16,7 @@ trap 'rm -rf "$scratch"' EXIT
 failed=0
 stories=0
 requests_in_all=0
-[[ $# -gt 0 ]] || set -- fm_tests_memory fm_tests_memory_metrics
+[[ $# -gt 0 ]] || set -- fm_tests_memory fm_tests_memory_metrics expose
 
 # How many requests a test makes.
 count() {
