@@ -1,7 +1,8 @@
 // Stands between a program and its memory (linked by `--wrap`): counts the requests, refuses one of them, and keeps the peak.
 //
 //   REFUSE=N            the Nth request is refused
-//   REFUSE_COUNT=FILE   the number of requests and the greatest number of bytes at once are written there at the end
+//   REFUSE_COUNT=FILE   the number of requests, the greatest number of bytes at once, and the bytes that are held are written
+//                       there at the end
 #include <malloc.h>
 #include <stdatomic.h>
 #include <stdio.h>
@@ -23,7 +24,7 @@ static void say(void) {
     if (count) {
         FILE *file = fopen(count, "w");
         if (file) {
-            fprintf(file, "%lu %ld\n", atomic_load(&made), atomic_load(&peak));
+            fprintf(file, "%lu %ld %ld\n", atomic_load(&made), atomic_load(&peak), atomic_load(&held));
             fclose(file);
         }
     }

@@ -1,4 +1,6 @@
 //! What the program prints for each scene, and for faults.
+mod memory;
+
 use crate::calls::all_accepted;
 use crate::histogram::numbers_histogram;
 use crate::output::{Fault, finish};
@@ -10,6 +12,7 @@ use fastmetrics::metrics::tally::TallyError;
 use fastmetrics::raw::MetricError;
 use fastmetrics::raw::bucket::BucketError;
 use fastmetrics::registry::{Registry, RegistryError};
+use std::io::{self, ErrorKind, Write};
 use std::test::Fail;
 
 const JOBS: &str = "\
@@ -110,6 +113,38 @@ fn faults_are_said(rt: HostRuntime) -> Result<(), Fail> {
         let mut errors = Vec::new(alloc);
         assert_eq!(rt; finish(alloc, Err(fault), &mut out, &mut errors), status);
         assert!(rt; out.is_empty());
+        assert_eq!(rt; errors.as_slice(), said.as_bytes());
+    }
+    Ok(())
+}
+
+// A writer that takes nothing: it answers an error, or 0.
+#[derive(Drop)]
+struct Unwilling {
+    is_failing: bool,
+}
+
+impl Write for Unwilling {
+    fn write(&mut self, _buf: &[u8]) -> io::Result<usize> {
+        if self.is_failing {
+            return Err(io::Error::from(ErrorKind::Other));
+        }
+        Ok(0)
+    }
+
+    fn flush(&mut self) -> io::Result<()> {
+        Ok(())
+    }
+}
+
+#[test]
+fn writers_that_take_nothing(rt: HostRuntime) -> Result<(), Fail> {
+    let alloc = rt.alloc();
+    for (is_failing, said) in [(true, "fault: encode 14\n"), (false, "fault: encode 15\n")] {
+        let mut out = Unwilling { is_failing };
+        let mut errors = Vec::new(alloc);
+        let status = finish(alloc, Ok(Registry::default()), &mut out, &mut errors);
+        assert_eq!(rt; status, 1);
         assert_eq!(rt; errors.as_slice(), said.as_bytes());
     }
     Ok(())

@@ -234,17 +234,21 @@ fn patient_calls(alloc: Global, patience: &mut Patience) -> Result<Vec<RegistryC
     }
 }
 
+const FIRST_UP: &[u8] =
+    b"before\n# TYPE myapp_db_up gauge\n# HELP myapp_db_up H\nmyapp_db_up 1\n# EOF\n";
+
 // The document after these answers: a refused call changes nothing, and those after it go on from there.
 fn document_after(
     answers: &[Result<(), RegistryError>],
     patience: &mut Patience,
 ) -> Result<&'static [u8], Fail> {
     if have_numbers(answers, &[10, 0, 0, 8, 0, 4]) {
-        return Ok(
-            b"before\n# TYPE myapp_db_up gauge\n# HELP myapp_db_up H\nmyapp_db_up 1\n# EOF\n",
-        );
+        return Ok(FIRST_UP);
     }
     patience.bear()?;
+    if have_numbers(answers, &[10, 0, 0, 8, 0, 5]) {
+        return Ok(FIRST_UP);
+    }
     if have_numbers(answers, &[10, 5, 10, 8, 0, 0]) {
         return Ok(
             b"before\n# TYPE myapp_db_up gauge\n# HELP myapp_db_up H\nmyapp_db_up{k=\"v\"} 2\n# EOF\n",

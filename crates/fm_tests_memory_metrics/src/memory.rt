@@ -28,6 +28,8 @@ macro_rules! patiently {
 mod families;
 mod handles;
 mod histograms;
+mod observations;
+mod tallies;
 
 const BEFORE: &[u8] = b"before\n";
 

@@ -1,0 +1,9 @@
+//! Tests of writers that end at any place, and of documents, trees and lists of calls of great size.
+#![tactic(auto)]
+
+#[cfg(test)]
+mod lines;
+#[cfg(test)]
+mod sizes;
+#[cfg(test)]
+mod writers;

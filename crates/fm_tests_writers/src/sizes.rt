@@ -1,0 +1,67 @@
+//! Trees and lists of calls of great size, for which there is memory.
+
+use fastmetrics::encoder::EncodeMetric;
+use fastmetrics::registry::{Registry, RegistryCall};
+use fm_test_support::support::document_of;
+use fm_test_support::trees::{gauge, metric_at, subsystem_at};
+use std::alloc::{AllocError, Global};
+use std::test::Fail;
+
+// The calls that register so many gauges.
+fn gauges(alloc: Global, count: u32) -> Result<Vec<RegistryCall>, AllocError> {
+    let mut calls: Vec<RegistryCall> = Vec::new(alloc);
+    for number in 0..count {
+        let name = format!(in alloc; "g{number}")?;
+        let value: Box<dyn EncodeMetric> = gauge(alloc, i64::from(number))?;
+        calls.push(metric_at(alloc, &[], name.as_str(), value)?)?;
+    }
+    Ok(calls)
+}
+
+// The calls that make so many subsystems, and register a gauge in each.
+fn subsystems(alloc: Global, count: u32) -> Result<Vec<RegistryCall>, AllocError> {
+    let mut calls: Vec<RegistryCall> = Vec::new(alloc);
+    for number in 0..count {
+        let name = format!(in alloc; "s{number}")?;
+        let value: Box<dyn EncodeMetric> = gauge(alloc, i64::from(number))?;
+        calls.push(subsystem_at(alloc, &[], name.as_str(), &[("k", "v")])?)?;
+        calls.push(metric_at(alloc, &[name.as_str()], "up", value)?)?;
+    }
+    Ok(calls)
+}
+
+// The document of a root after these calls, all of which are accepted.
+fn document_after(alloc: Global, calls: Vec<RegistryCall>) -> Result<String, Fail> {
+    let mut registry = Registry::default();
+    for answer in registry.run(alloc, calls)? {
+        answer?;
+    }
+    document_of(alloc, &registry)
+}
+
+#[test]
+fn two_thousand_families(rt: HostRuntime) -> Result<(), Fail> {
+    let alloc = rt.alloc();
+    let document = document_after(alloc, gauges(alloc, 2000)?)?;
+    assert!(rt;
+        document
+            .as_str()
+            .starts_with("# TYPE g0 gauge\n# HELP g0 H\ng0 0\n")
+    );
+    assert!(rt;
+        document
+            .as_str()
+            .ends_with("# HELP g1999 H\ng1999 1999\n# EOF\n")
+    );
+    assert_eq!(rt; document.as_str().matches("\n").count(), 3 * 2000 + 1);
+    Ok(())
+}
+
+#[test]
+fn a_hundred_registries(rt: HostRuntime) -> Result<(), Fail> {
+    let alloc = rt.alloc();
+    let document = document_after(alloc, subsystems(alloc, 100)?)?;
+    assert!(rt; document.as_str().ends_with("\ns99_up{k=\"v\"} 99\n# EOF\n"));
+    assert_eq!(rt; document.as_str().matches("\n").count(), 3 * 100 + 1);
+    Ok(())
+}
