@@ -1,0 +1,111 @@
+//! Points of each type in families of their own type and of each other.
+
+use crate::points::FiveOf;
+use fastmetrics::encoder::EncodeError;
+use fastmetrics::metrics::gauge::ConstGauge;
+use fastmetrics::raw::MetricType;
+use fm_test_support::members::OneMember;
+use fm_test_support::support::{document_alone, refusal};
+use std::alloc::Global;
+use std::test::Fail;
+
+static TYPES: [MetricType; 8] = [
+    MetricType::Unknown,
+    MetricType::Gauge,
+    MetricType::Counter,
+    MetricType::StateSet,
+    MetricType::Info,
+    MetricType::Histogram,
+    MetricType::GaugeHistogram,
+    MetricType::Summary,
+];
+
+// A point of one type in a family of another.
+fn five_in(alloc: Global, family: MetricType, point: MetricType) -> OneMember<(), FiveOf> {
+    OneMember {
+        metric_type: family,
+        time: None,
+        labels: (),
+        point: FiveOf {
+            metric_type: point,
+            alloc,
+        },
+    }
+}
+
+#[test]
+fn each_kind_in_each_other_family(rt: HostRuntime) -> Result<(), Fail> {
+    let alloc = rt.alloc();
+    for family in TYPES {
+        for point in TYPES {
+            if family != point {
+                let metric = Box::new(alloc, five_in(alloc, family, point))?;
+                assert_eq!(rt; refusal(alloc, metric)?, EncodeError::KindMismatch);
+            }
+        }
+    }
+    Ok(())
+}
+
+#[test]
+fn gauge_point_in_each_other_family(rt: HostRuntime) -> Result<(), Fail> {
+    let alloc = rt.alloc();
+    for metric_type in TYPES {
+        if metric_type != MetricType::Gauge {
+            let metric = OneMember {
+                metric_type,
+                time: None,
+                labels: (),
+                point: ConstGauge::new(5i64),
+            };
+            assert_eq!(rt;
+                refusal(alloc, Box::new(alloc, metric)?)?,
+                EncodeError::KindMismatch
+            );
+        }
+    }
+    Ok(())
+}
+
+#[test]
+fn each_kind_in_its_own_family(rt: HostRuntime) -> Result<(), Fail> {
+    let alloc = rt.alloc();
+    for (metric_type, want) in [
+        (
+            MetricType::Unknown,
+            "# TYPE t unknown\n# HELP t H\nt 5\n# EOF\n",
+        ),
+        (
+            MetricType::Gauge,
+            "# TYPE t gauge\n# HELP t H\nt 5\n# EOF\n",
+        ),
+        (
+            MetricType::Counter,
+            "# TYPE t counter\n# HELP t H\nt_total 5\n# EOF\n",
+        ),
+        (
+            MetricType::StateSet,
+            "# TYPE t stateset\n# HELP t H\n# EOF\n",
+        ),
+        (
+            MetricType::Info,
+            "# TYPE t info\n# HELP t H\nt_info 1\n# EOF\n",
+        ),
+        (
+            MetricType::Histogram,
+            "# TYPE t histogram\n# HELP t H\nt_count 5\nt_sum 0.0\n# EOF\n",
+        ),
+        (
+            MetricType::GaugeHistogram,
+            "# TYPE t gaugehistogram\n# HELP t H\nt_gcount 5\nt_gsum 0.0\n# EOF\n",
+        ),
+        (
+            MetricType::Summary,
+            "# TYPE t summary\n# HELP t H\nt_count 5\nt_sum 0.0\n# EOF\n",
+        ),
+    ] {
+        let metric = Box::new(alloc, five_in(alloc, metric_type, metric_type))?;
+        assert_eq!(rt; document_alone(alloc, "t", None, metric)?.as_str(), want);
+    }
+    Ok(())
+}
