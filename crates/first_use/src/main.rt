@@ -29,7 +29,8 @@ type Requests<H> = Family<
 fn register(
     alloc: Global,
     registry: &mut Registry,
-    (name, help): (&str, &str),
+    name: &str,
+    help: &str,
     unit: Option<Unit>,
     metric: Box<dyn EncodeMetric>,
 ) -> Result<(), RegistryError>
@@ -52,19 +53,19 @@ fn main(rt: HostRuntime) -> anyhow::Result<()> {
 
     let connections = Counter::<u64>::try_default(rt, alloc)?;
     let metric = Box::new(alloc, connections.clone()?)?;
-    let named = ("connections", "Connections that were opened");
-    register(alloc, &mut registry, named, None, metric)?;
+    let help = "Connections that were opened";
+    register(alloc, &mut registry, "connections", help, None, metric)?;
 
     let requests = Requests::try_default(rt, alloc)?;
     let metric = Box::new(alloc, requests.clone()?)?;
-    let named = ("requests", "Requests by method and status");
-    register(alloc, &mut registry, named, None, metric)?;
+    let help = "Requests by method and status";
+    register(alloc, &mut registry, "requests", help, None, metric)?;
 
     let bounds = exponential_buckets(Fixed::from_millionths(5_000), 4, 5)?;
     let duration = Histogram::new(rt, alloc, bounds)?;
     let metric = Box::new(alloc, duration.clone()?)?;
-    let named = ("duration", "Time to answer");
-    register(alloc, &mut registry, named, Some(Unit::Seconds), metric)?;
+    let (help, unit) = ("Time to answer", Some(Unit::Seconds));
+    register(alloc, &mut registry, "duration", help, unit, metric)?;
 
     connections.inc();
     let request = Request {
