@@ -1,4 +1,4 @@
-use Rattle.fm_encoder.proofs.OwnLabels.{next_label, last_label}
+use Rattle.fastmetrics.proofs.OwnLabels.{next_label, last_label}
 use Rattle.first_use.proofs.request.RequestEncodeLabelSet.encode.Goals as goal
 
 pub returns : goal.returns
