@@ -1,8 +1,12 @@
-//! Books of events under refused memory.
+//! Tallies and books of events under refused memory.
+ghost use Rattle.std.specs.Prelude.{◌≡◌};
 
-use fastmetrics::metrics::tally::{Book, Event, Reply, TallyError};
+use fastmetrics::metrics::tally::{Book, Event, Reply, Tally, TallyError, TallyKey};
 use fm_test_support::support::Patience;
 use std::alloc::Global;
+use std::marker::Brand;
+use std::sync::Wait;
+use std::sync::ledger::Blank;
 use std::test::Fail;
 
 // Bears a refusal for want of memory.
@@ -43,4 +47,47 @@ fn events_without_refusals(rt: HostRuntime) -> Result<(), Fail> {
 #[test]
 fn events_after_a_refusal(rt: HostRuntime) -> Result<(), Fail> {
     make_events(rt.alloc(), 1)
+}
+
+// The sum of a tally whose two shares add 5 and 7.
+fn twelve<K: TallyKey, R: Wait>(rt: &R, alloc: Global, blank: Blank) -> Result<u64, TallyError>
+    requires name { blank.name ≡ K.name }
+    requires parts { blank.parts ≡ K.parts }
+    requires two_and_one { blank.parts ≡ 3 }
+{
+    let (tally, mut shares) = Tally::<K>::new(alloc, blank, 2)?;
+    tally.add(rt, &mut shares[0], 5)?;
+    tally.add(rt, &mut shares[1], 7)?;
+    tally.close(shares)
+}
+
+// The sum of a new tally of two shares.
+fn sum_of_two<R: Wait>(rt: &R, alloc: Global) -> Result<u64, TallyError> {
+    twelve::<Brand, R>(rt, alloc, Blank::new(3))
+}
+
+// Counts by a tally of two shares.
+fn count_by_two<R: Wait>(rt: &R, alloc: Global, refusals: u32) -> Result<(), Fail> {
+    let mut patience = Patience::new(refusals);
+    let sum = match sum_of_two(rt, alloc) {
+        Ok(sum) => sum,
+        Err(error) => {
+            bear(&mut patience, error)?;
+            sum_of_two(rt, alloc)?
+        }
+    };
+    if sum != 12 {
+        return Err(Fail::new("another sum"));
+    }
+    Ok(())
+}
+
+#[test]
+fn tallies_without_refusals(rt: HostRuntime) -> Result<(), Fail> {
+    count_by_two(&rt, rt.alloc(), 0)
+}
+
+#[test]
+fn tallies_after_a_refusal(rt: HostRuntime) -> Result<(), Fail> {
+    count_by_two(&rt, rt.alloc(), 1)
 }
