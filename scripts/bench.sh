@@ -12,23 +12,8 @@ folder=/tmp/fastmetrics-bench
 [[ ${1:-} == -d ]] && { folder=$2; shift 2; }
 [[ $# -gt 0 ]] || set -- hand counters histograms gauges inc lookup observe register read
 
-# The crates, with the work that is kept beside them, and the bench's own, whose files get their true endings.
-mkdir -p "$folder/crates"
-cp "$top/HANDLES" "$folder/"
-for crate in "$top"/crates/*/; do
-    name=$(basename "$crate")
-    case $name in fm_tests_* | fm_test_support | expose | first_use | worker_pool) continue ;; esac
-    (cd "$top/crates" && find "$name" -path "$name/out" -prune -o -type f -print) |
-        while read -r file; do
-            cmp -s "$top/crates/$file" "$folder/crates/$file" || install -D -m 644 "$top/crates/$file" "$folder/crates/$file"
-        done
-    [[ -d $folder/crates/$name/out || ! -d $crate/out ]] || cp -a "$crate/out" "$folder/crates/$name/out"
-done
-(cd "$top/bench" && find . -mindepth 2 -name "*.in") | while read -r file; do
-    cmp -s "$top/bench/$file" "$folder/crates/${file%.in}" || install -D -m 644 "$top/bench/$file" "$folder/crates/${file%.in}"
-done
-grep -vE '^(fm_test|expose|first_use|worker_pool)' "$top/crates.txt" | cat - "$top/bench/crates.in" >"$folder/crates.txt"
-[[ -d $folder/.git ]] || git -C "$folder" init -q
+. "$top/scripts/scratch.sh"
+lay_out "$top" "$folder"
 
 # The program of a scene, proved and built.
 build() {
