@@ -1,19 +1,23 @@
 //! What a registry's metrics write is read as what was collected.
-use fastmetrics::encoder::{EncodeMetric, StaticStr};
+use fastmetrics::encoder::{EncodeMetric, LabeledExemplar, StaticStr};
 use fastmetrics::format::text::{collect, encode, read};
 use fastmetrics::metrics::counter::{ConstCounter, Counter};
 use fastmetrics::metrics::family::{DefaultFactory, Family};
 use fastmetrics::metrics::gauge::{ConstGauge, Gauge};
+use fastmetrics::metrics::gauge_histogram::GaugeHistogramSnapshot;
 use fastmetrics::metrics::histogram::{Histogram, HistogramSnapshot};
 use fastmetrics::metrics::info::Info;
 use fastmetrics::metrics::state_set::{ConstStateSet, StateSet};
+use fastmetrics::metrics::summary::Quantile;
 use fastmetrics::metrics::unknown::Unknown;
-use fastmetrics::raw::{Fixed, TryDefault, Unit};
+use fastmetrics::raw::bucket::{Bound, Bucket};
+use fastmetrics::raw::{Fixed, FixedSum, TryDefault, Unit};
 use fastmetrics::registry::{Registry, RegistryCall};
 use fm_test_support::jobs::Job;
 use fm_test_support::members::OneMember;
 use fm_test_support::replies::Outcome;
-use fm_test_support::trees::{subsystem_at, texts};
+use fm_test_support::trees::{labels, subsystem_at, texts};
+use own_points::{Answered, Durations, Latencies};
 use std::alloc::{AllocError, Global};
 use std::hash::{BuildHasherDefault, FoldHasher};
 use std::sync::Wait;
@@ -93,6 +97,54 @@ fn metrics_without_handles(rt: HostRuntime) -> Result<(), Fail> {
     let alloc = rt.alloc();
     let calls = constant_calls(alloc)?;
     assert!(rt; is_read_back(alloc, calls, 7)?);
+    Ok(())
+}
+
+// An exemplar with a label that has to be escaped, and a time.
+fn trace(alloc: Global) -> Result<LabeledExemplar<Vec<(String, String)>>, AllocError> {
+    Ok(LabeledExemplar {
+        labels: labels(alloc, &[("trace_id", "a\"b")])?,
+        value: Fixed::from_millionths(-1),
+        timestamp: Some(Duration::from_millis(1005)),
+    })
+}
+
+// Calls that register what has an exemplar, a summary, and a gauge histogram.
+fn point_calls(alloc: Global) -> Result<Vec<RegistryCall>, Fail> {
+    let mut calls = Vec::new(alloc);
+    let answered = Answered {
+        requests: 1,
+        trace: trace(alloc)?,
+    };
+    calls.push(metric_at(alloc, &[], "answered", None, Box::new(alloc, answered)?)?)?;
+    let durations = Durations {
+        buckets: [
+            Bucket::new(Bound::Finite(Fixed::ONE), 2),
+            Bucket::new(Bound::Inf, 1),
+        ],
+        trace: trace(alloc)?,
+        requests: 3,
+        seconds: FixedSum::from_millionths(2_500_000),
+    };
+    calls.push(metric_at(alloc, &[], "durations", None, Box::new(alloc, durations)?)?)?;
+    let median = Quantile::new(Fixed::from_millionths(500_000), Fixed::ONE);
+    let latencies = Latencies {
+        quantiles: vec![in alloc; median]?,
+        requests: 3,
+        seconds: FixedSum::from_millionths(2_500_000),
+    };
+    calls.push(metric_at(alloc, &[], "latencies", None, Box::new(alloc, latencies)?)?)?;
+    let mut sizes = GaugeHistogramSnapshot::new(alloc, [Fixed::ZERO].iter().copied())?;
+    sizes.observe(Fixed::from_millionths(-1))?;
+    calls.push(metric_at(alloc, &[], "sizes", None, Box::new(alloc, sizes)?)?)?;
+    Ok(calls)
+}
+
+#[test]
+fn points_of_a_users_own(rt: HostRuntime) -> Result<(), Fail> {
+    let alloc = rt.alloc();
+    let calls = point_calls(alloc)?;
+    assert!(rt; is_read_back(alloc, calls, 4)?);
     Ok(())
 }
 
