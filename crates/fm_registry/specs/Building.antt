@@ -1,4 +1,4 @@
--- What a registry ends as, once the builder of a subsystem has ended.
+-- What a registry is after the builder of a subsystem ends.
 use Rattle.std.specs.Prelude.{◌≡◌, Result}
 use Rattle.std.specs.String.{string_bytes}
 use Rattle.std.specs.Borrow.{Fml, RattleType, MutBor, RestsIfErr}
@@ -14,10 +14,10 @@ module _ (M : RattleType) where
   abbrev pub rests_if_refused : {E : Type 0} → MutBor (Tree M.Denot) → Result (RegistrySubsystemBuilder M.Denot) E → Fml
   rests_if_refused t r = RestsIfErr (the_row M) t (λ b. b.registry.ghost_name) r (λ w. w ≡ t.now)
 
-  -- the same of a builder that is passed on
+  -- the same for a builder that is passed on
   abbrev pub builder_rests : {E : Type 0} → RegistrySubsystemBuilder M.Denot → Result (RegistrySubsystemBuilder M.Denot) E → Fml
   builder_rests b r = rests_if_refused b.registry r
 
-  -- what the builder's registry ends as, once the loan of the subsystem ends
+  -- what the builder's registry is once the borrow of the subsystem ends
   abbrev pub lends_built : {E : Type 0} → RegistrySubsystemBuilder M.Denot → Result (MutBor (Subsystem M.Denot)) E → Fml
   lends_built b r = lends_subsystem M b.registry (string_bytes b.name) (labels_of b.labels.items) r

@@ -1,4 +1,4 @@
--- Calls that are made in turn, each with the type that its metric answered.
+-- Calls that are made in turn, each with the type that its metric declared.
 use Rattle.std.specs.Prelude.{◌≡◌, ⊤, List, [], ◌∷◌, map, Option, Result, OnOk, OnErr, String}
 use Rattle.std.specs.declared.alloc.Global.{Global}
 use Rattle.std.specs.String.{string_bytes}
@@ -19,21 +19,21 @@ abbrev pub seen_path : List (String Global) → Path
 seen_path names = map string_bytes names
 
 module _ {M : Type 0} (Types : M → MetricType → Type 0) where
-  -- the call of the book that was made: a metric is registered with a type that it may answer
+  -- a call of the book that was made: a metric is registered with a type that it may declare
   abbrev pub IsCall : given.RegistryCall M → Call M → Type 0
   IsCall (given.TheVariants.Register path name help unit metric) call =
       (t : MetricType) × Types metric t × (call ≡ book.Register (seen_path path.items) (asked_metric name help unit metric t))
   IsCall (given.TheVariants.Subsystem path name labels) call = call ≡ book.Subsystem (seen_path path.items) (string_bytes name) (labels_of labels.items)
 
-  -- each of them, in order
+  -- each of these calls, in order
   abbrev pub AreCalls : List (given.RegistryCall M) → List (Call M) → Type 0
   AreCalls [] [] = ⊤
   AreCalls (g ∷ gs) (call ∷ calls) = IsCall g call × AreCalls gs calls
   AreCalls [] (call ∷ calls) = ⊥
   AreCalls (g ∷ gs) [] = ⊥
 
-  -- what one call does: for every book that the registry read, the answer is the book's, or there was no memory where the call may
-  -- take some; at `Ok` the registry reads the book after the call, and at `Err` it is as it was
+  -- what one call does: for every book that the registry read, the reply is the book's, or there was no memory and the
+  -- call may need some; at `Ok` the registry reads the book after the call, and at `Err` it is as it was
   pub record RunsCall (g : given.RegistryCall M) (old new : Tree M) (result : Result (Unit {0}) RegistryError) : Type 0 where
     pub call : Call M
     pub is : IsCall g call
@@ -41,8 +41,8 @@ module _ {M : Type 0} (Types : M → MetricType → Type 0) where
     pub ok : OnOk result ((b : Book M) → Reads old b → Reads new (after b call))
     pub err : OnErr result (new ≡ old)
 
-  -- what calls in turn do: for every book that the registry read, each reply is the answer of the book of that moment, or there
-  -- was no memory where the call may take some, and the registry reads the book at the end
+  -- what calls in turn do: for every book that the registry read, each reply is that of the book at that moment, or
+  -- there was no memory and the call may need some; the registry reads the book that results
   pub record RunsCalls (gs : List (given.RegistryCall M)) (old new : Tree M) (replies : List (Option Refusal)) : Type 0 where
     pub calls : List (Call M)
     pub are : AreCalls gs calls

@@ -1,4 +1,4 @@
--- Each subsystem has fewer registries in it than its parent.
+-- Each subsystem contains fewer registries than its parent.
 use Rattle.std.specs.Prelude.{ℕ, ◌+◌, ◌≤◌, List, [], ◌∷◌, Option, None, Some, Vec}
 use Rattle.std.specs.declared.alloc.Global.{Global}
 use Rattle.std.proofs.Common.{arith}

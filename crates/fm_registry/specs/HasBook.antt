@@ -1,4 +1,4 @@
--- What holds of every registry that comes about by its calls: it reads a book.
+-- What holds of every registry that its calls lead to: it reads a book.
 use Rattle.std.specs.Prelude.{◌≡◌, List, [], Option}
 use Rattle.fm_book.specs.Texts.{Text, Labels}
 use Rattle.fm_book.specs.Book.{Call, Book, root_book, with_more}
@@ -9,7 +9,8 @@ pub record HasBook {M : Type 0} (t : Tree M) : Type 0 where
   pub book : Book M
   pub reads : Reads t book
 
--- whatever book the old tree reads, the new one reads with calls behind: nothing that was accepted is lost
+-- each book that the old tree reads, with more calls after it, is read by the new tree: nothing that was accepted is
+-- lost
 pub record Grows {M : Type 0} (old new : Tree M) : Type 0 where
   pub calls : (b : Book M) → Reads old b → List (Call M)
   pub reads : (b : Book M) (h : Reads old b) → Reads new (with_more b (calls b h))

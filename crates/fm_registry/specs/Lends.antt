@@ -1,4 +1,4 @@
--- What a registry ends as, once a `&mut` into it has ended.
+-- What a registry is once a `&mut` into it has ended.
 use Rattle.std.specs.Prelude.{ℕ, Option, Result, Vec}
 use Rattle.std.specs.declared.alloc.Global.{Global}
 use Rattle.std.specs.declared.alloc.Allocator as alloc
@@ -20,25 +20,25 @@ use Rattle.fm_registry.specs.contracts.registry.Subsystem as subsystem
 use Rattle.fm_registry.specs.declared.registry.Subsystem.{Subsystem}
 
 module _ (T A : RattleType) (g : alloc.Ghosts A.Denot) where
-  -- the list has at the place the last value left behind r
+  -- the list has at this index the final value of r
   abbrev pub lends_element : MutBor (Option (Vec T.Denot A.Denot)) → ℕ → MutBor T.Denot → Fml
   lends_element v place r = Lends (option.the_row (vec.the_row T A g)) T v r (λ w. option_map (λ items. with_item items place w) v.now)
 
 module _ (M : RattleType) where
-  -- the subsystems are the last ones left behind r
+  -- the subsystems are the final value of r
   abbrev pub lends_subsystems : MutBor (Tree M.Denot) → MutBor (Option (Vec (Subsystem M.Denot) Global)) → Fml
   lends_subsystems t r = Lends (the_row M) (option.the_row (vec.the_row (subsystem.the_row M) global.the_row ghosts)) t r (λ w. record t.now { children = forest_of (items_of w) })
 
-  -- the subsystem at the place is the last one left behind r, with its name
+  -- the subsystem at this index is the final value of r, with its name
   abbrev pub lends_nth : MutBor (Tree M.Denot) → ℕ → MutBor (Subsystem M.Denot) → Fml
   lends_nth t place r = Lends (the_row M) (subsystem.the_row M) t r (λ w. record t.now { children = with_nth t.now.children place (string_bytes w.name) w.registry })
 
-  -- the subsystem's registry is the last one left behind r
+  -- the subsystem's registry is the final value of r
   abbrev pub lends_registry : MutBor (Subsystem M.Denot) → MutBor (Tree M.Denot) → Fml
   lends_registry s r = Lends (subsystem.the_row M) (the_row M) s r (λ w. record s.now { registry = w })
 
-  -- Once the loan of the subsystem with this name ends, the registry is the one with this subsystem, in whose place stands what
-  -- was left behind r. At an `Err` it is as it was.
+  -- Once the borrow of the subsystem with this name ends, the registry is the one with this subsystem, replaced by the
+  -- final value of r. At an `Err` it is as it was.
   abbrev pub lends_subsystem : {E : Type 0} → MutBor (Tree M.Denot) → Text → Labels → Result (MutBor (Subsystem M.Denot)) E → Fml
   lends_subsystem t name labels r =
       let after = with_subsystem t.now name labels in

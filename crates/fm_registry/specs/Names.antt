@@ -1,4 +1,4 @@
--- The names that stand in one registry, as its code keeps them.
+-- The names in one registry, as its code keeps them.
 use Rattle.std.specs.Prelude.{◌||◌, Bool, List, [], ◌∷◌, Option}
 use Rattle.std.specs.Option.{option_map}
 use Rattle.std.specs.String.{string_bytes}
@@ -13,7 +13,7 @@ use Rattle.fm_book.specs.Answer.{Refusal, AlreadyExists, NameTaken, first_of, ha
 abbrev pub metadata_tail : Metadata → Text
 metadata_tail metadata = suffixed_name (string_bytes metadata.name) (printed_unit (option_map seen_unit metadata.unit))
 
--- why metrics that are there refuse one whose tail lies below a subsystem, or below none
+-- why the metrics of a registry refuse another; the Bool is whether its tail begins with a subsystem's name and an underscore
 abbrev pub refusal_beside : {M : Type 0} → List (Registration M) → Bool → Registration M → Option Refusal
 refusal_beside there below registration =
     first_of ((has_metric there registration, AlreadyExists registration.name) ∷ (has_name (tails_of there) (tail_of registration) || below, NameTaken registration.name) ∷ [])

@@ -1,4 +1,4 @@
--- What the registration of a metric does, with the type that the metric answered.
+-- What the registration of a metric does, with the type that the metric declared.
 use Rattle.std.specs.Prelude.{◌≡◌, [], Result, OnOk, OnErr}
 use Rattle.fm_grammar.specs.declared.MetricType.{MetricType}
 use Rattle.fm_book.specs.Registration.{Registration}
@@ -7,8 +7,8 @@ use Rattle.fm_book.specs.Answer.{IsAnswered, refusal_of, answer, after}
 use Rattle.fm_book.specs.Tree.{Tree, Reads}
 use Rattle.fm_book.specs.declared.RegistryError.{RegistryError}
 
--- The metric answered a type that it may answer. For every book that the registry read, the answer is the book's, or there was
--- no memory; at `Ok` the registry reads the book after the call, and at `Err` it is as it was.
+-- The metric declared a type that it may declare. For every book that the registry read, the result is the book's, or
+-- there was no memory; at `Ok` the registry reads the book after the call, and at `Err` it is as it was.
 pub record Registers {M : Type 0} (Types : MetricType → Type 0) (asked : MetricType → Registration M) (old new : Tree M) (result : Result (Unit {0}) RegistryError) : Type 0 where
   pub metric_type : MetricType
   pub declared : Types metric_type

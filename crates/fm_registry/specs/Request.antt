@@ -1,4 +1,4 @@
--- What is asked of one registry, as a call of the book.
+-- A call at one registry, as a call of the book.
 use Rattle.std.specs.String.{string_bytes}
 use Rattle.fm_text.specs.Samples.{labels_of}
 use Rattle.fm_book.specs.Texts.{Path}

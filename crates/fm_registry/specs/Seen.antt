@@ -1,4 +1,4 @@
--- What the list of a tree's metrics is seen as.
+-- How contracts see the list of a tree's metrics.
 use Rattle.std.specs.Prelude.{List, map}
 use Rattle.std.specs.Option.{option_map}
 use Rattle.std.specs.String.{string_bytes}
@@ -7,7 +7,7 @@ use Rattle.fm_registry.specs.View.{seen_labels, seen_metric}
 use Rattle.fm_registry.specs.declared.listing.ListedMetric.{ListedMetric}
 
 module _ {M : Type 0} where
-  -- a metric with what its registry gives it
+  -- a metric with its registry's namespace and labels
   abbrev pub seen_listed : ListedMetric M → Listed M
   seen_listed m = record { namespace = option_map string_bytes m.namespace.now; labels = seen_labels m.const_labels.now; registration = seen_metric m.metadata.now m.metric.now }
 

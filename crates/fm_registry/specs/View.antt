@@ -1,4 +1,4 @@
--- What a registry's fields are seen as.
+-- How contracts see a registry's fields.
 use Rattle.std.specs.Prelude.{List, [], ◌∷◌, map, Option, None, Some, Vec, String}
 use Rattle.std.specs.declared.alloc.Global.{Global}
 use Rattle.std.specs.Option.{option_map}
@@ -27,11 +27,11 @@ seen_metric metadata metric = record {
   metric = metric;
 }
 
--- the metadata of these parts
+-- the metadata with these parts
 abbrev pub asked : String Global → String Global → MetricType → Option unit.Unit → Metadata
 asked name help metric_type u = record { name = name; help = help; metric_type = metric_type; unit = u }
 
--- what a metric is asked to be registered as, once it has said its type
+-- the metric that a call asks to register, with the type that it declared
 abbrev pub asked_metric : {M : Type 0} → String Global → String Global → Option unit.Unit → M → MetricType → Registration M
 asked_metric name help u metric metric_type = seen_metric (asked name help metric_type u) metric
 
@@ -58,6 +58,6 @@ module _ {M : Type 0} where
   abbrev pub facts_of : Inside M → Facts M
   facts_of a = record { namespace = option_map string_bytes a.namespace; labels = seen_labels a.const_labels; depth = a.depth; metrics = metrics_in a.metrics }
 
-  -- a registry
+  -- a registry as a tree
   abbrev pub tree_of : Inside M → Tree M
   tree_of a = record { facts = facts_of a; children = forest_of (items_of a.subsystems) }

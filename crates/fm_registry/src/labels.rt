@@ -15,7 +15,7 @@ use fm_book::RegistryError;
 use fm_raw::is_label_name;
 use std::alloc::{AllocError, Global};
 
-// A namespace and a name, joined by an underscore.
+// The namespace and the name, joined by an underscore.
 pub(crate) fn joined_name(
     alloc: Global,
     namespace: &Option<String>,
@@ -34,21 +34,21 @@ pub(crate) fn joined_name(
     }
 }
 
-// The place of the first label whose name is no label name.
+// The index of the first label whose name is not a valid label name.
 fn bad_place(labels: &[(String, String)]) -> Option<usize>
     ensures { result ≡ position_from (λ l. not (label_name_test (label_of l).name)) 0 labels.now }
 {
     labels.iter().position(|l| !is_label_name(l.0.as_str()))
 }
 
-// The place of the label with this name.
+// The index of the label with this name.
 pub(crate) fn place_of_label(labels: &[(String, String)], name: &str) -> Option<usize>
     ensures { result ≡ position_from (λ l. bytes_eq (label_of l).name name.now) 0 labels.now }
 {
     labels.iter().position(|l| l.0.as_str() == name)
 }
 
-// Sets a label in the place of the one with its name, or at the end.
+// Replaces the label that has the same name, or adds the label at the end.
 fn set_label(labels: &mut Vec<(String, String)>, label: (String, String)) -> Result<(), AllocError>
     ensures { OnOk result (labels_of labels.new.items ≡ label_set (labels_of labels.old.items) (label_of label)) }
 {
@@ -64,7 +64,7 @@ fn set_label(labels: &mut Vec<(String, String)>, label: (String, String)) -> Res
     }
 }
 
-// Gives the labels back where each name is a label name.
+// Returns the labels unchanged if each name is a valid label name.
 pub(crate) fn tested_labels(
     labels: Vec<(String, String)>,
 ) -> Result<Vec<(String, String)>, RegistryError>
@@ -81,7 +81,7 @@ pub(crate) fn tested_labels(
     }
 }
 
-// The parent's labels, with later ones set in turn.
+// The parent's labels, with each of `labels` set in turn.
 pub(crate) fn merged_labels(
     alloc: Global,
     parent: &Option<Vec<(String, String)>>,
@@ -131,7 +131,8 @@ fn is_among(labels: &[(String, String)], name: &str) -> bool
     place_of_label(labels, name).is_some()
 }
 
-// Whether a root refuses a label with this name behind these: it is no label name, or stands among them.
+// Whether a root refuses a label with this name after the labels `before`: the name is not valid, or one of them has
+// it.
 fn is_refused_behind(before: &[(String, String)], name: &str) -> bool
     ensures { MatchBool result (label_refusal_behind (map (λ l. l.name) (labels_of before.now)) name.now ≡ Some (label_fault name.now)) (label_refusal_behind (map (λ l. l.name) (labels_of before.now)) name.now ≡ None) }
 {
@@ -141,7 +142,7 @@ fn is_refused_behind(before: &[(String, String)], name: &str) -> bool
     is_among(before, name)
 }
 
-// The place of the first label that a root refuses.
+// The index of the first label that a root refuses.
 fn refused_place(labels: &[(String, String)]) -> Option<usize>
     ensures { MatchOption result (root_labels_refusal (labels_of labels.now) ≡ None) (λ place. IsRefusedAt labels.now place) }
 {
@@ -153,7 +154,7 @@ fn refused_place(labels: &[(String, String)]) -> Option<usize>
     None
 }
 
-// Gives a root's labels back where each name is a label name, and none stands twice.
+// Returns a root's labels unchanged if each name is a valid label name and no name comes twice.
 pub(crate) fn tested_root_labels(
     labels: Vec<(String, String)>,
 ) -> Result<Vec<(String, String)>, RegistryError>

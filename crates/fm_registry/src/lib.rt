@@ -1,7 +1,7 @@
-//! The tree of registries: what accepts metrics and subsystems, and keeps them for a scrape.
+//! The registry tree: registries accept metrics and subsystems, and keep them for a scrape.
 //!
-//! Contracts see a registry as a `Tree`, and say of every call what it means for each book of accepted calls that the
-//! tree reads.
+//! Contracts see a registry as a `Tree`. For each book of accepted calls that the tree reads, they state what a call
+//! does.
 #![tactic(auto)]
 
 mod labels;

@@ -1,4 +1,4 @@
-//! The metrics of a tree, in the order of a document.
+//! The metrics of a tree, in the order of the exposition.
 ghost use Rattle.std.specs.Prelude.{◌≡◌, ◌++◌, OnOk};
 ghost use Rattle.std.specs.Option.{option_map};
 ghost use Rattle.std.specs.String.{string_bytes};
@@ -12,7 +12,7 @@ use fm_raw::Metadata;
 use indexmap::IndexMap;
 use std::alloc::AllocError;
 
-/// A metric as a collector gets it: with its metadata, and with the namespace and the labels of its registry.
+/// A metric as a collector receives it: with its metadata, and with the namespace and the labels of its registry.
 #[derive(Drop)]
 pub struct ListedMetric<'a, M = Box<dyn EncodeMetric>> {
     pub namespace: &'a Option<String>,
@@ -21,7 +21,7 @@ pub struct ListedMetric<'a, M = Box<dyn EncodeMetric>> {
     pub metric: &'a M,
 }
 
-// Adds the metrics of one registry.
+// Adds the metrics of one registry to the list.
 pub(crate) fn list_metrics<'a, M>(
     namespace: &'a Option<String>,
     const_labels: &'a Option<Vec<(String, String)>>,

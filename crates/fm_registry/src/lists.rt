@@ -1,4 +1,4 @@
-//! Lists that may not be there yet, since they are made with an allocator.
+//! Lists that may be absent: making one needs an allocator.
 ghost use Rattle.std.specs.Prelude.{◌≡◌, ◌<◌, ◌++◌, ◌∷◌, [], length, Some, None, IfOk, OnOk, OnErr, slice_get};
 ghost use Rattle.std.specs.Borrow.{sem};
 ghost use Rattle.fm_book.specs.Answer.{refusal_of, IsAnswered};
@@ -8,7 +8,7 @@ ghost use Rattle.fm_registry.specs.Lends.{lends_element};
 use fm_book::RegistryError;
 use std::alloc::Allocator;
 
-// The element at a place, to write.
+// A mutable reference to the element at an index.
 pub(crate) fn element_mut<T, A: Allocator>(list: &mut Option<Vec<T, A>>, index: usize) -> &mut T
     requires { index < length (items_of list.old) }
     ensures* writes_back { sem 𝓛 (lends_element T.row A.row A.Allocator list.entry index result) }
@@ -20,7 +20,7 @@ pub(crate) fn element_mut<T, A: Allocator>(list: &mut Option<Vec<T, A>>, index: 
     }
 }
 
-// Adds an item at the end, and answers its place.
+// Adds an item at the end and returns its index.
 pub(crate) fn push_to<T: Drop>(list: &mut Vec<T>, item: T) -> Result<usize, RegistryError>
     ensures answer { IsAnswered (refusal_of result) None }
     ensures place { IfOk result (λ place. place ≡ length list.old.items) }

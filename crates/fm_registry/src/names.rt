@@ -1,4 +1,4 @@
-//! The names that stand in one registry: which metric has which tail, and what lies below a subsystem's name.
+//! The names in one registry: which metric has which tail, and which names begin with a subsystem's.
 ghost use Rattle.std.specs.Prelude.{◌≡◌, IfOk, true, false};
 ghost use Rattle.std.specs.String.{string_bytes};
 ghost use Rattle.fm_book.specs.Taken.{is_below as below_test};
@@ -17,8 +17,8 @@ pub(crate) fn is_below(name: &str, text: &str) -> bool
     }
 }
 
-// A metric's metadata under its tail, by which alone it is compared and hashed: its name, or its name, an underscore and
-// its unit.
+// A metric's metadata with its tail, which alone is compared and hashed. The tail is the name, or the name, an
+// underscore and the unit.
 #[derive(Drop)]
 #[derive_where(PartialEq, Eq, Hash)]
 pub struct Tailed {
@@ -29,7 +29,7 @@ pub struct Tailed {
 }
 
 impl Tailed {
-    // The metadata under their tail, which takes memory.
+    // Computes the tail of the metadata. This allocates.
     pub(crate) fn new(alloc: Global, metadata: Metadata) -> Result<Tailed, AllocError>
         ensures { IfOk result (λ key. key.metadata ≡ metadata) }
     {
@@ -55,7 +55,7 @@ impl Tailed {
         &self.metadata
     }
 
-    // The metric's name, of metadata that are no longer needed.
+    // Drops the other metadata and returns the metric's name.
     pub(crate) fn into_name(self) -> String
         ensures { result ≡ self.metadata.name }
     {

@@ -1,4 +1,4 @@
-//! Registries: what they hold, and what contracts see of it.
+//! Registries: what they contain, and how contracts see it.
 
 mod builder;
 mod metrics;
@@ -30,7 +30,7 @@ pub struct Registry<M = Box<dyn EncodeMetric>> {
     subsystems: Option<Vec<Subsystem<M>>>,
 }
 
-/// A registry under its name, which its parent holds.
+/// A registry with its name, as its parent keeps it.
 #[derive(Drop)]
 #[cycle(tree)]
 pub struct Subsystem<M = Box<dyn EncodeMetric>> {
@@ -58,7 +58,7 @@ impl<M> Model for Registry<M> {
     ghost size_decreases = { deep_le-tree_size };
 }
 
-/// A root with no namespace, no labels and no metrics. It takes no memory.
+/// A root with no namespace, no labels and no metrics. It allocates nothing.
 impl<M> Default for Registry<M> {
     ghost use Rattle.std.specs.Prelude.{None, []};
     ghost use Rattle.fm_registry.specs.HasBook.{IsNewRoot};
@@ -76,7 +76,7 @@ impl<M> Default for Registry<M> {
     }
 }
 
-/// The namespace and the constant labels. The metrics and subsystems are not shown.
+/// Shows the namespace and the constant labels, but not the metrics and the subsystems.
 impl<M> Debug for Registry<M> {
     fn fmt<W: fmt::Write>(&self, f: &mut Formatter<W>) -> fmt::Result {
         f.debug_struct("Registry")
@@ -95,7 +95,8 @@ impl<M> Registry<M> {
     ghost use Rattle.fm_book.specs.Listing.{own_metrics, listed_tree, order};
     ghost use Rattle.fm_registry.specs.Seen.{seen_list};
 
-    /// The namespace that stands before the names of the metrics here, with those of the registries above.
+    /// The prefix of the names of this registry's metrics: the root's namespace and the names of the subsystems down to
+    /// this one, joined by underscores.
     pub fn namespace(&self) -> Option<&str>
         ensures tree { option_map (λ namespace. namespace.now) result ≡ self.now.facts.namespace }
         ensures book { (b : _) → Reads self.now b → option_map (λ namespace. namespace.now) result ≡ namespace_at b [] }
@@ -106,7 +107,7 @@ impl<M> Registry<M> {
         }
     }
 
-    /// The labels that every sample of the metrics here carries, with those of the registries above.
+    /// The labels that each sample of this registry's metrics carries, including those of the registries above.
     pub fn constant_labels(&self) -> &[(String, String)]
         ensures tree { labels_of result.now ≡ self.now.facts.labels }
         ensures book { (b : _) → Reads self.now b → labels_of result.now ≡ labels_at b [] }
@@ -117,7 +118,7 @@ impl<M> Registry<M> {
         }
     }
 
-    // Adds the metrics that are registered here.
+    // Adds the metrics that are registered in this registry.
     fn list_here<'a>(&'a self, list: &mut Vec<ListedMetric<'a, M>>) -> Result<(), AllocError>
         ensures { OnOk result (seen_list list.new.items ≡ seen_list list.old.items ++ own_metrics self.now.facts) }
     {
@@ -127,7 +128,7 @@ impl<M> Registry<M> {
         }
     }
 
-    // Adds the metrics here, and then those of each subsystem, depth first.
+    // Adds the metrics of this registry, and then those of each subsystem, depth first.
     fn list_into<'a>(&'a self, list: &mut Vec<ListedMetric<'a, M>>) -> Result<(), AllocError>
         ensures { OnOk result (seen_list list.new.items ≡ seen_list list.old.items ++ listed_tree self.now) }
     {
@@ -140,8 +141,9 @@ impl<M> Registry<M> {
         Ok(())
     }
 
-    /// The metrics in the order of a document, each with what its registry gives it: those here by registration, then those
-    /// of each subsystem by creation. It is the collector's. It takes memory for the list alone.
+    /// The metrics in the order of the exposition, each with its registry's namespace and labels: first those of this
+    /// registry in order of registration, then those of each subsystem in order of creation. For collectors. It
+    /// allocates the list only.
     pub fn listing(&self, alloc: Global) -> Result<Vec<ListedMetric<'_, M>>, AllocError>
         ensures tree { IfOk result (λ list. seen_list list.items ≡ listed_tree self.now) }
         ensures book { IfOk result (λ list. (b : _) → Reads self.now b → seen_list list.items ≡ order b) }

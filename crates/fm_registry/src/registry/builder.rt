@@ -13,7 +13,7 @@ use crate::labels::tested_root_labels;
 use fm_book::RegistryError;
 use fm_raw::is_snake_case;
 
-/// Sets up a root: its namespace and its labels, both of which may be left out.
+/// Sets up a root. The namespace and the labels are both optional.
 #[derive(Drop)]
 pub struct RegistryBuilder {
     namespace: Option<String>,
@@ -22,7 +22,7 @@ pub struct RegistryBuilder {
     pub ghost labels_taken: { IsTrue (takes_labels (seen_labels const_labels)) },
 }
 
-/// No namespace and no labels.
+/// A builder with no namespace and no labels.
 impl Default for RegistryBuilder {
     ghost is_default = { λ b. (option_map string_bytes b.namespace ≡ None) × (seen_labels b.const_labels ≡ []) };
 
@@ -35,7 +35,7 @@ impl Default for RegistryBuilder {
 }
 
 impl Registry {
-    /// Begins a root with no namespace and no labels. It takes no memory.
+    /// Returns a builder with no namespace and no labels. It allocates nothing.
     pub fn builder() -> RegistryBuilder
         ensures namespace { option_map string_bytes result.namespace ≡ None }
         ensures labels { seen_labels result.const_labels ≡ [] }
@@ -45,7 +45,7 @@ impl Registry {
 }
 
 impl RegistryBuilder {
-    /// Sets the namespace, in place of that of an earlier call. Refused where it is not in snake case (`InvalidNamespace`).
+    /// Sets the namespace, and replaces an earlier one. Fails with `InvalidNamespace` if it is not in snake case.
     pub fn with_namespace(self, namespace: String) -> Result<RegistryBuilder, RegistryError>
         ensures namespace { IfOk result (λ b. option_map string_bytes b.namespace ≡ Some (string_bytes namespace)) }
         ensures labels { IfOk result (λ b. seen_labels b.const_labels ≡ seen_labels self.const_labels) }
@@ -60,9 +60,10 @@ impl RegistryBuilder {
         })
     }
 
-    /// Sets the labels, in place of those of an earlier call.
+    /// Sets the constant labels, and replaces those of an earlier call.
     ///
-    /// Refused at the first label whose name is no label name (`InvalidLabelName`), or stands before (`DuplicateLabel`).
+    /// Fails at the first label whose name is not a valid label name (`InvalidLabelName`) or is that of an earlier
+    /// label (`DuplicateLabel`).
     pub fn with_const_labels(
         self,
         labels: Vec<(String, String)>,
@@ -78,7 +79,7 @@ impl RegistryBuilder {
         })
     }
 
-    /// The root, with nothing in it. It takes no memory, and `Memory` never comes.
+    /// Returns the root, which is empty. It allocates nothing, and never fails with `Memory`.
     pub fn build(self) -> Result<Registry, RegistryError>
         ensures root { IfOk result (λ t. IsNewRoot (option_map string_bytes self.namespace) (seen_labels self.const_labels) t) }
         ensures answer { refusal_of result ≡ None }

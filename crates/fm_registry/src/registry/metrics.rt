@@ -23,7 +23,7 @@ use fm_raw::{Metadata, MetricType, Unit, is_snake_case, is_unit_text};
 use indexmap::IndexMap;
 use std::alloc::Global;
 
-// Whether metrics of this type have no unit.
+// Whether metrics of this type can't have a unit.
 fn takes_no_unit(metric_type: MetricType) -> bool
     ensures { result ≡ has_no_unit metric_type }
 {
@@ -65,7 +65,7 @@ fn named_metric(
     Ok(Metadata::new(name, help, metric_type, unit))
 }
 
-// The metadata that stand under the tail of these.
+// The metadata of the metric that has this tail.
 fn standing_under<'a, M>(metrics: &'a IndexMap<Tailed, M>, key: &Tailed) -> Option<&'a Metadata>
     ensures free { IfNone result (get tailed.eq metrics.now key.now ≡ None) }
     ensures taken { IfSome result (λ there. (is_some (get tailed.eq metrics.now key.now) ≡ true)
@@ -76,7 +76,7 @@ fn standing_under<'a, M>(metrics: &'a IndexMap<Tailed, M>, key: &Tailed) -> Opti
     Some(there.metadata())
 }
 
-// Adds a metric, whose tail lies below a subsystem or below none, where none has its tail.
+// Adds a metric if no other has its tail. `is_below`: whether its tail begins with a subsystem's name and an underscore.
 fn insert_new<M: Drop>(
     metrics: &mut IndexMap<Tailed, M>,
     key: Tailed,
@@ -105,7 +105,7 @@ fn insert_new<M: Drop>(
     }
 }
 
-// The same, where there may be no map yet.
+// Like `insert_new`, where the map may be absent.
 fn insert_metric<M: Drop>(
     metrics: &mut Option<IndexMap<Tailed, M>>,
     alloc: Global,
@@ -126,7 +126,7 @@ fn insert_metric<M: Drop>(
 }
 
 impl<M: Drop> Registry<M> {
-    // Adds a metric with tested metadata here, in terms of the tree alone.
+    // Adds a metric whose metadata are tested. Stated of the tree alone.
     fn insert_named(
         &mut self,
         alloc: Global,
@@ -144,7 +144,7 @@ impl<M: Drop> Registry<M> {
         insert_metric(&mut self.metrics, alloc, key, metric, is_below)
     }
 
-    // Adds a metric here, in terms of the tree alone.
+    // Adds a metric. Stated of the tree alone.
     fn insert_here(
         &mut self,
         alloc: Global,
@@ -162,8 +162,8 @@ impl<M: Drop> Registry<M> {
         self.insert_named(alloc, metadata, metric)
     }
 
-    /// Registers a metric here as one of this type, which the caller asked it for. It refuses and leaves what
-    /// `register_metric` does. It is for registries that are shared, whose lock is taken once the type is known.
+    /// Registers a metric with the type that the caller has read from it. It fails as `register_metric` does. For
+    /// shared registries, where the lock is taken after the type is known.
     pub fn add_metric(
         &mut self,
         alloc: Global,
@@ -184,16 +184,16 @@ impl<M: Drop> Registry<M> {
 }
 
 impl Registry {
-    /// Registers a metric here under this name, with a unit or without.
+    /// Registers a metric under this name, with or without a unit.
     ///
-    /// The metric is asked for its type once, and that answer is its type from then on. Refused, in this order: a name
-    /// that is not in snake case (`InvalidNameFormat`), a unit where the type has none (`MustHaveAnEmptyUnitString`), a
-    /// unit's text that is not one word of lowercase letters and digits (`OtherUnitFormatMustBeLowercase`), a metric whose
-    /// name, type and unit are registered here already (`AlreadyExists`), and a name that is taken (`NameTaken`): with its
-    /// unit behind an underscore it is that of another metric here, or it begins with a subsystem's name and an underscore.
+    /// The metric's type is read once, and is kept. Errors, in this order: the name is not in snake case
+    /// (`InvalidNameFormat`); the type can't have a unit (`MustHaveAnEmptyUnitString`); the unit's text is not one word
+    /// of lowercase letters and digits (`OtherUnitFormatMustBeLowercase`); a metric with this name, type and unit is
+    /// registered here already (`AlreadyExists`); the name, or `name_unit` where there is a unit, is that of another
+    /// metric here, or begins with a subsystem's name and an underscore (`NameTaken`).
     ///
-    /// At `Memory` no memory could be had; the first three refusals take none. A refused metric is dropped, and the registry
-    /// stays as it was. It takes memory for the metric's place, and for its name with its unit.
+    /// It allocates an entry for the metric and the name with its unit; where that fails, it returns `Memory`. The
+    /// first three errors allocate nothing. At an error the metric is dropped, and the registry stays as it was.
     pub fn register_metric(
         &mut self,
         alloc: Global,
@@ -210,7 +210,7 @@ impl Registry {
         self.add_metric(alloc, name, help, metric_type, unit, metric)
     }
 
-    /// The same with a unit.
+    /// Like `register_metric`, with a unit.
     pub fn register_with_unit(
         &mut self,
         alloc: Global,
@@ -226,7 +226,7 @@ impl Registry {
         self.register_metric(alloc, name, help, Some(unit), metric)
     }
 
-    /// The same without a unit.
+    /// Like `register_metric`, without a unit.
     pub fn register(
         &mut self,
         alloc: Global,

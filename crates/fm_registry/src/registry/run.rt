@@ -1,4 +1,4 @@
-//! Calls at any registry of a tree, one after the other.
+//! Registry calls made one after the other.
 ghost use Rattle.std.specs.Prelude.{◌≡◌, OnOk, OnErr, IfOk, None, true, [], map};
 ghost use Rattle.std.specs.String.{string_bytes};
 ghost use Rattle.fm_text.specs.Samples.{labels_of};
@@ -18,7 +18,7 @@ use fm_encoder::EncodeMetric;
 use fm_raw::{MetricType, Unit};
 use std::alloc::Global;
 
-/// A call at the registry at the end of a path of names, which goes on from the registry that runs it.
+/// A call at the registry that a path of subsystem names leads to, starting from the registry that runs the call.
 #[derive(Drop)]
 pub enum RegistryCall<M = Box<dyn EncodeMetric>> {
     /// Registers a metric there.
@@ -29,7 +29,7 @@ pub enum RegistryCall<M = Box<dyn EncodeMetric>> {
         unit: Option<Unit>,
         metric: M,
     },
-    /// Sees that there is a subsystem with this name, and makes it with these labels where there is none.
+    /// Creates a subsystem with this name and these labels there, if it does not exist.
     Subsystem {
         path: Vec<String>,
         name: String,
@@ -37,7 +37,7 @@ pub enum RegistryCall<M = Box<dyn EncodeMetric>> {
     },
 }
 
-// What is asked of one registry.
+// A call at one registry, without its path.
 #[derive(Drop)]
 enum Request<M> {
     Register {
@@ -54,7 +54,7 @@ enum Request<M> {
 }
 
 impl<M: Drop> Registry<M> {
-    // Sees that a subsystem is there, in terms of the tree alone.
+    // Creates a subsystem if it does not exist. Stated of the tree alone.
     fn ask_here(
         &mut self,
         alloc: Global,
@@ -72,7 +72,7 @@ impl<M: Drop> Registry<M> {
         }
     }
 
-    // The same in terms of every book that the tree reads.
+    // The same, stated for every book that the tree reads.
     fn ask_subsystem(
         &mut self,
         alloc: Global,
@@ -86,7 +86,7 @@ impl<M: Drop> Registry<M> {
         self.ask_here(alloc, name, labels)
     }
 
-    // A request here.
+    // Applies a request to this registry.
     fn apply_here(&mut self, alloc: Global, request: Request<M>) -> Result<(), RegistryError>
         ensures reply { (b : _) → Reads self.old b → IsReply (refusal_of result) b (call_at [] request) }
         ensures ok { OnOk result ((b : _) → Reads self.old b → Reads self.new (after b (call_at [] request))) }
@@ -104,7 +104,7 @@ impl<M: Drop> Registry<M> {
         }
     }
 
-    // A request at the end of a path, whose names stand in reverse.
+    // Applies a request at the end of a path, whose names are in reverse order.
     fn apply(
         &mut self,
         alloc: Global,
@@ -125,7 +125,7 @@ impl<M: Drop> Registry<M> {
     }
 }
 
-// The type that a metric answers.
+// The type that a metric declares.
 fn type_of(metric: &Box<dyn EncodeMetric>) -> MetricType
     ensures { types metric.now result }
 {
@@ -133,7 +133,7 @@ fn type_of(metric: &Box<dyn EncodeMetric>) -> MetricType
 }
 
 impl Registry {
-    // One call.
+    // Makes one call.
     fn run_call(&mut self, alloc: Global, call: RegistryCall) -> Result<(), RegistryError>
         ensures { RunsCall (λ m t. types m t) call self.old self.new result }
     {
@@ -167,12 +167,13 @@ impl Registry {
         }
     }
 
-    /// Makes the calls in turn, whatever each is answered, and gives the answer to each.
+    /// Makes the calls in turn, also after a call that fails, and returns the reply to each.
     ///
-    /// A call at a path is answered as `register_metric` or a builder of a subsystem answers there, or with
-    /// `NoSuchSubsystem` and the first name on the path that is not there. A refused call changes nothing. Room for all
-    /// answers is made first: where that finds no memory (`Memory`, the one error here), no call is made. A refusal that these take
-    /// no memory for, and a subsystem that is there, are never answered by `Memory`.
+    /// A call gets the reply that `register_metric` or a subsystem builder gives at that registry, or `NoSuchSubsystem`
+    /// with the first name on its path that does not exist. A call that fails changes nothing. The list of replies is
+    /// allocated first: if that fails, no call is made and `run` returns `Memory`, its only error. A call gets no reply
+    /// `Memory` where these methods allocate nothing: for the errors that they find without memory, and for a subsystem
+    /// that exists.
     pub fn run(
         &mut self,
         alloc: Global,

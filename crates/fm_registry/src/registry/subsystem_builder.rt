@@ -20,7 +20,7 @@ use fm_encoder::EncodeMetric;
 use fm_raw::is_snake_case;
 use std::alloc::Global;
 
-/// Sets up a subsystem of a registry, which it holds until the subsystem is built.
+/// Sets up a subsystem of a registry. It borrows the registry until the subsystem is built.
 #[derive(Drop)]
 pub struct RegistrySubsystemBuilder<'a, M = Box<dyn EncodeMetric>> {
     registry: &'a mut Registry<M>,
@@ -53,10 +53,10 @@ fn begin<'a, M: Drop>(
 }
 
 impl<M: Drop> Registry<M> {
-    /// Begins a subsystem with this name and no labels of its own.
+    /// Begins a subsystem with this name and no labels besides the registry's.
     ///
-    /// Refused, in this order: a name that is not in snake case (`InvalidSubsystemName`), and a subsystem 65 registries
-    /// below a root (`TooDeep`). The registry stays as it was. It takes no memory.
+    /// Errors, in this order: the name is not in snake case (`InvalidSubsystemName`); the subsystem would be 65
+    /// registries below the root (`TooDeep`). At an error the registry stays as it was. It allocates nothing.
     pub fn subsystem_builder(
         &mut self,
         alloc: Global,
@@ -85,9 +85,10 @@ impl<M: Drop> Registry<M> {
 }
 
 impl<'a, M: Drop> RegistrySubsystemBuilder<'a, M> {
-    /// Sets the subsystem's own labels, in place of those of an earlier call.
+    /// Sets the subsystem's labels, and replaces those of an earlier call.
     ///
-    /// Refused where a name is no label name (`InvalidLabelName` with the first such); then the registry stays as it was.
+    /// Fails with `InvalidLabelName` and the first name that is not a valid label name; then the registry stays as it
+    /// was.
     pub fn with_const_labels(
         self,
         labels: Vec<(String, String)>,
@@ -108,15 +109,15 @@ impl<'a, M: Drop> RegistrySubsystemBuilder<'a, M> {
         begin(registry, alloc, name, labels)
     }
 
-    /// The subsystem with this name, which is made where it is not there: with the registry's labels, over which its own are
-    /// set, and with the registry's namespace and the name, joined by an underscore, as its namespace.
+    /// Returns the subsystem with this name. If it does not exist, it is created: its labels are the registry's with
+    /// the builder's set over them, and its namespace is the registry's and the name, joined by an underscore.
     ///
-    /// A subsystem that is there keeps its labels, and takes no memory. A new one is refused under a name that is taken, as by
-    /// `subsystem` (`NameTaken`); at `Memory` no memory could be had. At an error the registry stays as it was.
+    /// An existing subsystem keeps its labels, and returning it allocates nothing. A new one fails with `NameTaken` as
+    /// `subsystem` does, or with `Memory`. At an error the registry stays as it was.
     pub fn build(self) -> Result<&'a mut Subsystem<M>, RegistryError>
         ensures* writes_back { sem 𝓛 (lends_built M.row self.entry result) }
         ensures answer { IsAnswered (refusal_of result) (subsystem_refusal self.entry.registry.now.facts.depth self.entry.registry.now.facts.metrics (names_in self.entry.registry.now.children) (string_bytes self.entry.name) (labels_of self.entry.labels.items)) }
-        // One that is there takes no memory.
+        // Returning an existing one allocates nothing.
         ensures there { has_name (names_in self.entry.registry.now.children) (string_bytes self.entry.name) ≡ true → refusal_of result ≡ asking_refusal self.entry.registry.now.facts.depth (string_bytes self.entry.name) (labels_of self.entry.labels.items) }
         ensures name { IfOk result (λ s. string_bytes s.now.name ≡ string_bytes self.entry.name) }
         ensures reads { IfOk result (λ s. (b : _) → Reads self.entry.registry.now b → LoanReads (with_subsystem self.entry.registry.now (string_bytes self.entry.name) (labels_of self.entry.labels.items)) (string_bytes self.entry.name) s.now.registry (after b (AskSubsystem [] (string_bytes self.entry.name) (labels_of self.entry.labels.items)))) }

@@ -1,4 +1,4 @@
-//! Subsystems: where they stand, and how they are made and lent.
+//! Subsystems: where they are, and how they are created and borrowed.
 ghost use Rattle.std.specs.Prelude.{◌≡◌, ◌<◌, ◌+◌, ◌++◌, ◌∷◌, ◌||◌, true, [], Some, None, IsSome, OnOk, OnErr, IfOk, length};
 ghost use Rattle.std.specs.Borrow.{sem};
 ghost use Rattle.std.specs.List.{position_from, list_any};
@@ -27,10 +27,10 @@ use indexmap::IndexMap;
 use std::alloc::{AllocError, Global};
 use std::ops::{Deref, DerefMut};
 
-// How far below the root a registry may lie.
+// The greatest depth of a registry, where the root has the depth 0.
 pub(super) const DEPTH_LIMIT: usize = 64;
 
-// The place of the first subsystem with this name.
+// The index of the subsystem with this name.
 fn position_of<M>(subsystems: &[Subsystem<M>], name: &str) -> Option<usize>
     ensures { result ≡ position_from (λ s. bytes_eq (string_bytes s.name) name.now) 0 subsystems.now }
 {
@@ -51,7 +51,7 @@ fn are_related(name: &str, other: &str) -> bool
     is_below(name, other) || is_below(other, name)
 }
 
-// Whether the name and that of one of the subsystems are so.
+// Whether this holds of the name and that of one of the subsystems.
 fn is_related_to_any<M>(subsystems: &[Subsystem<M>], name: &str) -> bool
     ensures { result ≡ list_any (λ s. below_test (string_bytes s.name) name.now || below_test name.now (string_bytes s.name)) subsystems.now }
 {
@@ -67,7 +67,7 @@ fn is_above_any<M>(metrics: &IndexMap<Tailed, M>, name: &str) -> bool
     metrics.keys().any(|key| is_below(name, key.tail()))
 }
 
-// Adds a subsystem at the end, and answers its place.
+// Adds a subsystem at the end and returns its index.
 fn push_subsystem<M>(
     subsystems: &mut Option<Vec<Subsystem<M>>>,
     alloc: Global,
@@ -84,7 +84,7 @@ where
 }
 
 impl<M: Drop> Registry<M> {
-    // The place of the subsystem with this name.
+    // The index of the subsystem with this name.
     pub(super) fn place_of(&self, name: &str) -> Option<usize>
         ensures { result ≡ place_in self.now.children name.now }
     {
@@ -94,7 +94,7 @@ impl<M: Drop> Registry<M> {
         }
     }
 
-    // Whether a metric with this tail would lie below a subsystem.
+    // Whether this tail begins with a subsystem's name and an underscore.
     pub(super) fn is_below_child(&self, tail: &str) -> bool
         ensures { result ≡ list_any (λ child. below_test child tail.now) (names_in self.now.children) }
     {
@@ -104,7 +104,7 @@ impl<M: Drop> Registry<M> {
         }
     }
 
-    // Whether a subsystem with this name and another here would lie below one another.
+    // Whether the name of a subsystem here and this one begin with one another and an underscore.
     fn is_beside_child(&self, name: &str) -> bool
         ensures { result ≡ list_any (λ child. below_test child name.now || below_test name.now child) (names_in self.now.children) }
     {
@@ -114,7 +114,7 @@ impl<M: Drop> Registry<M> {
         }
     }
 
-    // Whether a metric here would lie below a subsystem with this name.
+    // Whether the tail of a metric here begins with this name and an underscore.
     fn is_above_metric(&self, name: &str) -> bool
         ensures { result ≡ list_any (λ tail. below_test name.now tail) (tails_of self.now.facts.metrics) }
     {
@@ -124,14 +124,14 @@ impl<M: Drop> Registry<M> {
         }
     }
 
-    // Whether a new subsystem may not have this name.
+    // Whether a new subsystem can't have this name.
     fn is_name_taken(&self, name: &str) -> bool
         ensures { result ≡ is_child_taken (tails_of self.now.facts.metrics) (names_in self.now.children) name.now }
     {
         self.is_above_metric(name) || self.is_beside_child(name)
     }
 
-    // The subsystems, to write.
+    // A mutable reference to the subsystems.
     fn subsystems_mut(&mut self) -> &mut Option<Vec<Subsystem<M>>>
         ensures* writes_back { sem 𝓛 (lends_subsystems M.row self.entry result) }
         ensures value { forest_of (items_of result.now) ≡ self.old.children }
@@ -139,7 +139,7 @@ impl<M: Drop> Registry<M> {
         &mut self.subsystems
     }
 
-    // The subsystem at a place, to write.
+    // A mutable reference to the subsystem at an index.
     pub(super) fn subsystem_at(&mut self, place: usize) -> &mut Subsystem<M>
         requires { IsSome (nth_in self.old.children place) }
         ensures* writes_back { sem 𝓛 (lends_nth M.row self.entry place result) }
@@ -149,7 +149,7 @@ impl<M: Drop> Registry<M> {
         element_mut(self.subsystems_mut(), place)
     }
 
-    // A new subsystem of this registry.
+    // A new subsystem of this registry, not yet added.
     fn new_child(
         &self,
         alloc: Global,
@@ -170,7 +170,7 @@ impl<M: Drop> Registry<M> {
         })
     }
 
-    // The place of a new subsystem, none of whose name is there.
+    // Adds a subsystem whose name does not exist yet, and returns its index.
     fn new_place(
         &mut self,
         alloc: Global,
@@ -197,7 +197,7 @@ impl<M: Drop> Registry<M> {
         }
     }
 
-    // The place of the subsystem with this name, which is made where it is not there.
+    // The index of the subsystem with this name, which is created if it does not exist.
     fn place_or_new(
         &mut self,
         alloc: Global,
@@ -217,7 +217,7 @@ impl<M: Drop> Registry<M> {
         }
     }
 
-    // Sees that the subsystem with this name is there, and answers its place.
+    // Creates the subsystem with this name if it does not exist, and returns its index.
     pub(super) fn add_subsystem(
         &mut self,
         alloc: Global,
@@ -240,7 +240,7 @@ impl<M: Drop> Registry<M> {
         self.place_or_new(alloc, name, labels)
     }
 
-    // The subsystem with this name, which is made with these labels where it is not there.
+    // Returns the subsystem with this name, which is created with these labels if it does not exist.
     pub(super) fn labelled_subsystem(
         &mut self,
         alloc: Global,
@@ -258,15 +258,15 @@ impl<M: Drop> Registry<M> {
         Ok(self.subsystem_at(place))
     }
 
-    /// The subsystem with this name, which is made where it is not there: with this registry's labels, and with its
-    /// namespace and the name, joined by an underscore, as its namespace.
+    /// Returns the subsystem with this name. If it does not exist, it is created with this registry's labels; its
+    /// namespace is this registry's and the name, joined by an underscore.
     ///
-    /// Refused, in this order: a name that is not in snake case (`InvalidSubsystemName`), a subsystem 65 registries below a
-    /// root (`TooDeep`), and, of a subsystem that is not there, a name that is taken (`NameTaken`): a metric's name here,
-    /// with its unit behind an underscore, or another subsystem's name begins with it and an underscore, or it begins with
-    /// another subsystem's name and an underscore. At `Memory` no memory could be had. At an error the registry stays as it
-    /// was. What is done to the subsystem is done to the part of this registry that it is; a subsystem that is there takes
-    /// no memory.
+    /// Errors, in this order: the name is not in snake case (`InvalidSubsystemName`); the subsystem would be 65
+    /// registries below the root (`TooDeep`); for a new subsystem, the name is taken (`NameTaken`) or there is no
+    /// memory (`Memory`). A name is taken if one of these begins with it and an underscore: a metric's name here, with
+    /// an underscore and its unit after it, or the name of another subsystem; or if it begins with another subsystem's
+    /// name and an underscore. At an error the registry stays as it was. What is done to the subsystem becomes part of
+    /// this registry. Returning an existing subsystem allocates nothing.
     pub fn subsystem(
         &mut self,
         alloc: Global,
@@ -274,7 +274,7 @@ impl<M: Drop> Registry<M> {
     ) -> Result<&mut Subsystem<M>, RegistryError>
         ensures* writes_back { sem 𝓛 (lends_subsystem M.row self.entry (string_bytes name) [] result) }
         ensures answer { IsAnswered (refusal_of result) (subsystem_refusal self.old.facts.depth self.old.facts.metrics (names_in self.old.children) (string_bytes name) []) }
-        // One that is there takes no memory.
+        // Returning an existing one allocates nothing.
         ensures there { has_name (names_in self.old.children) (string_bytes name) ≡ true → refusal_of result ≡ asking_refusal self.old.facts.depth (string_bytes name) [] }
         ensures name { IfOk result (λ s. string_bytes s.now.name ≡ string_bytes name) }
         ensures reads { IfOk result (λ s. (b : _) → Reads self.old b → LoanReads (with_subsystem self.old (string_bytes name) []) (string_bytes name) s.now.registry (after b (AskSubsystem [] (string_bytes name) []))) }
@@ -306,7 +306,7 @@ impl<M> DerefMut for Subsystem<M> {
 }
 
 impl<M> Subsystem<M> {
-    /// The subsystem's own name.
+    /// The subsystem's name, without the names above it.
     pub fn name(&self) -> &str
         ensures { result.now ≡ string_bytes self.now.name }
     {
