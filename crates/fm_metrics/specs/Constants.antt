@@ -1,4 +1,4 @@
--- What constant metrics were made with.
+-- The values that constant metrics were made with.
 use Rattle.std.specs.Prelude.{Option}
 use Rattle.std.specs.declared.time.Duration.{Duration}
 use Rattle.fm_metrics.specs.declared.counter.ConstCounter.{ConstCounter}

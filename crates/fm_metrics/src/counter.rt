@@ -1,4 +1,4 @@
-//! Counters: numbers that only grow.
+//! Constant counters.
 ghost use Rattle.std.specs.Prelude.{◌≡◌, [], ◌∷◌, None, Some, Option};
 ghost use Rattle.std.specs.Option.{option_map};
 ghost use Rattle.fm_grammar.specs.declared.MetricType.TheVariants.{Counter};
@@ -20,7 +20,7 @@ pub struct ConstCounter<N = u64> {
 }
 
 impl<N> ConstCounter<N> {
-    /// The counter of this total, without a time of creation.
+    /// A counter with this total and no time of creation.
     pub fn new(total: N) -> ConstCounter<N>
         ensures total { total_of result ≡ total }
         ensures created { created_of result ≡ None }
@@ -31,7 +31,7 @@ impl<N> ConstCounter<N> {
         }
     }
 
-    /// The counter of this total, created at this time since the Unix epoch. Its whole milliseconds are written.
+    /// A counter with this total, created at this time since the Unix epoch. It is written in whole milliseconds.
     pub fn with_created(total: N, created: Duration) -> ConstCounter<N>
         ensures total { total_of result ≡ total }
         ensures created { created_of result ≡ Some created }
@@ -42,7 +42,7 @@ impl<N> ConstCounter<N> {
         }
     }
 
-    /// When the counter was created, if that is known.
+    /// When the counter was created, since the Unix epoch, if it is known.
     pub fn created(&self) -> Option<Duration>
         ensures { result ≡ created_of self.now }
     {
@@ -59,7 +59,7 @@ impl<N: Copy> ConstCounter<N> {
     }
 }
 
-/// The counter of zero, without a time of creation.
+/// A counter with the total 0 and no time of creation.
 impl<N: Number> Default for ConstCounter<N> {
     ghost is_default = { λ c. (total_of c ≡ N.ZERO) × (created_of c ≡ None) };
 

@@ -1,4 +1,4 @@
-//! Gauges: numbers that rise and fall.
+//! Constant gauges.
 ghost use Rattle.std.specs.Prelude.{◌≡◌, [], ◌∷◌};
 ghost use Rattle.fm_grammar.specs.declared.MetricType.TheVariants.{Gauge};
 ghost use Rattle.fm_encoder.specs.Points.{GaugePoint};
@@ -18,7 +18,7 @@ pub struct ConstGauge<N = i64> {
 }
 
 impl<N> ConstGauge<N> {
-    /// The gauge of this value.
+    /// A gauge with this value.
     pub fn new(value: N) -> ConstGauge<N>
         ensures { value_of result ≡ value }
     {
@@ -35,7 +35,7 @@ impl<N: Copy> ConstGauge<N> {
     }
 }
 
-/// The gauge of zero.
+/// A gauge with the value 0.
 impl<N: Number> Default for ConstGauge<N> {
     ghost is_default = { λ g. value_of g ≡ N.ZERO };
 

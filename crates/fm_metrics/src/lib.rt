@@ -1,4 +1,4 @@
-//! Constant metrics: counters and gauges that keep the value they were made with.
+//! Constant counters and gauges: they keep the value they were made with.
 #![tactic(auto)]
 
 pub mod counter;
