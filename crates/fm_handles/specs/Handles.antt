@@ -1,4 +1,4 @@
--- What metrics keep that is not for other threads to change.
+-- The parts of metrics that other threads can't change.
 use Rattle.std.specs.Prelude.{Option}
 use Rattle.std.specs.Arc.{arc_value}
 use Rattle.std.specs.declared.time.Duration.{Duration}
@@ -9,7 +9,7 @@ use Rattle.fm_handles.specs.declared.state_set.StateSetValue.{Ghosts as StateGho
 use Rattle.fm_handles.specs.declared.state_set.ConstStateSet.{ConstStateSet}
 use Rattle.fm_handles.specs.declared.unknown.Unknown.{Unknown}
 
--- the time of creation that the clones of a counter share; W is the type of the word that holds its total
+-- the time of creation that the clones of a counter share; W is the type of the atomic that contains its total
 abbrev pub created_of : {N W : Type 0} → Counter N W → Option Duration
 created_of counter = (arc_value counter.count).created
 
@@ -21,10 +21,10 @@ value_of metric = metric.value
 abbrev pub kept_state : {T : Type 0} {states : StateGhosts T} {eq : EqGhosts T} → ConstStateSet T states eq → T
 kept_state metric = metric.state
 
--- the label set of an information
+-- the label set of an info metric
 abbrev pub label_set_of : {LS : Type 0} → Info LS → LS
 label_set_of info = info.labels
 
--- the word that holds a counter's total, which its clones share
+-- the atomic that contains a counter's total, which its clones share
 abbrev pub total_of : {N W : Type 0} → Counter N W → W
 total_of counter = (arc_value counter.count).total

@@ -1,4 +1,4 @@
--- The order of the numbers that metrics hold.
+-- The order of the numbers that metrics contain.
 use Rattle.std.specs.Prelude.{◌≡◌, Option, Some}
 use Rattle.std.specs.declared.cmp.Ordering.{Ordering}
 use Rattle.std.specs.declared.cmp.Ordering.TheVariants.{Less}

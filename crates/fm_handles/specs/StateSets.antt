@@ -1,4 +1,4 @@
--- The states of a state set, which is in one of them at a time.
+-- The states of a state set. One of them is current.
 use Rattle.std.specs.Prelude.{◌≡◌, ℕ, ◌<◌, ◌≤◌, ◌⊎◌, Bool, true, false, List, Some, map, length, slice_get}
 use Rattle.fm_raw.specs.declared.error.MetricError.{MetricError}
 use Rattle.fm_raw.specs.declared.error.MetricError.TheVariants.{Memory, UnknownState, TooManyStates}
@@ -12,7 +12,7 @@ module _ {T : Type 0} (eq : T → T → Bool) (all : List T) where
   abbrev pub IsNoState : T → Type 0
   IsNoState state = (i : ℕ) (x : T) → slice_get all i ≡ Some x → eq x state ≡ false
 
-  -- `i` is the place of a state that equals itself
+  -- `i` is the index of a state that equals itself
   abbrev pub IsStatePlace : ℕ → Type 0
   IsStatePlace i = (x : T) × (slice_get all i ≡ Some x) × (eq x x ≡ true)
 
@@ -28,7 +28,7 @@ module _ {T : Type 0} (eq : T → T → Bool) (all : List T) where
   abbrev pub states_at : (T → List ℕ) → T → List (List ℕ × Bool)
   states_at text current = map (λ x. (text x, eq x current)) all
 
-  -- why no state set of these states in the state `state` is made: the first test that fails
+  -- why no state set can be made of these states with the state `state`: the first test that fails
   abbrev pub IsRefusedAs : T → MetricError → Type 0
   IsRefusedAs state e =
       ((e ≡ TooManyStates) × (256 < length all))

@@ -24,18 +24,18 @@ struct Count<N: CounterValue> {
     created: Option<Duration>,
 }
 
-/// A total that only grows, but for the wrap at its type's greatest value, and that its clones share.
+/// A total that only grows, except that it wraps at its type's greatest value. Its clones share it.
 ///
-/// `N` is `u32`, `u64`, `usize` or `Fixed`. Each change is one step of an atomic; no call waits, and only making one
-/// and cloning take memory.
+/// `N` is `u32`, `u64`, `usize` or `Fixed`. Each change is one atomic step. No call waits, and only making a counter
+/// and cloning it take memory.
 #[derive(Drop)]
 pub struct Counter<N: CounterValue = u64> {
     count: Arc<Count<N>, Global>,
 }
 
 impl<N: CounterValue> Counter<N> {
-    /// The counter of zero, created at this time since the Unix epoch. Its whole milliseconds are written. It takes memory
-    /// and may find none.
+    /// A counter with the total 0, created at this time since the Unix epoch. It is written in whole milliseconds.
+    /// Fails with `Memory` if there is none.
     pub fn with_created(alloc: Global, created: Duration) -> Result<Counter<N>, MetricError>
         ensures created { IfOk result (λ c. created_of c ≡ Some created) }
         ensures memory { IfErr result (λ e. e ≡ Memory) }
@@ -46,14 +46,15 @@ impl<N: CounterValue> Counter<N> {
         Ok(Counter { count })
     }
 
-    /// Adds one whole, and answers the total before.
+    /// Adds one and returns the total before.
     pub fn inc(&self) -> N
         ensures { N.in_range result }
     {
         self.count.total.inc()
     }
 
-    /// Adds `v`, and answers the total before. A negative `v` is refused as `NegativeIncrement`, and changes nothing.
+    /// Adds `v` and returns the total before. Fails with `NegativeIncrement` if `v` is negative, and then changes
+    /// nothing.
     pub fn inc_by(&self, v: N) -> Result<N, MetricError>
         ensures taken { IfOk result (λ before. N.in_range before × ¬ (IsBelow N.partial_cmp v N.ZERO)) }
         ensures refused { IfErr result (λ e. (e ≡ NegativeIncrement) × IsBelow N.partial_cmp v N.ZERO) }
@@ -64,8 +65,8 @@ impl<N: CounterValue> Counter<N> {
         Ok(self.count.total.inc_by(v))
     }
 
-    /// Raises the total to `v` in one step. Where the step meets a greater total, that stays, and the call is refused as
-    /// `LessThanBefore`.
+    /// Sets the total to `v` in one atomic step. Fails with `LessThanBefore` if the total is greater, and then keeps
+    /// it.
     pub fn set(&self, v: N) -> Result<(), MetricError>
         ensures raised { (before : N) × N.in_range before × N.Atomic.Atomic.raises (total_of self.now) v before
             × MatchResult result (λ _. ¬ (IsBelow N.partial_cmp v before)) (λ e. (e ≡ LessThanBefore) × IsBelow N.partial_cmp v before) }
@@ -84,7 +85,7 @@ impl<N: CounterValue> Counter<N> {
         self.count.total.get()
     }
 
-    /// When the counter was created, if that is known.
+    /// When the counter was created, since the Unix epoch, if it is known.
     pub fn created(&self) -> Option<Duration>
         ensures { result ≡ created_of self.now }
     {
@@ -92,7 +93,7 @@ impl<N: CounterValue> Counter<N> {
     }
 }
 
-/// The counter of zero, without a time of creation.
+/// A counter with the total 0 and no time of creation.
 impl<N: CounterValue, H: Wait + Drop> TryDefault<H> for Counter<N> {
     ghost is_default = { λ c. created_of c ≡ None };
 
@@ -104,7 +105,7 @@ impl<N: CounterValue, H: Wait + Drop> TryDefault<H> for Counter<N> {
     }
 }
 
-/// The same counter. The clone may find no memory.
+/// Another handle of the same counter. Cloning takes memory, and fails if there is none.
 impl<N: CounterValue> Clone for Counter<N> {
     ghost is_clone = { λ c d. arc_value d.count ≡ arc_value c.count };
 
@@ -114,7 +115,7 @@ impl<N: CounterValue> Clone for Counter<N> {
     }
 }
 
-/// The total at this moment, and the time of creation.
+/// Shows the current total and the time of creation.
 impl<N: CounterValue> Debug for Counter<N> {
     fn fmt<W: fmt::Write>(&self, f: &mut Formatter<W>) -> fmt::Result {
         let total = self.count.total.get();

@@ -14,17 +14,17 @@ use std::fmt::{self, Debug, Formatter};
 use std::sync::{Arc, Wait};
 use std::time::Duration;
 
-/// A value that rises and falls, and that its clones share.
+/// A value that rises and falls. Its clones share it.
 ///
-/// `N` is `i32`, `i64`, `isize`, `u32`, `u64` or `Fixed`. Each change is one step of an atomic, and wraps at the ends of
-/// the type; no call waits, and only making one and cloning take memory.
+/// `N` is `i32`, `i64`, `isize`, `u32`, `u64` or `Fixed`. Each change is one atomic step, and wraps at the ends of the
+/// type. No call waits, and only making a gauge and cloning it take memory.
 #[derive(Drop)]
 pub struct Gauge<N: GaugeValue = i64> {
     value: Arc<N::Atomic, Global>,
 }
 
 impl<N: GaugeValue> Gauge<N> {
-    /// The gauge of this value. It takes memory and may find none.
+    /// A gauge with this value. Fails with `Memory` if there is none.
     pub fn new(alloc: Global, value: N) -> Result<Gauge<N>, MetricError>
         ensures { IfErr result (λ e. e ≡ Memory) }
     {
@@ -34,35 +34,35 @@ impl<N: GaugeValue> Gauge<N> {
         Ok(Gauge { value })
     }
 
-    /// Adds one whole, and answers the value before.
+    /// Adds one and returns the value before.
     pub fn inc(&self) -> N
         ensures { N.in_range result }
     {
         self.value.inc()
     }
 
-    /// Adds `v`, and answers the value before.
+    /// Adds `v` and returns the value before.
     pub fn inc_by(&self, v: N) -> N
         ensures { N.in_range result }
     {
         self.value.inc_by(v)
     }
 
-    /// Takes one whole away, and answers the value before.
+    /// Subtracts one and returns the value before.
     pub fn dec(&self) -> N
         ensures { N.in_range result }
     {
         self.value.dec()
     }
 
-    /// Takes `v` away, and answers the value before.
+    /// Subtracts `v` and returns the value before.
     pub fn dec_by(&self, v: N) -> N
         ensures { N.in_range result }
     {
         self.value.dec_by(v)
     }
 
-    /// Makes `v` the value.
+    /// Sets the value to `v`.
     pub fn set(&self, v: N) {
         self.value.set(v);
     }
@@ -75,7 +75,7 @@ impl<N: GaugeValue> Gauge<N> {
     }
 }
 
-/// The gauge of zero.
+/// A gauge with the value 0.
 impl<N: GaugeValue, H: Wait + Drop> TryDefault<H> for Gauge<N> {
     fn try_default(_wait: H, alloc: Global) -> Result<Gauge<N>, MetricError> {
         let value = Arc::new(alloc, N::Atomic::default())?;
@@ -83,7 +83,7 @@ impl<N: GaugeValue, H: Wait + Drop> TryDefault<H> for Gauge<N> {
     }
 }
 
-/// The same gauge. The clone may find no memory.
+/// Another handle of the same gauge. Cloning takes memory, and fails if there is none.
 impl<N: GaugeValue> Clone for Gauge<N> {
     ghost is_clone = { λ g h. arc_value h.value ≡ arc_value g.value };
 
@@ -93,7 +93,7 @@ impl<N: GaugeValue> Clone for Gauge<N> {
     }
 }
 
-/// The value at this moment.
+/// Shows the current value.
 impl<N: GaugeValue> Debug for Gauge<N> {
     fn fmt<W: fmt::Write>(&self, f: &mut Formatter<W>) -> fmt::Result {
         let value = self.value.get();

@@ -9,14 +9,14 @@ use fm_raw::{MetricType, TypedMetric};
 use fm_text::EncodeError;
 use std::time::Duration;
 
-/// A label set that a family of information shows.
+/// An info metric: a label set that does not change.
 #[derive(Clone, Debug, Drop)]
 pub struct Info<LS> {
     labels: LS,
 }
 
 impl<LS> Info<LS> {
-    /// The information of this label set.
+    /// An info metric with this label set.
     pub fn new(labels: LS) -> Info<LS>
         ensures { label_set_of result ≡ labels }
     {

@@ -1,4 +1,4 @@
-//! Metrics that threads share without a lock, and constant metrics beside them.
+//! Metrics that threads share without a lock, and the constant `Info`, `Unknown` and `ConstStateSet`.
 #![tactic(auto)]
 
 pub mod counter;

@@ -19,7 +19,7 @@ use std::sync::atomic::{AtomicIn, Rule};
 use std::sync::{Arc, Wait};
 use std::time::Duration;
 
-/// The most states that a state set may have.
+/// The greatest number of states of a state set.
 pub const MAX_STATES: usize = 256;
 
 /// A type whose values are the states of a state set.
@@ -30,7 +30,7 @@ pub trait StateSetValue: PartialEq + Sized + Send + Sync + Drop {
     /// The bytes of a state's text.
     ghost text: { Self → List ℕ };
 
-    /// The states, in order: the same at each call.
+    /// The states, in order. Each call returns the same.
     fn variants() -> &'static [Self]
         ensures { result.now ≡ all };
 
@@ -39,7 +39,7 @@ pub trait StateSetValue: PartialEq + Sized + Send + Sync + Drop {
         ensures { result.now ≡ text self.now };
 }
 
-// The place of the first of `all` that equals `state`.
+// The index of the first of `all` that equals `state`.
 fn find_state<T: PartialEq>(all: &[T], state: &T) -> Option<usize>
     ensures place { MatchOption result (IsNoState T.eq all.now state.now) (IsStatePlace T.eq all.now) }
     ensures found { MatchOption result (IsNoState T.eq all.now state.now) (λ _. IsState T.eq all.now state.now) }
@@ -52,7 +52,7 @@ fn find_state<T: PartialEq>(all: &[T], state: &T) -> Option<usize>
     None
 }
 
-// What equals one of the states is one of them.
+// If `state` equals `other` and one of a list of states, then `other` equals one of them too.
 fn equal_is_known<T: PartialEq>(state: &T, other: &T)
     ensures { (all : List T) → T.eq state.now other.now ≡ true → ∥ IsState T.eq all state.now ∥₁ → ∥ IsState T.eq all other.now ∥₁ }
 {
@@ -60,7 +60,7 @@ fn equal_is_known<T: PartialEq>(state: &T, other: &T)
     let _other = other;
 }
 
-// Lists all states where this is the current one. It is a trait, so that methods of other traits may call it.
+// Lists each state's text, and whether it is this state. It is a trait so that methods of other traits can call it.
 trait TellStates: StateSetValue + 'static {
     fn tell_states(&self, alloc: Global) -> Result<Vec<(&str, bool)>, MetricError>;
 }
@@ -79,7 +79,7 @@ impl<T: StateSetValue + 'static> TellStates for T {
     }
 }
 
-// The rule of a word that holds the place of a state.
+// The rule of an atomic that contains the index of a state.
 struct PlaceOf<T> {
     states: PhantomData<T>,
 }
@@ -88,14 +88,14 @@ impl<T: StateSetValue> Rule for PlaceOf<T> {
     ghost invariant = { IsStatePlace T.eq T.all };
 }
 
-/// A state that its clones share. A change is one store and a reading one load of a word that holds the state's place.
+/// A state that its clones share. An atomic contains its index: a change is one store, a reading one load.
 #[derive(Drop)]
 pub struct StateSet<T: StateSetValue> {
     place: Arc<AtomicIn<PlaceOf<T>>, Global>,
     alloc: Global,
 }
 
-// Reads the current state. It is a trait, so that methods of other traits may call it.
+// Reads the current state. It is a trait so that methods of other traits can call it.
 trait CurrentState<T> {
     fn current(&self) -> &T;
 }
@@ -110,8 +110,8 @@ impl<T: StateSetValue + 'static> CurrentState<T> for StateSet<T> {
 }
 
 impl<T: StateSetValue + 'static> StateSet<T> {
-    /// The state set in this state. It is refused first as `TooManyStates` where there are more than 256 states, then as
-    /// `UnknownState` where none equals the given one; then it takes memory and may find none.
+    /// A state set whose current state is `state`. Errors, in this order: there are more than 256 states
+    /// (`TooManyStates`), no state equals `state` (`UnknownState`), there is no memory (`Memory`).
     pub fn new(alloc: Global, state: T) -> Result<StateSet<T>, MetricError>
         ensures { MatchResult result (λ _. (length T.all ≤ MAX_STATES) × IsState T.eq T.all state) (IsRefusedAs T.eq T.all state) }
     {
@@ -123,7 +123,7 @@ impl<T: StateSetValue + 'static> StateSet<T> {
         Ok(StateSet { place, alloc })
     }
 
-    /// Makes this the current state. It is refused as `UnknownState` where no state equals it, and then changes nothing.
+    /// Makes `state` the current state. Fails with `UnknownState` if no state equals it, and then changes nothing.
     pub fn set(&self, state: T) -> Result<(), MetricError>
         ensures { MatchResult result (λ _. IsState T.eq T.all state) (λ e. (e ≡ UnknownState) × IsNoState T.eq T.all state) }
     {
@@ -139,7 +139,7 @@ impl<T: StateSetValue + 'static> StateSet<T> {
         self.current()
     }
 
-    /// Each state's text, in order, with true where the state equals the current one. It takes memory and may find none.
+    /// Each state's text, in order, and whether the state equals the current one. Fails with `Memory` if there is none.
     pub fn states(&self) -> Result<Vec<(&str, bool)>, MetricError>
         ensures told { IfOk result (λ told. (current : T) × IsVariant T.eq T.all current × (map state_of told.items ≡ states_at T.eq T.all T.text current)) }
         ensures one { IfOk result (λ told. AreDifferent T.eq T.all → count_by (λ p. p.1) told.items ≡ 1) }
@@ -149,7 +149,7 @@ impl<T: StateSetValue + 'static> StateSet<T> {
     }
 }
 
-/// The state set in the state's default. It is refused as `new` refuses that.
+/// A state set whose current state is the type's default. It fails as `new` does with that state.
 impl<T: StateSetValue + Default + 'static, H: Wait + Drop> TryDefault<H> for StateSet<T> {
     ghost may_refuse = { λ e. (state : T) × T.is_default state × IsRefusedAs T.eq T.all state e };
 
@@ -164,7 +164,7 @@ impl<T: StateSetValue + Default + 'static, H: Wait + Drop> TryDefault<H> for Sta
     }
 }
 
-/// The same state set. The clone may find no memory.
+/// Another handle of the same state set. Cloning takes memory, and fails if there is none.
 impl<T: StateSetValue> Clone for StateSet<T> {
     ghost is_clone = { λ s t. arc_value t.place ≡ arc_value s.place };
 
@@ -176,7 +176,7 @@ impl<T: StateSetValue> Clone for StateSet<T> {
     }
 }
 
-/// The text of the current state.
+/// Shows the text of the current state.
 impl<T: StateSetValue + 'static> Debug for StateSet<T> {
     fn fmt<W: fmt::Write>(&self, f: &mut Formatter<W>) -> fmt::Result {
         f.debug_struct("StateSet")
@@ -234,8 +234,8 @@ pub struct ConstStateSet<T: StateSetValue> {
 impl<T: StateSetValue + 'static> ConstStateSet<T> {
     ghost use Rattle.fm_handles.specs.Handles.{kept_state};
 
-    /// The state set in this state. It is refused first as `TooManyStates` where there are more than 256 states, then as
-    /// `UnknownState` where none equals the given one. It takes no memory, but keeps the allocator for `states`.
+    /// A state set whose state is `state`. Errors, in this order: there are more than 256 states (`TooManyStates`), no
+    /// state equals `state` (`UnknownState`). It takes no memory. It keeps the allocator for `states`.
     pub fn new(alloc: Global, state: T) -> Result<ConstStateSet<T>, MetricError>
         ensures made { IfOk result (λ s. kept_state s ≡ state) }
         ensures refused { MatchResult result (λ _. (length T.all ≤ MAX_STATES) × IsState T.eq T.all state) (λ e. IsRefusedAs T.eq T.all state e × ¬ (e ≡ Memory)) }
@@ -256,7 +256,7 @@ impl<T: StateSetValue + 'static> ConstStateSet<T> {
         &self.state
     }
 
-    /// Each state's text, in order, with true where the state equals this one. It takes memory and may find none.
+    /// Each state's text, in order, and whether the state equals this one. Fails with `Memory` if there is none.
     pub fn states(&self) -> Result<Vec<(&str, bool)>, MetricError>
         ensures told { IfOk result (λ told. map state_of told.items ≡ states_at T.eq T.all T.text (kept_state self.now)) }
         ensures one { IfOk result (λ told. AreDifferent T.eq T.all → count_by (λ p. p.1) told.items ≡ 1) }
@@ -269,7 +269,7 @@ impl<T: StateSetValue + 'static> ConstStateSet<T> {
 impl<T: StateSetValue + Clone + 'static> ConstStateSet<T> {
     ghost use Rattle.fm_handles.specs.Handles.{kept_state};
 
-    /// The state set in a clone of the state, which has to equal the state. The clone may find no memory.
+    /// A state set with a clone of the state, which must equal the state. Cloning fails if there is no memory.
     pub fn clone(&self) -> Result<ConstStateSet<T>, AllocError>
         requires { (state : T) → T.is_clone (kept_state self.now) state → T.eq (kept_state self.now) state ≡ true }
         ensures { IfOk result (λ s. T.is_clone (kept_state self.now) (kept_state s)) }
@@ -283,7 +283,7 @@ impl<T: StateSetValue + Clone + 'static> ConstStateSet<T> {
     }
 }
 
-/// The text of the state.
+/// Shows the text of the state.
 impl<T: StateSetValue> Debug for ConstStateSet<T> {
     fn fmt<W: fmt::Write>(&self, f: &mut Formatter<W>) -> fmt::Result {
         f.debug_struct("ConstStateSet")

@@ -1,4 +1,4 @@
-//! Metrics of no known type.
+//! Metrics of unknown type.
 ghost use Rattle.std.specs.Prelude.{◌≡◌, [], ◌∷◌};
 ghost use Rattle.fm_grammar.specs.declared.MetricType.TheVariants.{Unknown as UnknownType};
 ghost use Rattle.fm_encoder.specs.Points.{UnknownPoint};
@@ -10,7 +10,7 @@ use fm_raw::{MetricType, TypedMetric};
 use fm_text::EncodeError;
 use std::time::Duration;
 
-/// A metric of no known type that keeps the value it was made with.
+/// A metric of unknown type that keeps the value it was made with.
 ///
 /// `T` is `i32`, `i64`, `isize`, `u32` or `Fixed`.
 #[derive(Clone, Debug, Drop)]
@@ -19,7 +19,7 @@ pub struct Unknown<T: UnknownValue> {
 }
 
 impl<T: UnknownValue> Unknown<T> {
-    /// The metric of this value.
+    /// A metric with this value.
     pub fn new(value: T) -> Unknown<T>
         ensures { value_of result ≡ value }
     {
