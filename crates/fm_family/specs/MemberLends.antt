@@ -1,4 +1,4 @@
--- What a list of members ends as, once a reference into it has ended.
+-- What a list of members is once a reference into it has ended.
 use Rattle.std.specs.Prelude.{Result, ⊤}
 use Rattle.std.specs.Borrow.{Fml, RattleType, Bor, MutBor, follows_so}
 use Rattle.std.specs.HashMap.Lent.{HashMembers}
@@ -11,11 +11,11 @@ use Rattle.fm_family.specs.declared.members.FamilyCore.{FamilyCore}
 use Rattle.fm_family.specs.contracts.members.FamilyCore.{the_row}
 
 module _ (L M S H : RattleType) (key : HashMembers L.Denot) (build : builder.Ghosts S.Denot H.Denot) (hash : hasher.Ghosts H.Denot) where
-  -- the list's type, as the logic holds it
+  -- the list's type in the logic
   abbrev pub core_row : RattleType
   core_row = the_row L M S H (record { eq = key.eq }) (record { hash_input = key.hash_input }) build hash
 
-  -- it ends as `GetsOrAdds` says
+  -- it is as `GetsOrAdds` says
   abbrev pub ends_with_member : MutBor (FamilyCore L.Denot M.Denot S.Denot H.Denot) → L.Denot → (Result M.Denot MetricError → Type 0) → Result (Bor M.Denot) MetricError → Fml
   ends_with_member core labels promises answer = follows_so core_row core_row core.ghost_name none (λ _ _. ⊤)
       (λ n. GetsOrAdds key.eq promises labels core.now.members.entries n.members.entries ShowsMetric answer)

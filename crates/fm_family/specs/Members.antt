@@ -13,9 +13,9 @@ use Rattle.fm_encoder.specs.Hands.{OffersOf}
 abbrev pub ClonesEqual : {L : Type 0} → (L → L → Type 0) → (L → L → Bool) → Type 0
 ClonesEqual {L} is_clone eq = (x y : L) → is_clone x y → eq x y ≡ true
 
--- a look-up of a label set, which adds a pair for one that is absent: a metric that is there is answered as `tells` says,
--- and the list stays; else a pair with a metric that the factory promises was added at the end and is answered,
--- or the list is as it was, and the refusal is of memory or one that the factory promises
+-- a look-up of a label set, which adds a pair if it is absent: for a metric that exists the result is as `tells` says,
+-- and the list stays; else a pair with a metric that the factory promises was added at the end and is the result, or
+-- the list is as it was, and the error is of memory or one that the factory promises
 abbrev pub GetsOrAdds : {L M A : Type 0} → (L → L → Bool) → (Result M MetricError → Type 0) → L → List (L × M) → List (L × M) → (A → M → Type 0) → Result A MetricError → Type 0
 GetsOrAdds {L} {M} eq promises labels old new tells answer = MatchOption (lookup (eq labels) old)
     (MatchResult answer
@@ -23,7 +23,7 @@ GetsOrAdds {L} {M} eq promises labels old new tells answer = MatchOption (lookup
     (λ e. (new ≡ old) × ((e ≡ Memory) ⊎ promises (Err e))))
     (λ m. (new ≡ old) × IsOkAnd answer (λ a. tells a m))
 
--- the place holds the metric
+-- the metric at this index
 abbrev pub HoldsMetric : {L M : Type 0} → List (L × M) → ℕ → M → Type 0
 HoldsMetric es place m = slice_get (values_of es) place ≡ Some m
 
@@ -39,6 +39,6 @@ OffersFirst labels Points pairs members = (n : ℕ) × OffersOf labels Points (t
 abbrev pub OffersDifferent : {L M : Type 0} → (L → L → Bool) → (L → List HandedLabel) → (M → List Point → Type 0) → List Member → Type 0
 OffersDifferent {L} {M} eq labels Points members = (pairs : List (L × M)) × IsDistinct eq (keys_of pairs) × OffersOf labels Points pairs members
 
--- the labels or the metric may answer an error of their own
+-- the labels or the metric may return an error of their own
 abbrev pub MayFault : {L M : Type 0} → (L → Type 0) → (M → Type 0) → L × M → Type 0
 MayFault labels metric pair = labels pair.0 ⊎ metric pair.1

@@ -1,4 +1,4 @@
-//! What makes the members of a family.
+//! Factories, which make the members of a family.
 ghost use Rattle.std.specs.Prelude.{◌≡◌, ◌⊎◌, Result, MatchResult, ⊤};
 ghost use Rattle.fm_raw.specs.declared.error.MetricError.{MetricError as Refusal};
 ghost use Rattle.fm_raw.specs.declared.error.MetricError.TheVariants.{Memory};
@@ -9,24 +9,24 @@ use std::alloc::Global;
 use std::marker::PhantomData;
 use std::sync::Wait;
 
-/// Makes the metric of a label set that a family meets for the first time.
+/// Makes the metric of a label set when a family first needs it.
 ///
-/// Each closure that takes nothing and answers a metric or a refusal is one. In a boxed family it has to be a closure, and no
-/// function pointer.
+/// Each closure without arguments that returns a `Result` of a metric or a `MetricError` is a factory. A family in a
+/// box needs a closure: a function pointer is refused there.
 pub trait MetricFactory<M> {
-    /// Holds of a factory that may be called.
+    /// Holds of a factory that can be called.
     ghost is_ready: { Self → Type 0 };
 
-    /// Holds of each answer that the factory may give.
+    /// Holds of each result that the factory may return.
     ghost promises: { Self → Result M Refusal → Type 0 };
 
-    /// A new metric, or the factory's refusal.
+    /// A new metric, or the factory's error.
     fn new_metric(&self) -> Result<M, MetricError>
         requires { is_ready self.now }
         ensures { promises self.now result };
 }
 
-/// It promises what the closure's own contract says of its answers.
+/// It promises what the closure's contract says of its results.
 impl<M, F: Fn() -> Result<M, MetricError>> MetricFactory<M> for F {
     ghost is_ready = { λ f. F.pre f };
 
@@ -37,7 +37,7 @@ impl<M, F: Fn() -> Result<M, MetricError>> MetricFactory<M> for F {
     }
 }
 
-/// Makes metrics by `try_default`. It keeps what that takes: a handle of waiting and the allocator.
+/// Makes metrics by `try_default`. It keeps the arguments of that: a `Wait` handle and the allocator.
 #[derive(Drop)]
 pub struct DefaultFactory<M, H: Wait> {
     wait: H,
@@ -46,7 +46,7 @@ pub struct DefaultFactory<M, H: Wait> {
 }
 
 impl<M: TryDefault<H>, H: Wait + Clone> DefaultFactory<M, H> {
-    /// The factory that makes metrics by `try_default`. It takes no memory.
+    /// A factory that makes metrics by `try_default`. It takes no memory.
     pub fn new(wait: H, alloc: Global) -> DefaultFactory<M, H> {
         DefaultFactory {
             wait,
@@ -56,7 +56,7 @@ impl<M: TryDefault<H>, H: Wait + Clone> DefaultFactory<M, H> {
     }
 }
 
-/// It promises a metric to begin with, or a refusal of `try_default`; or it finds no memory for another handle.
+/// It promises a default metric, or an error of `try_default`, or `Memory` if the `Wait` handle can't be cloned.
 impl<M: TryDefault<H>, H: Wait + Clone> MetricFactory<M> for DefaultFactory<M, H> {
     ghost is_ready = { λ _. ⊤ };
 

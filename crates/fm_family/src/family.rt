@@ -24,11 +24,12 @@ struct Shared<LS: Eq + Hash, M, MF, S: BuildHasher> {
     factory: MF,
 }
 
-/// Metrics of one type by label set, which its clones share under a lock. The factory `MF` makes a metric when its label set is
-/// first used. The members print in this order.
+/// Metrics of one type by label set, behind a lock. The clones of a family share them. The factory `MF` makes a metric
+/// when its label set is first used. The exposition has the members in the order in which they were made.
 ///
-/// A call waits while another thread makes a metric, and one that makes a metric waits for all others. Neither a closure that is
-/// lent a metric nor the factory may enter the same family: it would wait for ever. For the hasher `S` see `FamilyCore`.
+/// A call waits while another thread makes a metric, and a call that makes a metric waits for all others. Neither the
+/// factory nor a closure that borrows a metric may call the same family: it would wait for ever. For the hasher `S` see
+/// `FamilyCore`.
 #[derive(Drop)]
 pub struct Family<LS: Eq + Hash, M, MF, S: BuildHasher, H: Wait> {
     shared: Arc<Shared<LS, M, MF, S>, Global>,
@@ -42,7 +43,7 @@ impl<
     S: BuildHasher + Default + Drop,
     H: Wait + Drop,
 > Family<LS, M, MF, S, H> {
-    /// The family without members that makes metrics by this factory, with the default hasher. It may find no memory.
+    /// A family without members, with this factory and the default hasher. Fails with `Memory` if there is none.
     pub fn new(wait: H, alloc: Global, factory: MF) -> Result<Self, MetricError>
         ensures kept { IfOk result (λ f. (arc_value f.shared).factory ≡ factory) }
         ensures memory { IfErr result (λ e. e ≡ Memory) }
@@ -58,7 +59,7 @@ impl<LS: Eq + Hash + Drop, M: Drop, MF: Drop, S: BuildHasher + Drop, H: Wait + D
     S,
     H,
 > {
-    /// The family without members that makes metrics by this factory, with this hasher. It may find no memory.
+    /// A family without members, with this factory and this hasher. Fails with `Memory` if there is none.
     pub fn with_hasher(wait: H, alloc: Global, factory: MF, hasher: S) -> Result<Self, MetricError>
         ensures kept { IfOk result (λ f. (arc_value f.shared).factory ≡ factory) }
         ensures memory { IfErr result (λ e. e ≡ Memory) }
@@ -68,7 +69,7 @@ impl<LS: Eq + Hash + Drop, M: Drop, MF: Drop, S: BuildHasher + Drop, H: Wait + D
         Ok(Family { shared, wait })
     }
 
-    /// Lends the metric of these labels to `f`, where there is one, and answers what `f` does. It takes no memory.
+    /// Calls `f` with the metric of these labels, if there is one, and returns its result. It takes no memory.
     pub fn with<R, F: FnOnce(&M) -> R>(&self, labels: &LS, f: F) -> Option<R>
         requires { F.IsAlwaysCallable f }
         ensures { IfSome result (λ r. (metric : M) × FnOnceReturnsAt F.FnOnce f metric r) }
@@ -88,12 +89,12 @@ impl<
     S: BuildHasher + Drop,
     H: Wait + Drop,
 > Family<LS, M, MF, S, H> {
-    /// Lends the metric of these labels to `f`, and answers what `f` does. Where there is none, the factory makes one, which stands
-    /// behind the others.
+    /// Calls `f` with the metric of these labels, and returns its result. If there is none, the factory makes one,
+    /// which is added as the last member.
     ///
-    /// The factory is called only where there is none; its refusal is handed on. It may find no memory then. After a refusal the
-    /// members are those that were there. Clones of label sets have to equal them. Where the metric is there, the call
-    /// takes no memory, and the lock for reading alone.
+    /// The factory is called only if there is none. Its error is returned; adding the metric fails with `Memory` if
+    /// there is none. At an error the members stay as they were. A clone of a label set must equal it. If the metric
+    /// exists, the call takes no memory, and locks for reading only.
     pub fn with_or_new<R, F: FnOnce(&M) -> R>(&self, labels: &LS, f: F) -> Result<R, MetricError>
         requires ready { MF.is_ready (arc_value self.now.shared).factory }
         requires callable { F.IsAlwaysCallable f }
@@ -113,7 +114,7 @@ impl<
     }
 }
 
-/// The family without members whose metrics are made by `try_default`.
+/// A family without members whose metrics are made by `try_default`.
 impl<
     LS: Eq + Hash + Drop,
     M: TryDefault<H> + Drop,
@@ -126,7 +127,7 @@ impl<
     }
 }
 
-/// The same family. The clone may find no memory.
+/// Another handle of the same family. Cloning takes memory, and fails if there is none.
 impl<LS: Eq + Hash + Drop, M: Drop, MF: Drop, S: BuildHasher + Drop, H: Wait + Clone> Clone
     for Family<LS, M, MF, S, H> {
     ghost is_clone = { λ f g. arc_value g.shared ≡ arc_value f.shared };
@@ -138,14 +139,14 @@ impl<LS: Eq + Hash + Drop, M: Drop, MF: Drop, S: BuildHasher + Drop, H: Wait + C
     }
 }
 
-/// The name of the type alone: the members stand under the lock.
+/// Shows the name of the type only, since the members are behind the lock.
 impl<LS: Eq + Hash, M, MF, S: BuildHasher, H: Wait> Debug for Family<LS, M, MF, S, H> {
     fn fmt<W: fmt::Write>(&self, f: &mut Formatter<W>) -> fmt::Result {
         f.debug_struct("Family").finish_non_exhaustive()
     }
 }
 
-/// The type of its members.
+/// The type of the family's members.
 impl<LS: Eq + Hash, M: TypedMetric, MF, S: BuildHasher, H: Wait> TypedMetric
     for Family<LS, M, MF, S, H> {
     ghost TYPE = { M.TYPE };
@@ -155,8 +156,8 @@ impl<LS: Eq + Hash, M: TypedMetric, MF, S: BuildHasher, H: Wait> TypedMetric
     const WITH_TIMESTAMP: bool = M::WITH_TIMESTAMP;
 }
 
-/// Some label sets that differ from each other, each with what some metric of the members' type offers. A family without members is
-/// empty.
+/// It offers label sets that differ from each other, each with points that a metric of the members' type may offer. A
+/// family without members is empty.
 impl<
     LS: EncodeLabelSet + Eq + Hash + Send + Sync + Drop,
     M: EncodePoint + TypedMetric + Send + Sync + Drop,

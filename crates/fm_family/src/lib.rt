@@ -1,4 +1,4 @@
-//! Families: metrics of one type by label set, made when they are first used.
+//! Families: metrics of one type by label set, each made when its label set is first used.
 #![tactic(auto)]
 
 pub mod factory;

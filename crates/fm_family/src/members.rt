@@ -1,4 +1,4 @@
-//! The members of a family: metrics by label set, in the order of their first use.
+//! The members of a family: metrics by label set, in the order in which they were made.
 ghost use Rattle.std.specs.Prelude.{◌≡◌, ◌<◌, ◌↔◌, ◌++◌, IfOk, IsTrue, Some, None, Ok, Any, List, option_copied, [], length, slice_get, IsSome, IsOk};
 ghost use Rattle.std.specs.Borrow.{sem};
 ghost use Rattle.indexmap.specs.IndexMap.{get, values, IsUnique};
@@ -16,22 +16,23 @@ use indexmap::IndexMap;
 use std::alloc::Global;
 use std::hash::{BuildHasher, Hash};
 
-/// Metrics with pairwise different label sets, in the order in which they came.
+/// Metrics with pairwise different label sets, in the order in which they were made.
 ///
-/// `S` makes the hashers of label sets. Take one that starts from a fixed state, such as `BuildHasherDefault<FoldHasher>`, where
-/// the program alone makes the label sets; it is the faster. Take `RandomState` where strangers choose label values: they could
-/// choose many that a fixed hasher takes to the same place, and make the program slow.
+/// `S` makes the hashers of label sets. If only the program chooses the label sets, take a hasher with a fixed start,
+/// such as `BuildHasherDefault<FoldHasher>`: it is faster. If others can choose label values, take `RandomState`: with
+/// a fixed hasher they could choose many values with the same hash, which makes the program slow (hash flooding).
 ///
-/// A `RandomState` takes its keys from the system, by `RandomState::new(&rt)?`, and has no default value. So make the family by
-/// `with_hasher`, with `DefaultFactory::new(rt, alloc)` where `try_default` makes the metrics. There `new` is refused ("the item `new`
-/// exists .., but its bounds are not met"), and so is `try_default` ("no function or constant named `try_default` found").
+/// A `RandomState` gets its keys from the system, by `RandomState::new(&rt)?`, and has no default value. So make the
+/// family with `with_hasher`, and with `DefaultFactory::new(rt, alloc)` if `try_default` makes the metrics. The
+/// compiler refuses `new` there ("the item `new` exists .., but its bounds are not met") and `try_default` ("no
+/// function or constant named `try_default` found").
 #[derive(Drop)]
 pub struct FamilyCore<LS: Eq + Hash, M, S: BuildHasher> {
     members: IndexMap<LS, M, S>,
 }
 
 impl<LS: Eq + Hash, M, S: BuildHasher + Default> FamilyCore<LS, M, S> {
-    /// No metrics yet, with the default hasher. It takes no memory.
+    /// No metrics, with the default hasher. It takes no memory.
     pub fn new(alloc: Global) -> FamilyCore<LS, M, S>
         ensures { result.members.entries ≡ [] }
     {
@@ -40,7 +41,7 @@ impl<LS: Eq + Hash, M, S: BuildHasher + Default> FamilyCore<LS, M, S> {
 }
 
 impl<LS: Eq + Hash, M, S: BuildHasher> FamilyCore<LS, M, S> {
-    /// No metrics yet, with this hasher. It takes no memory.
+    /// No metrics, with this hasher. It takes no memory.
     pub fn with_hasher(alloc: Global, hasher: S) -> FamilyCore<LS, M, S>
         ensures { result.members.entries ≡ [] }
     {
@@ -57,21 +58,21 @@ impl<LS: Eq + Hash, M, S: BuildHasher> FamilyCore<LS, M, S> {
         self.members.len()
     }
 
-    /// Whether there is no metric yet.
+    /// Whether there is no metric.
     pub fn is_empty(&self) -> bool
         ensures { IsTrue result ↔ (self.now.members.entries ≡ []) }
     {
         self.members.is_empty()
     }
 
-    /// The metric of these labels, where there is one.
+    /// The metric of these labels, if there is one.
     pub fn get(&self, labels: &LS) -> Option<&M>
         ensures { option_copied result ≡ get LS.eq self.now.members labels.now }
     {
         self.members.get(labels)
     }
 
-    // The metric at a place in the list.
+    // The metric at an index of the list.
     pub(crate) fn at(&self, place: usize) -> &M
         requires { place < length self.now.members.entries }
         ensures { slice_get (values self.now.members) place ≡ Some result.now }
@@ -81,7 +82,7 @@ impl<LS: Eq + Hash, M, S: BuildHasher> FamilyCore<LS, M, S> {
 }
 
 impl<LS: Clone + Eq + Hash + Drop, M: Drop, S: BuildHasher> FamilyCore<LS, M, S> {
-    // The place of the metric of these labels, which the factory makes where there is none.
+    // The index of the metric of these labels, which the factory makes if there is none.
     pub(crate) fn place_or_new<MF: MetricFactory<M>>(
         &mut self,
         labels: &LS,
@@ -103,10 +104,10 @@ impl<LS: Clone + Eq + Hash + Drop, M: Drop, S: BuildHasher> FamilyCore<LS, M, S>
         Ok(place)
     }
 
-    /// The metric of these labels. Where there is none, the factory makes one, which stands behind the others.
+    /// The metric of these labels. If there is none, the factory makes one, which is added as the last.
     ///
-    /// The factory is called only where there is none; its refusal is handed on. It may find no memory then. After a refusal the
-    /// metrics are those that were there. Clones of label sets have to equal them.
+    /// The factory is called only if there is none. Its error is returned; adding the metric fails with `Memory` if
+    /// there is none. At an error the metrics stay as they were. A clone of a label set must equal it.
     pub fn get_or_new<MF: MetricFactory<M>>(
         &mut self,
         labels: &LS,
@@ -125,8 +126,8 @@ impl<LS: Clone + Eq + Hash + Drop, M: Drop, S: BuildHasher> FamilyCore<LS, M, S>
 }
 
 impl<LS: EncodeLabelSet + Eq + Hash, M: EncodePoint, S: BuildHasher> FamilyCore<LS, M, S> {
-    /// Offers each metric's points under its labels, in order, up to the first that is refused. It waits where a metric stands
-    /// under a lock.
+    /// Encodes each metric's points under its labels, in order, up to the first error, which is returned. It waits if a
+    /// metric is behind a lock.
     pub fn encode_members(&self, encoder: &mut MetricEncoder) -> Result<(), EncodeError>
         ensures offered { HandsMembers (OffersFirst LS.labels M.points self.now.members.entries)
             (Any (MayFault LS.may_fault M.may_fault) self.now.members.entries) encoder.old encoder.new result }
