@@ -1,4 +1,4 @@
-//! A registry that a whole program shares, under a lock.
+//! A registry that the whole program shares, behind a lock.
 
 ghost use Rattle.std.specs.Prelude.{◌≡◌};
 ghost use Rattle.std.specs.Fn.{FnOnceTakesAt, FnOnceTakesAtMut, FnOnceReturnsAt, FnOnceReturnsAtMut};
@@ -17,7 +17,7 @@ use thiserror::Error;
 #[error("Global registry has already been initialized")]
 pub struct SetRegistryError;
 
-// The registry under the lock, and whether it was set or used.
+// The registry behind the lock, and whether it was set or used.
 #[derive(Drop)]
 pub(crate) struct Kept<M> {
     pub(crate) registry: Registry<M>,
@@ -43,7 +43,7 @@ impl<M> Kept<M> {
     ghost use Rattle.std.specs.Prelude.{◌≡◌};
     ghost use Rattle.fm_registry.specs.HasBook.{HasBook};
 
-    // The registry, to read. From then on none can be set.
+    // The registry. It counts as used: no other can be set.
     fn used(&self) -> &Registry<M>
         ensures shown { result.now ≡ self.now }
         ensures sound { HasBook result.now }
@@ -53,8 +53,8 @@ impl<M> Kept<M> {
     }
 }
 
-/// A registry under a lock, which threads may read at once. It is empty until one is set, and its first use fixes it: from then
-/// on none can be set.
+/// A registry behind a lock, which several threads may read at once. It is empty until one is set. The first use fixes
+/// it: from then on `set_global_registry` fails.
 #[derive(Drop)]
 pub struct GlobalRegistry<M: Drop = Box<dyn EncodeMetric>> {
     pub(crate) kept: RwLock<Kept<M>>,
@@ -72,7 +72,8 @@ impl<M: Drop> GlobalRegistry<M> {
     }
 }
 
-/// Sets the registry, once. It is refused where one was set or used before, and then it is dropped. It waits for the lock.
+/// Sets the registry, once. Fails if a registry was set or used before, and then drops `registry`. It waits for the
+/// lock.
 pub fn set_global_registry<R: Wait, M: Drop>(
     rt: &R,
     global: &GlobalRegistry<M>,
@@ -91,8 +92,9 @@ pub fn set_global_registry<R: Wait, M: Drop>(
     Ok(())
 }
 
-/// Lends the registry to `f`, under the lock, which other threads may read under too. It waits while another thread changes the
-/// registry. `f` must not change the same one, nor read it again where another thread may change it: it would wait for ever.
+/// Calls `f` with the registry, under the lock for reading, which other threads may hold too, and returns its result.
+/// It waits while another thread changes the registry. `f` must not change the same registry, nor read it again while
+/// another thread may want to change it: it would wait for ever.
 pub fn with_global_registry<R: Wait, M: Drop, T, F: FnOnce(&Registry<M>) -> T>(
     rt: &R,
     global: &GlobalRegistry<M>,
@@ -105,8 +107,8 @@ pub fn with_global_registry<R: Wait, M: Drop, T, F: FnOnce(&Registry<M>) -> T>(
     f(kept.used())
 }
 
-/// Lends the registry to `f`, under the lock, to change it. It waits for the lock. `f` must not use the same one: it would wait for
-/// ever.
+/// Calls `f` with the registry, under the lock, to change it, and returns its result. It waits for the lock. `f` must
+/// not use the same registry by another call: it would wait for ever.
 pub fn with_global_registry_mut<R: Wait, M: Drop, T, F: FnOnce(&mut Registry<M>) -> T>(
     rt: &R,
     global: &GlobalRegistry<M>,

@@ -1,4 +1,5 @@
-//! A registry that a whole program shares. `main` owns it and hands it on by reference: nothing in this library is global.
+//! A registry that the whole program shares. `main` owns it and passes references to it: this library has no global
+//! state.
 #![tactic(auto)]
 
 mod global;

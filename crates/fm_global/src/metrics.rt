@@ -1,4 +1,4 @@
-//! Registering metrics in the registry that a program shares.
+//! Registering metrics in the registry that the program shares.
 ghost use Rattle.std.specs.Prelude.{◌≡◌, Some, None};
 ghost use Rattle.fm_registry.specs.View.{asked_metric};
 ghost use Rattle.fm_registry.specs.HasBook.{HasBook};
@@ -32,15 +32,15 @@ impl<M: Drop> Kept<M> {
     }
 }
 
-// The type that a metric says it is of.
+// The type that a metric declares.
 fn type_of(metric: &Box<dyn EncodeMetric>) -> MetricType
     ensures { types metric.now result }
 {
     metric.metric_type()
 }
 
-/// Registers a metric in the global registry, as `Registry::register_metric` does. The metric is asked for its type before
-/// the lock is taken. It waits for the lock.
+/// Registers a metric in the global registry, as `Registry::register_metric` does. The metric's type is read before the
+/// lock is taken. It waits for the lock.
 pub fn register_metric<R: Wait>(
     rt: &R,
     alloc: Global,
@@ -57,7 +57,7 @@ pub fn register_metric<R: Wait>(
     kept.add_metric(alloc, name, help, metric_type, unit, metric)
 }
 
-/// The same with a unit.
+/// Like `register_metric`, with a unit.
 pub fn register_with_unit<R: Wait>(
     rt: &R,
     alloc: Global,
@@ -72,7 +72,7 @@ pub fn register_with_unit<R: Wait>(
     register_metric(rt, alloc, global, name, help, Some(unit), metric)
 }
 
-/// The same without a unit.
+/// Like `register_metric`, without a unit.
 pub fn register<R: Wait>(
     rt: &R,
     alloc: Global,

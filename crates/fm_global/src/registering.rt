@@ -1,4 +1,4 @@
-//! What registers metrics of its own.
+//! Values that register their metrics themselves.
 ghost use Rattle.std.specs.Prelude.{◌≡◌, Result, ⊤};
 ghost use Rattle.fm_book.specs.Tree.{Tree};
 ghost use Rattle.fm_book.specs.declared.RegistryError.{RegistryError as Refusal};
@@ -10,18 +10,18 @@ use std::alloc::Global;
 use std::sync::Wait;
 use std::sync::atomic::Ordering::SeqCst;
 
-/// Something that registers metrics of its own, in a registry of metrics of the type `M`: `Box<dyn EncodeMetric>` where a program
-/// boxes them.
+/// A value that registers its metrics itself, in a registry of metrics of the type `M`, which is `Box<dyn
+/// EncodeMetric>` where a program boxes them.
 ///
-/// Implement it for each `M`, as `impl<M: Drop> Register<M> for MyMetrics<M>`, over metrics that `main` boxed: a method that boxes
-/// them itself, or that keeps boxes, gets no proof.
+/// Implement it for each `M`, as `impl<M: Drop> Register<M> for MyMetrics<M>`, with metrics that `main` boxed: a method
+/// that boxes them itself, or a type with boxes, can't be proved.
 pub trait Register<M> {
     ghost use Rattle.fm_registry.specs.HasBook.{HasBook};
 
-    /// Holds of the registry before and after a call, and of its answer. Where nothing is declared, it holds of all.
+    /// Holds of the registry before and after a call, and of its result. By default it holds of all.
     ghost registers: { Self → Tree M → Tree M → Result (Unit {0}) Refusal → Type 0 } = { λ _ _ _ _. ⊤ };
 
-    /// Registers the metrics. What a refusal leaves registered is the implementation's to say.
+    /// Registers the metrics. The implementation says which of them are registered after an error.
     fn register(&self, alloc: Global, registry: &mut Registry<M>) -> Result<(), RegistryError>
         ensures sound { HasBook registry.old → HasBook registry.new }
         ensures registers { registers self.now registry.old registry.new result };
