@@ -1,4 +1,4 @@
--- The numbers of a tally's refusals.
+-- The numbers of a tally's errors.
 use Rattle.std.specs.Prelude.{ℕ}
 use Rattle.fm_tally.specs.declared.error.TallyError.{TallyError}
 use Rattle.fm_tally.specs.declared.error.TallyError.TheVariants.{Memory, Full, MissingShares, GateRefused, CountFull, SpawnFailed, Overrun}

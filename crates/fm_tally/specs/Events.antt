@@ -1,4 +1,4 @@
--- What the events of a tally come to, as sums over the list of them.
+-- The result of a list of events, as sums over the list.
 use Rattle.std.specs.Prelude.{ℕ, ◌+◌, ◌^◌, ◌==◌, nat_lt, Bool, if◌then◌else◌, List, [], ◌∷◌, ◌++◌, sum_by}
 use Rattle.fm_tally.specs.declared.book.Event.{Event}
 use Rattle.fm_tally.specs.declared.book.Event.TheVariants.{Add, Read}
@@ -21,7 +21,7 @@ amount who adds = sum_by (λ a. if a.who == who then a.v else 0) adds
 abbrev pub fits : ℕ → List Accepted → ℕ → Bool
 fits start before v = nat_lt (start + sum_of before + v) (2 ^ 64)
 
--- what is accepted after one event more
+-- what is accepted after one more event
 abbrev pub accept : ℕ → List Accepted → Event → List Accepted
 accept start before (Add who v) = if fits start before v then before ++ record { who = who; v = v } ∷ [] else before
 accept start before (Read who) = before

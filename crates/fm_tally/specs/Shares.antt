@@ -1,7 +1,7 @@
--- What the shares of a tally say.
+-- The contents of a tally's shares.
 use Rattle.std.specs.Prelude.{ℕ, List, sum_by}
 
--- what a worker's share of a tally says: what the worker added, and the last total that it was told
+-- the contents of one worker's share of a tally: what the worker added, and the last total that it was told
 pub record Counted : Type 0 where
   pub amount : ℕ
   pub seen : ℕ

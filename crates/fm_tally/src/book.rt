@@ -43,14 +43,14 @@ impl Model for Book {
 }
 
 impl Book {
-    /// A book to which nothing was added.
+    /// A book with the sum 0.
     pub fn new() -> Book
         ensures { result ≡ 0 }
     {
         Book { sum: 0 }
     }
 
-    /// Adds a value where the sum stays within 2^64 - 1; else it returns `Full`, and the sum is as before. The book doesn't
+    /// Adds a value. Fails with `Full` if the sum would pass 2^64 - 1, and then the sum is as before. The book doesn't
     /// keep who added it. It takes no memory.
     pub fn add(&mut self, _who: usize, v: u64) -> Result<(), TallyError>
         ensures added { OnOk result (self.new ≡ self.old + v) }
@@ -74,8 +74,8 @@ impl Book {
         self.sum
     }
 
-    /// Makes all events, one after another, and gives the reply to each. The replies' memory is asked first: where there is
-    /// none it returns `Memory`, and nothing has changed.
+    /// Carries out all events in order, and returns the reply to each. The memory for the replies is allocated first:
+    /// if that fails, it returns `Memory` and changes nothing.
     pub fn run(&mut self, alloc: Global, events: &[Event]) -> Result<Vec<Reply>, TallyError>
         ensures replies { IfOk result (λ r. r.items ≡ replies self.old events.now) }
         ensures sum { OnOk result (self.new ≡ self.old + sum_of (accepted self.old events.now)) }
@@ -94,7 +94,7 @@ impl Book {
         Ok(replies)
     }
 
-    // Makes one event, whatever was accepted before it.
+    // Carries out one event, whatever was accepted before it.
     fn make(&mut self, event: Event) -> Reply
         ensures reply { (start : ℕ) (before : List Accepted) → self.old ≡ start + sum_of before → result ≡ reply start before event }
         ensures sum { (start : ℕ) (before : List Accepted) → self.old ≡ start + sum_of before → self.new ≡ start + sum_of (accept start before event) }
@@ -109,7 +109,7 @@ impl Book {
     }
 }
 
-/// A book to which nothing was added.
+/// A book with the sum 0.
 impl Default for Book {
     ghost is_default = { λ b. b ≡ 0 };
 

@@ -1,4 +1,4 @@
-//! Why a tally refuses.
+//! Why a call on a tally fails.
 ghost use Rattle.std.specs.Prelude.{◌≡◌};
 ghost use Rattle.fm_tally.specs.Errors.{number_of};
 ghost use Rattle.fm_tally.specs.declared.error.TallyError.TheVariants.{Memory};
@@ -6,34 +6,34 @@ ghost use Rattle.fm_tally.specs.declared.error.TallyError.TheVariants.{Memory};
 use std::alloc::{AllocError, AllocFailed};
 use thiserror::Error;
 
-/// Why a tally refused a call.
+/// Why a call on a tally failed.
 #[derive(Clone, Copy, Debug, PartialEq, Eq, Drop, Error)]
 pub enum TallyError {
-    /// There was no memory.
+    /// Memory could not be allocated.
     #[error("Memory")]
     Memory,
-    /// The sum would pass 2^64 - 1.
+    /// The sum would pass 2^64 - 1; the value was not added.
     #[error("Full")]
     Full,
-    /// Not all shares of the tally were given to be closed.
+    /// `close` was not given all shares of the tally.
     #[error("MissingShares")]
     MissingShares,
-    /// The gate refused this piece, counted from 0.
+    /// The gate refused the piece with this index, counted from 0.
     #[error("GateRefused")]
     GateRefused { piece: usize },
-    /// The pieces have more values together than a `u64` counts.
+    /// The pieces together have more values than a `u64` counts.
     #[error("CountFull")]
     CountFull,
-    /// A worker could not be started.
+    /// The system could not start a thread for a worker.
     #[error("SpawnFailed")]
     SpawnFailed,
-    /// A share was told more than the sum.
+    /// A share was told a total that is greater than the sum at the end.
     #[error("Overrun")]
     Overrun,
 }
 
 impl TallyError {
-    /// The number of this refusal, from 1 to 7.
+    /// The error's number, from 1 to 7.
     pub fn number(self) -> u8
         ensures { result ≡ number_of self }
     {
@@ -49,7 +49,7 @@ impl TallyError {
     }
 }
 
-/// Want of memory, as `Memory`.
+/// A failed allocation becomes `Memory`.
 impl From<AllocError> for TallyError {
     ghost from_gives = { λ _ e. e ≡ Memory };
 
@@ -58,7 +58,7 @@ impl From<AllocError> for TallyError {
     }
 }
 
-/// Want of memory, as `Memory`. What could not be stored is dropped.
+/// A failed allocation becomes `Memory`. The value that could not be stored is dropped.
 impl<T: Drop> From<AllocFailed<T>> for TallyError {
     ghost from_gives = { λ _ e. e ≡ Memory };
 

@@ -1,4 +1,4 @@
-//! Tallies: sums that many workers count together, and that never pass the greatest `u64`.
+//! Tallies: sums that several threads add to, and that never pass 2^64 - 1.
 #![tactic(auto)]
 
 mod book;

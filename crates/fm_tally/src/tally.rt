@@ -1,4 +1,4 @@
-//! A tally under its lock, and the shares through which workers add to it.
+//! A tally with its lock, and the shares through which workers add to it.
 ghost use Rattle.std.specs.Prelude.{◌≡◌, ◌≢◌, ℕ, ◌+◌, ◌≤◌, ◌↔◌, Err, IfOk, IfErr, OnOk, OnErr, All, vec_len, ◌⊎◌};
 ghost use Rattle.fm_tally.specs.Shares.{Counted, total_of, unused};
 
@@ -14,8 +14,8 @@ pub trait TallyKey: Ledger {}
 
 impl TallyKey for Brand {}
 
-// What lies under the lock. By its type the book's sum is the sum of the amounts of all shares of this tally, whenever the lock
-// is free: a ledger's total is what all its tokens have, each share has one, and the one that is kept here has nothing.
+// What is behind the lock. Its type says that whenever the lock is free, the book's sum is the sum of the amounts of
+// all shares of this tally: a ledger's total is the sum of its tokens, each share has one, and the one kept here is 0.
 #[derive(Drop)]
 struct Kept<K: TallyKey> {
     book: Book,
@@ -91,9 +91,9 @@ impl<K: TallyKey> Kept<K> {
     }
 }
 
-/// A sum that several workers count together, each through a share of its own. It never passes 2^64 - 1.
+/// A sum that several workers add to, each through a share. It never passes 2^64 - 1.
 ///
-/// It may be lent to any number of threads. Seen by contracts it is the number of its shares.
+/// Any number of threads may borrow it. Contracts see it as the number of its shares.
 #[derive(Drop)]
 pub struct Tally<K: TallyKey> {
     shares: usize,
@@ -109,8 +109,8 @@ impl<K: TallyKey> Model for Tally<K> {
 }
 
 impl<K: TallyKey> Tally<K> {
-    /// A tally of the sum 0, and its `n` shares, which have the amount 0 and were told no total. The blank has one part for each
-    /// share and one for the tally. It takes memory; where there is none it returns `Memory`.
+    /// A tally with the sum 0, and its `n` shares, which have the amount 0 and were told no total. The blank has one
+    /// part for each share and one for the tally. Fails with `Memory` if there is none.
     pub fn new(
         alloc: Global,
         blank: Blank,
@@ -142,7 +142,7 @@ impl<K: TallyKey> Tally<K> {
         Ok((Tally { shares: n, kept }, shares))
     }
 
-    /// Adds a value to the tally through this share. It returns `Full` where the tally's sum would pass 2^64 - 1, and then
+    /// Adds a value to the tally through this share. Fails with `Full` if the tally's sum would pass 2^64 - 1; then
     /// neither the sum nor the share changes. It waits while another thread has the lock, and takes no memory.
     pub fn add<R: Wait>(&self, rt: &R, share: &mut Share<K>, v: u64) -> Result<(), TallyError>
         ensures amount { OnOk result (share.new.amount ≡ share.old.amount + v) }
@@ -153,8 +153,9 @@ impl<K: TallyKey> Tally<K> {
         self.kept.lock(rt).add(share, v)
     }
 
-    /// The sum of what all workers have added so far: at least this share's amount, and at least every total that this share was
-    /// told before. The share is told this one. It waits while another thread has the lock, and takes no memory.
+    /// Returns the sum of what all workers have added so far: at least this share's amount, and at least each total
+    /// that this share was told before. The share keeps it as `seen`. It waits while another thread has the lock, and
+    /// takes no memory.
     pub fn total<R: Wait>(&self, rt: &R, share: &mut Share<K>) -> u64
         ensures own { share.old.amount ≤ result }
         ensures before { share.old.seen ≤ result }
@@ -164,10 +165,12 @@ impl<K: TallyKey> Tally<K> {
         self.kept.lock(rt).total(share)
     }
 
-    /// The sum of the amounts of all shares, once all workers have given their shares back. No share was told more.
+    /// Returns the sum of the amounts of all shares, once all workers have returned theirs. No share was told a greater
+    /// total.
     ///
-    /// It returns `MissingShares` where not all shares of the tally are given, and else `Overrun` where a share was told more than
-    /// the sum. The tally and the shares are gone in every case. It takes no memory and waits for nobody.
+    /// Fails with `MissingShares` if not all shares of the tally are given, and otherwise with `Overrun` if a share was
+    /// told a total greater than the sum. The tally and the shares are dropped in every case. It takes no memory and
+    /// does not wait.
     pub fn close(self, shares: Vec<Share<K>>) -> Result<u64, TallyError>
         ensures missing { (result ≡ Err TallyError.MissingShares) ↔ (vec_len shares ≢ self) }
         ensures overrun { (result ≡ Err TallyError.Overrun) ↔ ((vec_len shares ≡ self) × ¬ (All (λ s. s.seen ≤ total_of shares.items) shares.items)) }
@@ -197,7 +200,7 @@ impl<K: TallyKey> Tally<K> {
     }
 }
 
-// Puts the parts and amounts of all shares into one token, and returns the greatest total that a share was told.
+// Joins the parts and amounts of all shares in one token, and returns the greatest total that a share was told.
 fn gather<K: TallyKey>(own: &mut ledger::Share<K>, shares: Vec<Share<K>>) -> u64
     ensures parts { own.new.parts ≡ own.old.parts + vec_len shares }
     ensures amount { own.new.amount ≡ own.old.amount + total_of shares.items }
