@@ -1,12 +1,13 @@
-//! Gates, which let workers through to their pieces.
+//! Gates, which decide whether a worker may observe its piece.
 ghost use Rattle.std.specs.Prelude.{◌≡◌, ℕ, false};
 
-/// Lets pieces through, or refuses them. Each worker asks it before it observes its piece.
+/// Lets pieces through or refuses them. Each worker calls it before it observes its piece.
 pub trait Gate: Sync {
     /// Whether the gate may refuse a piece.
     ghost may_refuse: { Self → ℕ → Type 0 };
 
-    /// Whether this piece, counted from 0, may be observed. It may wait for other pieces that ask: all workers run at once.
+    /// Whether this piece, counted from 0, may be observed. It may wait until it is called for other pieces: all
+    /// workers run at the same time.
     fn pass(&self, piece: usize) -> bool
         ensures { result ≡ false → may_refuse self.now piece };
 }

@@ -1,4 +1,4 @@
-//! Observations that are cut into pieces, with a worker for each piece.
+//! Observing values in pieces, with a worker thread for each piece.
 #![tactic(auto)]
 
 mod gate;

@@ -1,4 +1,4 @@
-//! A worker for each piece of the observations, and what they observed, merged.
+//! A worker for each piece of the values, and the merged snapshots of all workers.
 ghost use Rattle.std.specs.Prelude.{◌≡◌, ℕ, ◌<◌, ◌≤◌, ℤ, List, [], true, IfOk, IfErr, slice_index_or, length, vec_len, flat_map, take};
 ghost use Rattle.fm_histogram.specs.Histogram.{IsHistogram, IsBoundsOf, is_taken, takes_all};
 ghost use Rattle.fm_observe.specs.Pieces.{MayFail, IsObserved};
@@ -13,7 +13,7 @@ use std::sync::Wait;
 use std::thread;
 use std::thread::{Promise, PromisedHandle, Scope, Threads};
 
-// What one worker has to do.
+// The task of one worker.
 #[derive(Drop)]
 struct Work<'a, S: Snapshot, G: Gate> {
     empty: &'a S,
@@ -22,12 +22,12 @@ struct Work<'a, S: Snapshot, G: Gate> {
     piece: &'a [Fixed],
 }
 
-// What the worker gives back.
+// The result of the worker.
 impl<'a, S: Snapshot, G: Gate> Promise<Result<S, TallyError>> for Work<'a, S, G> {
     ghost kept_by = { λ w r. IsObserved S.taken S.counts (G.may_refuse w.gate.now) (S.counts w.empty.now) w.index w.piece.now r };
 }
 
-// One worker's part.
+// Does one worker's task.
 fn observe_piece<S: Snapshot + Drop, G: Gate>(
     empty: &S,
     gate: &G,
@@ -49,7 +49,7 @@ fn observe_piece<S: Snapshot + Drop, G: Gate>(
     Ok(seen)
 }
 
-// Starts a worker for each piece, and says whether all could be started.
+// Starts a worker for each piece. The `bool` is whether all could be started.
 fn start_all<'s, E, S: Snapshot + Send + Sync + Drop, G: Gate>(
     scope: &Scope<'s, E>,
     alloc: Global,
@@ -93,7 +93,7 @@ fn start_all<'s, E, S: Snapshot + Send + Sync + Drop, G: Gate>(
     Ok((workers, true))
 }
 
-// What the workers of a scope give back, and whether all could be started. All that were started are joined.
+// The results of the workers of a scope, and whether all could be started. All that were started are joined.
 fn join_all<'s, E, S: Snapshot + Send + Sync + Drop, G: Gate, R: Threads>(
     scope: &Scope<'s, E>,
     rt: &R,
@@ -115,7 +115,7 @@ fn join_all<'s, E, S: Snapshot + Send + Sync + Drop, G: Gate, R: Threads>(
     }
 }
 
-// Runs the workers at once. It returns what they give back, and whether all could be started.
+// Runs all workers at the same time. Returns their results, and whether all could be started.
 fn run_all<'a, S: Snapshot + Send + Sync + Drop, G: Gate, R: Threads + Wait>(
     rt: &R,
     alloc: Global,
@@ -139,7 +139,7 @@ fn run_all<'a, S: Snapshot + Send + Sync + Drop, G: Gate, R: Threads + Wait>(
     )
 }
 
-// Merges the snapshots of the first pieces. The first fault is returned.
+// Merges the snapshots of the first pieces, or returns the first error.
 fn merge_all<S: Snapshot + Drop, G: Gate>(
     empty: &S,
     gate: &G,
@@ -166,7 +166,7 @@ fn merge_all<S: Snapshot + Drop, G: Gate>(
     Ok(all)
 }
 
-// Observes all pieces, whichever values the snapshots take.
+// Observes all pieces. Which values count is up to the kind of snapshot.
 fn observe_pieces<S: Snapshot + Send + Sync + Drop, G: Gate, R: Threads + Wait>(
     rt: &R,
     alloc: Global,
@@ -187,13 +187,15 @@ fn observe_pieces<S: Snapshot + Send + Sync + Drop, G: Gate, R: Threads + Wait>(
     }
 }
 
-/// The histogram of the values of all pieces, with those of the given bounds that are not negative. Negative values don't count.
+/// Returns the histogram of the values of all pieces, with those of the given bounds that are not negative. Negative
+/// values don't count.
 ///
-/// Each piece has a worker, a thread of its own, which asks the gate, and observes the piece in a snapshot of its own. All workers
-/// are started before the first one is waited for, and the snapshots are merged when all have ended.
+/// Each piece has a worker: a thread that calls the gate and observes the piece in a snapshot. All workers are started
+/// before the first is waited for, and the snapshots are merged after all have ended.
 ///
-/// It returns `GateRefused` where the gate refused a piece, `CountFull` where the values are more than a `u64` counts, `Memory`
-/// where there was none, and `SpawnFailed` where a worker could not be started; of several faults that of the first piece.
+/// Errors: the gate refused a piece (`GateRefused`), the pieces have more values than a `u64` counts (`CountFull`),
+/// there is no memory (`Memory`), or a worker could not be started (`SpawnFailed`). Of several errors it returns that
+/// of the first piece.
 pub fn observe_all<G: Gate, R: Threads + Wait>(
     rt: &R,
     alloc: Global,
@@ -207,7 +209,7 @@ pub fn observe_all<G: Gate, R: Threads + Wait>(
     observe_pieces(rt, alloc, bounds, pieces, gate)
 }
 
-/// The same for a gauge histogram: the values of all pieces, with all of the given bounds. Negative values and bounds count too.
+/// The same for a gauge histogram: with all of the given bounds, and negative values count too.
 pub fn observe_all_gauge<G: Gate, R: Threads + Wait>(
     rt: &R,
     alloc: Global,

@@ -1,4 +1,4 @@
-//! What both kinds of histogram snapshots have in common.
+//! What the snapshots of both kinds of histograms have in common.
 ghost use Rattle.std.specs.Prelude.{◌≡◌, ◌+◌, ◌≤◌, ◌^◌, ℤ, Bool, List, [], ◌∷◌, ◌++◌, true, false, IfOk, IfErr};
 ghost use Rattle.fm_histogram.specs.Histogram.{Histogram, IsHistogram, IsBoundsOf, upper_bounds, is_taken, takes_all};
 
@@ -7,13 +7,13 @@ use fm_raw::Fixed;
 use fm_tally::TallyError;
 use std::alloc::Global;
 
-// Counts values by bounds. Only those that are taken count.
+// Counts values in buckets. Which values count is up to the kind of snapshot.
 pub(crate) trait Snapshot: Sized {
     ghost counts: { Self → Histogram };
 
     ghost taken: { ℤ → Bool };
 
-    // The histogram of no values.
+    // A snapshot without values.
     fn of_no_values(alloc: Global, bounds: &[Fixed]) -> Result<Self, TallyError>
         ensures bounds { IfOk result (λ s. (rising : List ℤ) × IsBoundsOf taken bounds.now rising × IsHistogram taken rising [] (counts s)) }
         ensures only_memory { IfErr result (λ e. e ≡ TallyError.Memory) };
@@ -22,13 +22,13 @@ pub(crate) trait Snapshot: Sized {
         ensures same { IfOk result (λ s. counts s ≡ counts self.now) }
         ensures only_memory { IfErr result (λ e. e ≡ TallyError.Memory) };
 
-    // Counts a value. It returns false where the count is full.
+    // Counts a value. Returns false if the count is full.
     fn take_value(&mut self, value: Fixed) -> bool
         ensures counted { result ≡ true → (bounds xs : List ℤ) → IsHistogram taken bounds xs (counts self.old) → IsHistogram taken bounds (xs ++ value ∷ []) (counts self.new) }
         ensures full { result ≡ false → 2 ^ 64 ≤ (counts self.old).count + 1 }
         ensures count { result ≡ true → (counts self.new).count ≤ (counts self.old).count + 1 };
 
-    // Adds what another counts by the same bounds. It returns false where the count would not fit.
+    // Adds the counts of a snapshot with the same bounds. Returns false if the count would not fit.
     fn take_all(&mut self, other: &Self) -> bool
         requires { upper_bounds (counts self.old).buckets ≡ upper_bounds (counts other.now).buckets }
         ensures counted { result ≡ true → (bounds xs ys : List ℤ) → IsHistogram taken bounds xs (counts self.old) → IsHistogram taken bounds ys (counts other.now) → IsHistogram taken bounds (xs ++ ys) (counts self.new) }
