@@ -1,4 +1,4 @@
-//! Words that hold a number and that threads change in single steps.
+//! Atomics: numbers that threads change in single steps.
 ghost use Rattle.std.specs.Prelude.{⊤};
 
 use fm_raw::{Fixed, Number};
@@ -8,41 +8,41 @@ use std::sync::atomic::{AtomicI32, AtomicI64, AtomicIsize, AtomicU32, AtomicU64,
 /// A number that threads share.
 ///
 /// Each call is one step in the one order of all such steps. Sums and differences wrap at the ends of the type. No call
-/// takes memory or waits. Of a value only the range is promised, since other threads may change it at any time.
+/// takes memory or waits. Contracts promise a value's range only, since other threads may change it at any time.
 pub trait Atomic<N: Number>: Default + Send + Sync + Drop {
-    /// Holds of a word, a number that it was raised by, and what that raise answered.
+    /// `raises word v before`: a call `word.raise(v)` returned `before`.
     ghost raises: { Self → N → N → Type 0 };
 
-    /// Adds one whole, and answers the value before.
+    /// Adds one and returns the value before.
     fn inc(&self) -> N
         ensures { N.in_range result }
     {
         self.inc_by(N::ONE)
     }
 
-    /// Adds `v`, and answers the value before.
+    /// Adds `v` and returns the value before.
     fn inc_by(&self, v: N) -> N
         ensures { N.in_range result };
 
-    /// Takes one whole away, and answers the value before.
+    /// Subtracts one and returns the value before.
     fn dec(&self) -> N
         ensures { N.in_range result }
     {
         self.dec_by(N::ONE)
     }
 
-    /// Takes `v` away, and answers the value before.
+    /// Subtracts `v` and returns the value before.
     fn dec_by(&self, v: N) -> N
         ensures { N.in_range result };
 
-    /// Makes `v` the value.
+    /// Sets the value to `v`.
     fn set(&self, v: N);
 
     /// The value at this moment.
     fn get(&self) -> N
         ensures { N.in_range result };
 
-    /// Keeps the greater of the value and `v`, and answers the value before.
+    /// Sets the value to the greater of the value and `v`, and returns the value before.
     fn raise(&self, v: N) -> N
         ensures in_range { N.in_range result }
         ensures raised { raises self.now v result };
@@ -192,7 +192,7 @@ impl Atomic<usize> for AtomicUsize {
     }
 }
 
-/// The word holds the number of millionths.
+/// The atomic contains the number of millionths.
 impl Atomic<Fixed> for AtomicI64 {
     ghost raises = { λ _ _ _. ⊤ };
 

@@ -1,4 +1,4 @@
-//! Numbers that threads share without a lock, and values to begin with.
+//! Atomic numbers, which threads share without a lock, and default values that take memory.
 #![tactic(auto)]
 
 pub mod atomic;

@@ -1,11 +1,11 @@
-//! The numbers that counters, gauges and unknown metrics hold.
+//! The types of the numbers in counters, gauges and unknown metrics.
 use crate::atomic::Atomic;
 use fm_raw::{Fixed, Number};
 use std::sync::atomic::{AtomicI32, AtomicI64, AtomicIsize, AtomicU32, AtomicU64, AtomicUsize};
 
-/// A number that a counter may hold.
+/// A number that a counter may contain.
 pub trait CounterValue: Number {
-    /// The word that holds it.
+    /// The atomic that contains it.
     type Atomic: Atomic<Self>;
 }
 
@@ -25,9 +25,9 @@ impl CounterValue for Fixed {
     type Atomic = AtomicI64;
 }
 
-/// A number that a gauge may hold.
+/// A number that a gauge may contain.
 pub trait GaugeValue: Number {
-    /// The word that holds it.
+    /// The atomic that contains it.
     type Atomic: Atomic<Self>;
 }
 
@@ -55,7 +55,7 @@ impl GaugeValue for Fixed {
     type Atomic = AtomicI64;
 }
 
-/// A number that an unknown metric may hold.
+/// A number that an unknown metric may contain.
 pub trait UnknownValue: Number {}
 
 impl UnknownValue for i32 {}
