@@ -1,10 +1,10 @@
--- A bucket's bound: which values lie above it, and its text.
+-- A bucket's bound: which values are above it, and its text.
 use Rattle.std.specs.Prelude.{ℕ, ℤ, Bool, false, List, int_lt, codes}
 use Rattle.fm_grammar.specs.Numbers.{fixed_text}
 use Rattle.fm_bucket.specs.declared.bound.Bound.{Bound}
 use Rattle.fm_bucket.specs.declared.bound.Bound.TheVariants.{Finite, Inf}
 
--- the bound lies below x
+-- the bound is below x
 abbrev pub lies_below : Bound → ℤ → Bool
 lies_below (Finite b) x = int_lt b x
 lies_below Inf x = false

@@ -1,15 +1,15 @@
--- Lists of bounds by their places, and when such bounds are refused.
+-- Lists of bounds by index, and when such bounds are refused.
 use Rattle.std.specs.Prelude.{ℕ, ◌-◌, ◌*◌, ◌^◌, ◌<◌, ◌≤◌, ◌≡◌, ◌≢◌, ℤ, pos, ◌+ℤ◌, ◌*ℤ◌, ◌≤ℤ◌, ◌<ℤ◌, List, [], ◌∷◌, map}
 use Rattle.std.specs.List.{range_with_len}
 use Rattle.fm_raw.specs.Signed.{IsSigned}
 use Rattle.fm_bucket.specs.declared.error.BucketError.{BucketError}
 use Rattle.fm_bucket.specs.declared.error.BucketError.TheVariants.{NonPositiveWidth, ZeroCount, Overflow, NonPositiveStart, FactorTooSmall, NoWholeFactor}
 
--- so many bounds: the first, and each by the width greater than the one before
+-- a count of bounds: the first, and each greater by the width than the one before
 abbrev pub linear_bounds : ℤ → ℤ → ℕ → List ℤ
 linear_bounds start width count = map (λ i. start +ℤ width *ℤ pos i) (range_with_len 0 count)
 
--- so many bounds: the first, and each the factor times the one before
+-- a count of bounds: the first, and each the factor times the one before
 abbrev pub exponential_bounds : ℤ → ℕ → ℕ → List ℤ
 exponential_bounds start factor count = map (λ i. start *ℤ pos (factor ^ i)) (range_with_len 0 count)
 
@@ -17,7 +17,7 @@ exponential_bounds start factor count = map (λ i. start *ℤ pos (factor ^ i)) 
 abbrev pub default_bounds : List ℤ
 default_bounds = map pos (5000 ∷ 10000 ∷ 25000 ∷ 50000 ∷ 100000 ∷ 250000 ∷ 500000 ∷ 1000000 ∷ 2500000 ∷ 5000000 ∷ 10000000 ∷ [])
 
--- each of the bounds is a number of 64 bits
+-- each of the bounds fits in 64 bits
 abbrev pub FitLinear : ℤ → ℤ → ℕ → Type 0
 FitLinear start width count = (i : ℕ) → i < count → IsSigned 63 (start +ℤ width *ℤ pos i)
 
@@ -52,7 +52,7 @@ IsExponentialFault start factor count ZeroCount = (pos 0 <ℤ start) × (2 ≤ f
 IsExponentialFault start factor count Overflow = (pos 0 <ℤ start) × (2 ≤ factor) × (0 < count) × (pos (2 ^ 63) ≤ℤ (start *ℤ pos (factor ^ (count - 1))))
 IsExponentialFault start factor count _ = ⊥
 
--- the whole factor leads from the least bound to the greatest. One bound is the least alone
+-- the whole factor leads from the least bound to the greatest; a single bound is the least
 pub record IsWholeFactor (least greatest : ℤ) (count factor : ℕ) : Type 0 where
   pub whole : 1 ≤ factor
   pub leads : count ≢ 1 → least *ℤ pos (factor ^ (count - 1)) ≡ greatest

@@ -1,4 +1,4 @@
--- The numbers of the errors that a call that makes bounds may answer.
+-- The numbers of the errors of calls that make bounds.
 use Rattle.std.specs.Prelude.{ℕ}
 use Rattle.fm_bucket.specs.declared.error.BucketError as error
 use Rattle.fm_bucket.specs.declared.error.BucketError.TheVariants.{NonPositiveWidth, ZeroCount, Overflow, NonPositiveStart, FactorTooSmall, NoWholeFactor}

@@ -12,19 +12,19 @@ ghost use Rattle.fm_bucket.specs.contracts.bound.BoundOrd.TheImpl.{ghosts as ord
 use fm_raw::fixed::DEFAULT_BUCKETS;
 use fm_raw::{Fixed, FixedBuffer, FixedSum, MetricError};
 
-/// The name of the label that holds a bucket's bound.
+/// The name of the label whose value is a bucket's bound.
 pub const BUCKET_LABEL: &str = "le";
 
-/// A bucket's upper bound: a number, or none. Bounds are ordered as their numbers, and `Inf` is the greatest.
+/// A bucket's upper bound: a number, or none (`Inf`). Bounds are ordered as their numbers, and `Inf` is the greatest.
 #[derive(Clone, Copy, Debug, PartialEq, Eq, PartialOrd, Ord, Hash)]
 pub enum Bound {
-    /// Values up to this one.
+    /// Values up to this one, inclusive.
     Finite(Fixed),
     /// All values.
     Inf,
 }
 
-/// How many values lie in an interval that ends with the bound.
+/// A bucket: its upper bound, and how many values are in the interval that ends with it.
 #[derive(Clone, Copy, Debug, PartialEq, Eq)]
 pub struct Bucket {
     pub(crate) upper_bound: Bound,
@@ -54,28 +54,28 @@ impl Bound {
 }
 
 impl Bucket {
-    /// A bucket with that upper bound and count.
+    /// A bucket with this upper bound and this count.
     pub fn new(upper_bound: Bound, count: u64) -> Bucket
         ensures { result ≡ record { upper_bound = upper_bound; count = count } }
     {
         Bucket { upper_bound, count }
     }
 
-    /// The greatest value that the bucket takes.
+    /// The greatest value that the bucket counts.
     pub fn upper_bound(self) -> Bound
         ensures { result ≡ self.upper_bound }
     {
         self.upper_bound
     }
 
-    /// How many values the bucket has.
+    /// How many values are in the bucket.
     pub fn count(self) -> u64
         ensures { result ≡ self.count }
     {
         self.count
     }
 
-    /// Counts one value more. It answers `CountFull` where the count is the greatest `u64`, and then changes nothing.
+    /// Adds one to the count. Fails with `CountFull` if the count is the greatest `u64`, and then changes nothing.
     pub fn inc(&mut self) -> Result<(), MetricError>
         ensures counted { OnOk result (self.new ≡ record { upper_bound = self.old.upper_bound; count = self.old.count + 1 }) }
         ensures full { (result ≡ Err CountFull) ↔ (self.old.count + 1 ≡ 2 ^ 64) }
@@ -90,7 +90,7 @@ impl Bucket {
     }
 }
 
-/// The bounds that suit most durations, `DEFAULT_BUCKETS`, as a call whose clause says them.
+/// `DEFAULT_BUCKETS` as a function, whose contract states the bounds.
 pub fn default_buckets() -> [Fixed; 11]
     ensures { result ≡ default_bounds }
 {

@@ -1,16 +1,16 @@
-//! What a call that makes bounds may refuse.
+//! Why a call that makes bounds fails.
 ghost use Rattle.std.specs.Prelude.{◌≡◌};
 ghost use Rattle.fm_bucket.specs.Errors.{error_number};
 
 use thiserror::Error;
 
-/// Why bounds were refused: the first test that failed.
+/// Why bounds could not be made: the first test that failed.
 #[derive(Clone, Copy, Debug, PartialEq, Eq, Hash, Drop, Error)]
 pub enum BucketError {
     /// The width is not above zero.
     #[error("NonPositiveWidth")]
     NonPositiveWidth = 1,
-    /// No bound was asked for.
+    /// The number of bounds is zero.
     #[error("ZeroCount")]
     ZeroCount = 2,
     /// The last bound is greater than the greatest `Fixed`.
@@ -22,7 +22,7 @@ pub enum BucketError {
     /// The factor is less than two.
     #[error("FactorTooSmall")]
     FactorTooSmall = 5,
-    /// No whole factor leads from the least bound to the greatest.
+    /// No whole factor leads from the least bound to the greatest in this number of steps.
     #[error("NoWholeFactor")]
     NoWholeFactor = 6,
 }

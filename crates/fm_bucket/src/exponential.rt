@@ -1,4 +1,4 @@
-//! Bounds with a factor between them.
+//! Bounds that grow by a factor.
 ghost use Rattle.std.specs.Prelude.{◌≡◌, ◌≢◌, ℕ, ◌+◌, ◌-◌, ◌*◌, ◌^◌, ◌<◌, ◌≤◌, ◌↔◌, pos, min, IsTrue, IsOk, IfOk, IfErr, IfSome, IfNone};
 ghost use Rattle.std.specs.Iterator.{YieldsFirst, item_count};
 ghost use Rattle.fm_bucket.specs.Bounds.{exponential_bounds, IsExponential, IsExponentialFault, IsRange, IsRangeFault};
@@ -7,7 +7,7 @@ use crate::error::BucketError;
 use fm_raw::Fixed;
 use std::marker::Model;
 
-/// Bounds with a factor between them, seen as the list of those that are left. It takes no memory.
+/// Bounds that grow by a factor. Contracts see it as the list of those that are left. It takes no memory.
 #[derive(Clone, Debug, Drop)]
 pub struct ExponentialBuckets {
     next: u64,
@@ -46,9 +46,10 @@ impl Iterator for ExponentialBuckets {
     }
 }
 
-/// So many bounds: `start`, and then each `factor` times the one before.
-/// It refuses a start that is not above zero, then a factor below two, then a count of zero,
-/// then a last bound that is no `Fixed`.
+/// Returns `count` bounds: `start`, and then each `factor` times the one before.
+///
+/// Errors, in this order: the start is not above zero (`NonPositiveStart`), the factor is below two (`FactorTooSmall`),
+/// the count is zero (`ZeroCount`), the last bound is greater than the greatest `Fixed` (`Overflow`).
 pub fn exponential_buckets(
     start: Fixed,
     factor: u64,
@@ -78,8 +79,11 @@ pub fn exponential_buckets(
     })
 }
 
-/// So many bounds from `min` to `max`, each the same whole factor times the one before. One bound is `min` alone.
-/// It refuses a `min` that is not above zero, then a count of zero, then bounds that no whole factor leads to.
+/// Returns `count` bounds from `min` to `max`, each the same whole factor times the one before. If `count` is 1, the
+/// bound is `min`.
+///
+/// Errors, in this order: `min` is not above zero (`NonPositiveStart`), the count is zero (`ZeroCount`), no whole
+/// factor leads from `min` to `max` (`NoWholeFactor`).
 pub fn exponential_buckets_range(
     min: Fixed,
     max: Fixed,
@@ -105,7 +109,7 @@ pub fn exponential_buckets_range(
     })
 }
 
-// The power, or the greatest number of 64 bits where it is greater.
+// The power, or `u64::MAX` if it is greater.
 fn capped_power(base: u64, exponent: usize) -> u64
     requires { 2 ≤ base }
     ensures { result ≡ min (base ^ exponent) (2 ^ 64 - 1) }
@@ -116,7 +120,7 @@ fn capped_power(base: u64, exponent: usize) -> u64
     base.saturating_pow(exponent as u32)
 }
 
-// Whether the number that so many factors lead to is one of 63 bits.
+// Whether the last bound, after this number of steps, fits in 63 bits.
 fn last_fits(start: u64, factor: u64, steps: usize) -> bool
     requires { (0 < start) × (2 ≤ factor) }
     ensures { IsTrue result ↔ (start * factor ^ steps < 2 ^ 63) }
@@ -124,7 +128,7 @@ fn last_fits(start: u64, factor: u64, steps: usize) -> bool
     capped_power(factor, steps) <= i64::MAX as u64 / start
 }
 
-// The whole factor, from one on, that leads in so many steps from one number to the other, if there is one.
+// The whole factor, at least one, that leads from one number to the other in this number of steps, if there is one.
 fn whole_factor(least: u64, greatest: i64, steps: usize) -> Option<u64>
     requires { 0 < least }
     ensures some { IfSome result (λ factor. (1 ≤ factor) × (0 < steps → pos (least * factor ^ steps) ≡ greatest)) }
@@ -143,7 +147,7 @@ fn whole_factor(least: u64, greatest: i64, steps: usize) -> Option<u64>
     whole_root(greatest / least, steps)
 }
 
-// The whole number whose power is the given one, if there is one.
+// The whole number whose power with this exponent is `power`, if there is one.
 fn whole_root(power: u64, exponent: usize) -> Option<u64>
     requires some { (0 < power) × (0 < exponent) }
     requires small { power < 2 ^ 63 }

@@ -1,4 +1,4 @@
-//! Buckets of histograms: their bounds, their counts, and the search for the bucket of a value; quantiles of summaries.
+//! Buckets of histograms: their bounds, their counts, and the search for the bucket of a value. Quantiles of summaries.
 #![tactic(auto)]
 
 pub mod bound;

@@ -7,7 +7,7 @@ use crate::error::BucketError;
 use fm_raw::Fixed;
 use std::marker::Model;
 
-/// Bounds with equal steps between them, seen as the list of those that are left. It takes no memory.
+/// Bounds with equal steps between them. Contracts see it as the list of those that are left. It takes no memory.
 #[derive(Clone, Debug, Drop)]
 pub struct LinearBuckets {
     next: i64,
@@ -46,8 +46,10 @@ impl Iterator for LinearBuckets {
     }
 }
 
-/// So many bounds: `start`, and then each by `width` greater than the one before.
-/// It refuses a width that is not above zero, then a count of zero, then a last bound that is no `Fixed`.
+/// Returns `count` bounds: `start`, and then each greater by `width` than the one before.
+///
+/// Errors, in this order: the width is not above zero (`NonPositiveWidth`), the count is zero (`ZeroCount`), the last
+/// bound is greater than the greatest `Fixed` (`Overflow`).
 pub fn linear_buckets(
     start: Fixed,
     width: Fixed,

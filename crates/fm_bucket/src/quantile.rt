@@ -3,10 +3,10 @@ ghost use Rattle.std.specs.Prelude.{◌≡◌};
 
 use fm_raw::Fixed;
 
-/// The name of the label that holds which quantile a sample is.
+/// The name of the label whose value is the quantile of a sample.
 pub const QUANTILE_LABEL: &str = "quantile";
 
-/// A quantile of observed values: which one, mostly from 0 to 1, and its value. Neither is tested.
+/// A quantile of observed values, mostly from 0 to 1, and its value. Neither is tested.
 #[derive(Clone, Copy, Debug, PartialEq, Eq)]
 pub struct Quantile {
     pub(crate) quantile: Fixed,
@@ -14,21 +14,21 @@ pub struct Quantile {
 }
 
 impl Quantile {
-    /// This quantile with this value: the median is the quantile 0.5.
+    /// This quantile with this value. The median is the quantile 0.5.
     pub fn new(quantile: Fixed, value: Fixed) -> Quantile
         ensures { result ≡ record { quantile = quantile; value = value } }
     {
         Quantile { quantile, value }
     }
 
-    /// Which quantile it is.
+    /// The quantile, such as 0.5 for the median.
     pub fn quantile(self) -> Fixed
         ensures { result ≡ self.quantile }
     {
         self.quantile
     }
 
-    /// The quantile's value.
+    /// The value at the quantile.
     pub fn value(self) -> Fixed
         ensures { result ≡ self.value }
     {

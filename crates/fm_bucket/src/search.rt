@@ -1,10 +1,10 @@
-//! The search for a bucket, with a bound on the number of questions.
+//! The search for a bucket, with a bound on the number of tests.
 ghost use Rattle.std.specs.Prelude.{◌≡◌, ℕ, ◌+◌, ◌-◌, ◌*◌, ◌^◌, ◌<◌, ◌≤◌, ◌↔◌, IsTrue, min};
 
 use std::marker::Model;
 use std::sync::ledger::{Blank, Book, Ledger, Share};
 
-/// How many steps were taken. It takes no bytes, and only `tick` changes it.
+/// A count of steps. It exists for contracts only: it has no bytes, and only `tick` changes it.
 #[derive(Drop)]
 pub struct Steps<L: Ledger> {
     book: Book<L>,
@@ -20,7 +20,7 @@ impl<L: Ledger> Model for Steps<L> {
 }
 
 impl<L: Ledger> Steps<L> {
-    /// No step was taken yet.
+    /// A count of no steps.
     pub fn new(blank: Blank) -> Steps<L>
         requires name { blank.name ≡ L.name }
         requires parts { blank.parts ≡ L.parts }
@@ -31,7 +31,7 @@ impl<L: Ledger> Steps<L> {
         Steps { book, share }
     }
 
-    /// One step more.
+    /// Counts one more step.
     pub fn tick(&mut self)
         ensures { self.new ≡ self.old + 1 }
     {
@@ -39,22 +39,23 @@ impl<L: Ledger> Steps<L> {
     }
 }
 
-/// Answers questions about places: false below one place, and true from it on. Each answer is counted.
+/// A test of indices: false below some index, true from it on. Each test is counted.
 pub trait Probe {
-    /// The first place with the answer true.
+    /// The first index where the test is true.
     ghost first: { Self → ℕ };
 
-    /// How many answers were given.
+    /// How many tests were made.
     ghost asked: { Self → ℕ };
 
-    /// Whether the place is the first one with the answer true, or behind it.
+    /// Whether the index is the first one where the test is true, or after it.
     fn reaches(&mut self, i: usize) -> bool
         ensures answer { IsTrue result ↔ (first self.old ≤ i) }
         ensures same { first self.new ≡ first self.old }
         ensures counted { asked self.new ≡ asked self.old + 1 };
 }
 
-/// The first place below `n` that answers true, else `n`. It asks at most as often as `n + 1` has binary digits.
+/// Returns the first index below `n` where the test is true, or else `n`. It tests at most as often as `n + 1` has
+/// binary digits.
 pub fn find_bucket<P: Probe>(n: usize, probe: &mut P) -> usize
     ensures place { result ≡ min n (P.first probe.old) }
     ensures same { P.first probe.new ≡ P.first probe.old }
