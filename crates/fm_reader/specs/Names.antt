@@ -31,7 +31,7 @@ has set name = contains_by (λ key. slice_cmp nat_cmp name key.now) set
 abbrev pub HasNames : BTreeSet (Bor Text) → List Text → Type 0
 HasNames set names = (name : Text) → (has set name ≡ false → IsFresh name names) × (has set name ≡ true → IsFresh name names → ⊥)
 
--- the set has the name beside those before it, and it was new or wasn't
+-- the set contains this name and those before, and the name was new or not
 abbrev pub IsNoted : BTreeSet (Bor Text) → Text → Bool → BTreeSet (Bor Text) → Type 0
 IsNoted before name true after = (names : List Text) → HasNames before names → IsFresh name names × HasNames after (names ++ (name ∷ []))
 IsNoted before name false after = (names : List Text) → HasNames before names → (IsFresh name names → ⊥) × HasNames after names
@@ -41,6 +41,6 @@ abbrev pub with_found : List Text → Option (Text × MetricType) → List Text
 with_found names None = names
 with_found names (Some (name, metric_type)) = names ++ (name ∷ [])
 
--- where the set has the families' names, a new name and its type were found, and the name is noted
+-- if the set has the families' names: a new name and its type were found, and the name was added
 abbrev pub FoundNoted : BTreeSet (Bor Text) → Text → Option (Text × MetricType) → BTreeSet (Bor Text) → Type 0
 FoundNoted before line found after = (families : List Family) → HasNames before (names_of families) → FoundNewType families line found × HasNames after (with_found (names_of families) found)

@@ -1,4 +1,4 @@
--- Where a reader is, and where a line leads it.
+-- The states of a reader, and the state that a line leads to.
 use Rattle.std.specs.Prelude.{◌≡◌, List, Option, Some, None, string_bytes, []}
 use Rattle.std.specs.declared.alloc.Global.{Global}
 use Rattle.std.specs.declared.vec.Vec.{Vec}
@@ -18,24 +18,24 @@ state_of (Open finished current) = grammar.Open finished.items current
 state_of (Headed finished name metric_type) = grammar.Headed finished.items (string_bytes name) metric_type
 state_of (Ended families) = grammar.Ended families.items
 
--- where the line leads from a state, or nothing where it leads nowhere
+-- the state that the line leads to, or None if it leads to none
 abbrev pub IsStep : State → Text → Option Reading → Type 0
 IsStep before line None = (next : State) → Follows before line next → ⊥
 IsStep before line (Some reading) = Follows before line (state_of reading)
 
--- the same behind a family's first lines, where the line is neither a type line nor the last one
+-- the same after a family's first lines, for a line that is neither a type line nor the last one
 abbrev pub IsStepWithin : List Family → Family → Text → Option Reading → Type 0
 IsStepWithin finished family line None =
     ((unit : Text) → IsUnitLine line family.name unit → family.unit ≡ None → family.samples ≡ [] → UnitFits family.name (Some unit) → UnitAllowed family.metric_type (Some unit) → ⊥)
     × ((sample : Sample) → IsSampleLine line family.name sample → IsSample family.metric_type sample → ⊥)
 IsStepWithin finished family line (Some reading) = Follows (grammar.Open finished (Some family)) line (state_of reading)
 
--- a family's name and its type, where no family has the name
+-- a family's name and its type, if no other family has the name
 abbrev pub FoundNewType : List Family → Text → Option (Text × MetricType) → Type 0
 FoundNewType families line None = (name : Text) (metric_type : MetricType) → IsTypeLine line name metric_type → IsSnakeCase name → IsNewName name families → ⊥
 FoundNewType families line (Some (name, metric_type)) = IsSnakeCase name × IsTypeLine line name metric_type × IsNewName name families
 
--- the families of an ended reading
+-- the families of a reader after the last line
 abbrev pub IsEnding : State → Option (Vec FamilySamples Global) → Type 0
 IsEnding state None = IsEnded state → ⊥
 IsEnding state (Some families) = state ≡ grammar.Ended families.items

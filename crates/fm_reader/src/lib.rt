@@ -1,4 +1,4 @@
-//! Documents are read line by line.
+//! The reader of documents: from a text back to the exposition that it is the document of.
 #![tactic(auto)]
 
 pub mod error;

@@ -1,4 +1,4 @@
-//! What a reader has of a document so far.
+//! The state of a reader after each line of a document.
 ghost use Rattle.std.specs.Prelude.{◌≡◌, ◌↔◌, IsTrue, IfOk, IfErr, IfSome, OnOk, None, [], string_bytes};
 ghost use Rattle.std.specs.Option.{option_map};
 ghost use Rattle.fm_grammar.specs.Document.{IsLastLine};
@@ -18,7 +18,7 @@ use std::collections::BTreeSet;
 use std::marker::Model;
 use std::sync::Arc;
 
-/// A family of which more samples may come.
+/// A family that may get more samples.
 #[derive(Drop)]
 pub(crate) struct Pending {
     name: String,
@@ -49,7 +49,7 @@ impl Pending {
         self.name.as_str()
     }
 
-    // What the family is.
+    // The family's metric type.
     fn metric_type(&self) -> MetricType
         ensures { result ≡ self.now.metric_type }
     {
@@ -76,7 +76,7 @@ impl Pending {
         }
     }
 
-    // Adds a sample at the end. It may find no memory.
+    // Adds a sample at the end. Fails with `Memory` if there is none.
     fn push(&mut self, sample: ReadSample) -> Result<(), ReadError>
         ensures pushed { OnOk result (self.new ≡ with_sample self.old (read_sample_of sample)) }
         ensures memory { IfErr result (λ e. e ≡ Memory) }
@@ -108,28 +108,28 @@ impl Pending {
     }
 }
 
-/// Where a reader is after some lines.
+/// The state of a reader after some lines.
 #[derive(Drop)]
 pub(crate) enum Reading {
-    /// Behind a family's type line and help line and maybe more, or at the start.
+    /// After a family's type line and help line, and maybe more of its lines; or at the start.
     Open {
         finished: Vec<FamilySamples>,
         current: Option<Pending>,
     },
-    /// Behind a type line.
+    /// After a type line.
     Headed {
         finished: Vec<FamilySamples>,
         name: String,
         metric_type: MetricType,
     },
-    /// Behind the last line.
+    /// After the last line.
     Ended {
         families: Vec<FamilySamples>,
     },
 }
 
-/// Takes a line, or answers None where no line of this kind can stand there. The set has the names of the families so
-/// far, before and after.
+/// Reads a line. Returns None if the line can't come next. The set has the names of the families so far, before and
+/// after the call.
 pub(crate) fn step<'a>(
     alloc: Global,
     names: &mut BTreeSet<&'a str>,
@@ -152,7 +152,7 @@ pub(crate) fn step<'a>(
     }
 }
 
-// Takes a line where a family may begin.
+// Reads a line where a family may begin.
 fn step_open<'a>(
     alloc: Global,
     names: &mut BTreeSet<&'a str>,
@@ -184,7 +184,7 @@ fn step_open<'a>(
     }
 }
 
-// Takes a family's help line.
+// Reads a family's help line.
 fn step_headed(
     alloc: Global,
     finished: Vec<FamilySamples>,
@@ -212,7 +212,7 @@ fn step_headed(
     }))
 }
 
-// Takes a unit line or a sample line of a family, or answers None where the line is neither.
+// Reads a unit line or a sample line of a family. Returns None if the line is neither.
 fn step_within(
     alloc: Global,
     finished: Vec<FamilySamples>,
@@ -242,7 +242,7 @@ fn step_within(
     }))
 }
 
-// The families with the last one among them.
+// The finished families, with the current one added as the last.
 fn close(
     finished: Vec<FamilySamples>,
     current: Option<Pending>,
@@ -263,7 +263,7 @@ fn is_last_line(line: &str) -> bool
     line == "# EOF"
 }
 
-// The name and the type on a type line whose name no family has. The name is among the names then.
+// The name and the type on a type line with a new name, which is added to the names.
 fn read_new_type<'a>(
     names: &mut BTreeSet<&'a str>,
     line: &'a str,
@@ -280,7 +280,7 @@ fn read_new_type<'a>(
     Ok(Some((name, metric_type)))
 }
 
-// Adds a name to the names, and says whether it is new. It may find no memory.
+// Adds a name, and returns whether it is new. Fails with `Memory` if there is none.
 fn note<'a>(names: &mut BTreeSet<&'a str>, name: &'a str) -> Result<bool, ReadError>
     ensures noted { IfOk result (λ new. IsNoted names.old name.now new names.new) }
     ensures memory { IfErr result (λ e. e ≡ Memory) }
@@ -289,7 +289,7 @@ fn note<'a>(names: &mut BTreeSet<&'a str>, name: &'a str) -> Result<bool, ReadEr
     Ok(new)
 }
 
-/// The families, where the last line was taken.
+/// The families, if the last line was read.
 pub(crate) fn ended(reading: Reading) -> Option<Vec<FamilySamples>>
     ensures { IsEnding (state_of reading) result }
 {
