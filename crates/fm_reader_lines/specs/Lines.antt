@@ -1,4 +1,4 @@
--- What is found in a line: the parts of a line of one kind, or that it is no line of that kind.
+-- What is found in a line: the parts of a line of some kind, or that the line is not of that kind.
 use Rattle.std.specs.Prelude.{◌≡◌, ◌≢◌, Bool, true, false, List, [], ◌∷◌, Option, Some, None}
 use Rattle.std.specs.Borrow.{Bor}
 use Rattle.fm_grammar.specs.declared.MetricType.{MetricType}
@@ -14,22 +14,22 @@ abbrev pub FoundType : Text → Option (Text × MetricType) → Type 0
 FoundType line None = (name : Text) (metric_type : MetricType) → IsSnakeCase name → IsTypeLine line name metric_type → ⊥
 FoundType line (Some (name, metric_type)) = IsSnakeCase name × IsTypeLine line name metric_type
 
--- the help of the family of this name
+-- the help text of the family with this name
 abbrev pub FoundHelp : Text → Text → Option Text → Type 0
 FoundHelp line name None = (help : Text) → IsHelpLine line name help → ⊥
 FoundHelp line name (Some help) = IsHelpLine line name help
 
--- the unit of the family of this name and type
+-- the unit of the family with this name and type
 abbrev pub FoundUnit : Text → Text → MetricType → Option Text → Type 0
 FoundUnit line name metric_type None = (unit : Text) → IsUnitLine line name unit → UnitFits name (Some unit) → UnitAllowed metric_type (Some unit) → ⊥
 FoundUnit line name metric_type (Some unit) = IsUnitLine line name unit × UnitFits name (Some unit) × UnitAllowed metric_type (Some unit)
 
--- a sample of the family of this name and type
+-- a sample of the family with this name and type
 abbrev pub FoundSample : Text → Text → MetricType → Option Sample → Type 0
 FoundSample line name metric_type None = (sample : Sample) → IsSampleLine line name sample → IsSample metric_type sample → ⊥
 FoundSample line name metric_type (Some sample) = IsSampleLine line name sample × IsSample metric_type sample
 
--- a name that is lent, and a type
+-- a borrowed name and a type
 abbrev pub shown_type : Bor Text × MetricType → Text × MetricType
 shown_type pair = (pair.0.now, pair.1)
 
@@ -37,7 +37,7 @@ shown_type pair = (pair.0.now, pair.1)
 abbrev pub all_types : List MetricType
 all_types = Unknown ∷ Gauge ∷ Counter ∷ StateSet ∷ Info ∷ Histogram ∷ GaugeHistogram ∷ Summary ∷ []
 
--- the type of a word
+-- the type with this word
 abbrev pub FoundWord : Text → Option MetricType → Type 0
 FoundWord word None = (metric_type : MetricType) → word ≢ type_word metric_type
 FoundWord word (Some metric_type) = word ≡ type_word metric_type

@@ -1,4 +1,5 @@
--- What is found in the parts of a sample line: a part and what is behind it, or that no such part stands there.
+-- What is found in the parts of a sample line: a part and the text after it, or that the text does not begin with such
+-- a part.
 use Rattle.std.specs.Prelude.{◌≡◌, ◌≢◌, ◌⊎◌, ℕ, ◌^◌, ℤ, Bool, true, false, List, [], ◌∷◌, ◌++◌, ⊤, Option, Some, None, IfSome, Contains}
 use Rattle.std.specs.Borrow.{Bor}
 use Rattle.std.specs.List.{AllByRecursion}
@@ -11,7 +12,7 @@ use Rattle.fm_grammar.specs.Numbers.{fixed_text}
 use Rattle.fm_grammar.specs.Spelling.{label_list_text, label_block_text, value_text, time_text, exemplar_text}
 use Rattle.fm_grammar.specs.WellFormed.{kinds_of, AreLabels, ValueSuits, ValueFits, AreMillis, ExemplarAllowed, IsExemplar, IsBetween}
 
--- what stands behind the suffix of a kind: an opening brace or a space
+-- what comes after the suffix of a kind: an opening brace or a space
 abbrev pub EndsName : Text → Type 0
 EndsName [] = ⊥
 EndsName (byte ∷ text) = (byte ≡ 123) ⊎ (byte ≡ 32)
@@ -28,17 +29,17 @@ abbrev pub seen_kind : Option (SampleKind × Bor Text) → Option (SampleKind ×
 seen_kind None = None
 seen_kind (Some (kind, rest)) = Some (kind, rest.now)
 
--- labels behind an opening brace, the closing one and a space
+-- labels after an opening brace, then the closing brace and a space
 abbrev pub IsBracesFront : Text → Option (List Label × Text) → Type 0
 IsBracesFront text None = (labels : List Label) (rest : Text) → AreLabels labels → text ≢ label_list_text labels ++ (125 ∷ 32 ∷ rest)
 IsBracesFront text (Some (labels, rest)) = AreLabels labels × (text ≡ label_list_text labels ++ (125 ∷ 32 ∷ rest))
 
--- labels with their braces where there are some, and a space
+-- labels in braces, if there are any, and a space
 abbrev pub IsBlockFront : Text → Option (List Label × Text) → Type 0
 IsBlockFront text None = (labels : List Label) (rest : Text) → AreLabels labels → text ≢ label_block_text labels ++ (32 ∷ rest)
 IsBlockFront text (Some (labels, rest)) = AreLabels labels × (text ≡ label_block_text labels ++ (32 ∷ rest))
 
--- nothing, or a space and what is behind it
+-- nothing, or a space and the text after it
 abbrev pub tail_text : Option (Bor Text) → Text
 tail_text None = []
 tail_text (Some rest) = 32 ∷ rest.now
@@ -61,7 +62,7 @@ abbrev pub FoundNumber : Text → Option Value → Type 0
 FoundNumber text None = (value : Value) → IsNumber value → ValueFits value → text ≢ value_text value
 FoundNumber text (Some value) = IsNumber value × ValueFits value × (text ≡ value_text value)
 
--- what may stand behind a timestamp, or in place of one: nothing, or an exemplar
+-- what may come after a timestamp, or instead of one: nothing, or an exemplar
 abbrev pub EndsTime : Text → Type 0
 EndsTime text = (text ≡ []) ⊎ ((rest : Text) × (text ≡ 32 ∷ 35 ∷ rest))
 
@@ -73,12 +74,12 @@ abbrev pub IsTimeFront : Text → Option (Option ℕ × Option (Bor Text)) → T
 IsTimeFront text None = (time : Option ℕ) (rest : Text) → IfSome time AreMillis → EndsTime rest → text ≢ time_text time ++ rest
 IsTimeFront text (Some (time, tail)) = IfSome time AreMillis × EndsAt time (tail_text tail) × (text ≡ time_text time ++ tail_text tail)
 
--- millionths in the range of an exemplar
+-- millionths in the range of an exemplar's value
 abbrev pub FoundSmall : Text → Option ℤ → Type 0
 FoundSmall text None = (z : ℤ) → IsBetween (2 ^ 63) (2 ^ 63) z → text ≢ fixed_text z
 FoundSmall text (Some z) = IsBetween (2 ^ 63) (2 ^ 63) z × (text ≡ fixed_text z)
 
--- an exemplar behind its opening brace
+-- an exemplar after its opening brace
 abbrev pub body_text : Exemplar → Text
 body_text exemplar = label_list_text exemplar.labels ++ (125 ∷ 32 ∷ (fixed_text exemplar.value ++ time_text exemplar.time))
 
@@ -86,7 +87,7 @@ abbrev pub FoundBody : Text → Option Exemplar → Type 0
 FoundBody text None = (exemplar : Exemplar) → IsExemplar exemplar → text ≢ body_text exemplar
 FoundBody text (Some exemplar) = IsExemplar exemplar × (text ≡ body_text exemplar)
 
--- an exemplar or nothing
+-- an exemplar, or nothing
 abbrev pub FoundExemplar : SampleKind → Text → Option (Option Exemplar) → Type 0
 FoundExemplar kind text None = (exemplar : Option Exemplar) → ExemplarAllowed kind exemplar → IfSome exemplar IsExemplar → text ≢ exemplar_text exemplar
 FoundExemplar kind text (Some exemplar) = ExemplarAllowed kind exemplar × IfSome exemplar IsExemplar × (text ≡ exemplar_text exemplar)
@@ -106,7 +107,7 @@ pub record Shown : Type 0 where
 abbrev pub shown_text : Shown → Text
 shown_text shown = value_text shown.value ++ (time_text shown.time ++ exemplar_text shown.exemplar)
 
--- what a sample of a kind may show
+-- what a sample of a kind may have
 pub record MayShow (kind : SampleKind) (shown : Shown) : Type 0 where
   pub suits : ValueSuits kind shown.value
   pub value : ValueFits shown.value

@@ -1,4 +1,4 @@
--- What contracts see of a sample that was read.
+-- How contracts see a sample that was read.
 use Rattle.std.specs.Option.{option_map}
 use Rattle.fm_grammar.specs.Exposition.{Sample}
 use Rattle.fm_text.specs.Samples.{labels_of, value_of, exemplar_of}

@@ -13,7 +13,7 @@ use fm_reader_parts::number::read_fixed;
 use fm_text::{Exemplar, make};
 use std::alloc::{AllocError, Global};
 
-/// The exemplar of a sample of this kind, or that there is none; None where something else stands there.
+/// The exemplar of a sample of this kind, or `Some(None)` if `tail` is None; None if the text is not such an exemplar.
 pub(crate) fn read_exemplar(
     alloc: Global,
     kind: SampleKind,
@@ -36,7 +36,7 @@ pub(crate) fn read_exemplar(
     Ok(Some(Some(exemplar)))
 }
 
-// The exemplar behind its opening brace.
+// The exemplar after its opening brace.
 fn read_body(alloc: Global, text: &str) -> Result<Option<Exemplar>, AllocError>
     ensures { IfOk result (λ found. FoundBody text.now (option_map exemplar_of found)) }
 {

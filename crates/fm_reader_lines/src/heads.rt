@@ -1,4 +1,4 @@
-//! Reads the lines at the head of a family: its type line, its help line and its unit line.
+//! Reads the first lines of a family: its type line, its help line and its unit line.
 ghost use Rattle.std.specs.Prelude.{◌≡◌, ◌↔◌, IsTrue, IfOk, string_bytes};
 ghost use Rattle.std.specs.Option.{option_map, option_copied};
 ghost use Rattle.fm_grammar.specs.Kinds.{type_word};
@@ -21,7 +21,7 @@ static TYPES: [MetricType; 8] = [
     MetricType::Summary,
 ];
 
-/// The name and the type on a type line, or None where the text is none.
+/// The name and the type on a type line, or None if the text is not a type line.
 pub fn read_type(line: &str) -> Option<(&str, MetricType)>
     ensures { FoundType line.now (option_map shown_type result) }
 {
@@ -40,9 +40,9 @@ pub fn read_type(line: &str) -> Option<(&str, MetricType)>
     Some((name, metric_type))
 }
 
-/// The help on the help line of the family of this name, or None where the text is none.
+/// The help text on the help line of the family with this name, or None if the text is not such a line.
 ///
-/// It may find no memory.
+/// Fails if there is no memory.
 pub fn read_help(alloc: Global, name: &str, line: &str) -> Result<Option<String>, AllocError>
     ensures { IfOk result (λ found. FoundHelp line.now name.now (option_map string_bytes found)) }
 {
@@ -64,7 +64,7 @@ pub fn read_help(alloc: Global, name: &str, line: &str) -> Result<Option<String>
     Ok(Some(help))
 }
 
-/// The unit on the unit line of the family of this name and type, or None where the text is none.
+/// The unit on the unit line of the family with this name and type, or None if the text is not such a line.
 pub fn read_unit<'a>(name: &str, metric_type: MetricType, line: &'a str) -> Option<&'a str>
     ensures { FoundUnit line.now name.now metric_type (option_copied result) }
 {
@@ -90,7 +90,7 @@ fn metric_types() -> &'static [MetricType]
     &TYPES
 }
 
-// The type of this word.
+// The type with this word.
 fn type_of(word: &str) -> Option<MetricType>
     ensures { FoundWord word.now result }
 {
@@ -118,7 +118,7 @@ fn takes_unit(metric_type: MetricType) -> bool
     )
 }
 
-// Whether a name is one in snake case, an underscore and this unit.
+// Whether a name consists of a name in snake case, an underscore and this unit.
 fn ends_with_unit(name: &str, unit: &str) -> bool
     ensures { IsTrue result ↔ EndsWithUnit name.now unit.now }
 {

@@ -1,4 +1,4 @@
-//! Reads label lists whose names differ.
+//! Reads label lists with different names.
 ghost use Rattle.std.specs.Prelude.{◌≡◌, ◌↔◌, IsTrue, IfOk, map};
 ghost use Rattle.fm_grammar.specs.Names.{AllDifferent};
 ghost use Rattle.fm_text.specs.Samples.{labels_of};
@@ -9,7 +9,7 @@ use fm_reader_parts::labels::read_labels;
 use std::alloc::{AllocError, Global};
 use std::collections::BTreeSet;
 
-/// A sample's labels up to the space in front of its value, and what is behind that; None where none stand there.
+/// A sample's labels up to the space before its value, and the text after it; None if the text does not begin so.
 pub(crate) fn read_block(
     alloc: Global,
     text: &str,
@@ -31,8 +31,8 @@ pub(crate) fn read_block(
     Ok(Some((labels, rest)))
 }
 
-/// The labels behind an opening brace, up to the closing one and a space, and what is behind that; None where none
-/// stand there.
+/// The labels after an opening brace, up to the closing brace and a space, and the text after them; None if the text
+/// does not begin so.
 pub(crate) fn read_braces(
     alloc: Global,
     text: &str,
@@ -51,7 +51,7 @@ pub(crate) fn read_braces(
     Ok(Some((labels, rest)))
 }
 
-// Whether no name stands twice.
+// Whether no name comes twice.
 fn are_different(alloc: Global, labels: &[(String, String)]) -> Result<bool, AllocError>
     ensures { IfOk result (λ different. IsTrue different ↔ AllDifferent (map (λ label. label.name) (labels_of labels.now))) }
 {

@@ -1,4 +1,4 @@
-//! Reads the lines of a document.
+//! Reads the single lines of a document.
 #![tactic(auto)]
 
 mod exemplar;

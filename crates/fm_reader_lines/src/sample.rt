@@ -41,21 +41,21 @@ static SUMMARY: [SampleKind; 4] = [
 /// A sample as it was read.
 #[derive(Drop)]
 pub struct ReadSample {
-    /// What it says of its family.
+    /// Its kind, which decides the suffix of its name.
     pub kind: SampleKind,
-    /// The names and values of its labels in order.
+    /// Its labels in order, each as name and value.
     pub labels: Vec<(String, String)>,
     /// Its value.
     pub value: Value,
-    /// Its timestamp in milliseconds.
+    /// Its timestamp in milliseconds, if it has one.
     pub time: Option<u128>,
-    /// Its exemplar.
+    /// Its exemplar, if it has one.
     pub exemplar: Option<Exemplar>,
 }
 
-/// The sample on a line of the family of this name and type, or None where the text is no such line.
+/// The sample on a line of the family with this name and type, or None if the text is not such a line.
 ///
-/// It may find no memory.
+/// Fails if there is no memory.
 pub fn read_sample(
     alloc: Global,
     name: &str,
@@ -85,7 +85,7 @@ pub fn read_sample(
     }))
 }
 
-// The kind of which the suffix stands there, and what is behind the suffix.
+// The kind whose suffix the text begins with, and the text after the suffix.
 fn read_kind(metric_type: MetricType, text: &str) -> Option<(SampleKind, &str)>
     ensures { IsKindFront metric_type text.now (seen_kind result) }
 {
@@ -97,7 +97,7 @@ fn read_kind(metric_type: MetricType, text: &str) -> Option<(SampleKind, &str)>
     None
 }
 
-// What is behind the suffix of a kind.
+// The text after the suffix of a kind.
 fn behind_suffix(kind: SampleKind, text: &str) -> Option<&str>
     ensures { IsBehindSuffix kind text.now (option_copied result) }
 {
@@ -110,7 +110,7 @@ fn behind_suffix(kind: SampleKind, text: &str) -> Option<&str>
     Some(rest)
 }
 
-// Whether a text begins with what may stand behind a suffix.
+// Whether a text begins with what may come after a suffix.
 fn ends_name(text: &str) -> bool
     ensures { IsTrue result ↔ EndsName text.now }
 {

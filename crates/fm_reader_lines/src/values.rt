@@ -1,4 +1,4 @@
-//! Reads what stands behind a sample's labels: its value, its timestamp and its exemplar.
+//! Reads what comes after a sample's labels: its value, its timestamp and its exemplar.
 ghost use Rattle.std.specs.Prelude.{◌≡◌, IfOk};
 ghost use Rattle.std.specs.Option.{option_map};
 ghost use Rattle.fm_text.specs.Samples.{value_of};
@@ -12,18 +12,18 @@ use fm_reader_parts::number::{read_fixed, read_millis, read_whole};
 use fm_text::{Exemplar, Value};
 use std::alloc::{AllocError, Global};
 
-/// What a sample shows.
+/// The value, timestamp and exemplar of a sample.
 #[derive(Drop)]
 pub(crate) struct ReadValues {
     /// Its value.
     pub value: Value,
-    /// Its timestamp in milliseconds.
+    /// Its timestamp in milliseconds, if it has one.
     pub time: Option<u128>,
-    /// Its exemplar.
+    /// Its exemplar, if it has one.
     pub exemplar: Option<Exemplar>,
 }
 
-/// The value, the timestamp and the exemplar of a sample of this kind; None where the text is none.
+/// The value, the timestamp and the exemplar of a sample of this kind; None if the text is something else.
 pub(crate) fn read_values(
     alloc: Global,
     kind: SampleKind,
@@ -48,7 +48,7 @@ pub(crate) fn read_values(
     }))
 }
 
-/// The text up to the first space, and what is behind the space.
+/// The text up to the first space, and the text after the space.
 pub(crate) fn split_token(text: &str) -> (&str, Option<&str>)
     ensures { IsToken text.now result.0.now (tail_text result.1) }
 {
@@ -86,7 +86,7 @@ fn read_number(text: &str) -> Option<Value>
     Some(Value::Fixed(FixedSum::from_millionths(millionths)))
 }
 
-/// The timestamp in milliseconds, where one stands there, and what is behind it; None where something else stands there.
+/// The timestamp in milliseconds, if there is one, and the text after it; None if the text begins with something else.
 pub(crate) fn read_time(tail: Option<&str>) -> Option<(Option<u128>, Option<&str>)>
     ensures { IsTimeFront (tail_text tail.entry) result }
 {
