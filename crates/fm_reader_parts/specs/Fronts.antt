@@ -1,4 +1,5 @@
--- What reading a part at the front of a text says: the part and what is behind it, or that no such part stands there.
+-- What reading a part at the start of a text finds: the part and the text after it, or that the text does not begin
+-- with such a part.
 use Rattle.std.specs.Prelude.{◌≡◌, ◌≢◌, ◌⊎◌, List, [], ◌∷◌, ◌++◌, ⊤, Option, Some, None, String, string_bytes}
 use Rattle.std.specs.Borrow.{Bor}
 use Rattle.std.specs.List.{AllByRecursion}
@@ -9,7 +10,7 @@ use Rattle.fm_grammar.specs.Names.{IsLabelName}
 use Rattle.fm_grammar.specs.Spelling.{escaped, label_text, label_list_text}
 use Rattle.fm_text.specs.Samples.{label_of, labels_of}
 
--- what may stand behind an escaped text: a line feed, a quote, or nothing
+-- what may come after an escaped text: a line feed, a quote, or nothing
 abbrev pub EndsEscaped : Text → Type 0
 EndsEscaped [] = ⊤
 EndsEscaped (byte ∷ text) = (byte ≡ 10) ⊎ (byte ≡ 34)
@@ -31,7 +32,7 @@ abbrev pub seen_label : Option ((String Global × String Global) × Bor Text) �
 seen_label None = None
 seen_label (Some (label, rest)) = Some (label_of label, rest.now)
 
--- labels with valid names, and the closing brace
+-- labels with valid names
 abbrev pub AreNamed : List Label → Type 0
 AreNamed labels = AllByRecursion (λ label. IsLabelName label.name) labels
 

@@ -1,4 +1,4 @@
--- What reading a number says: the number that the text spells, or that it spells none.
+-- What reading a number finds: the number that has the text, or that no number has it.
 use Rattle.std.specs.Prelude.{◌≡◌, ◌≢◌, ℕ, ◌+◌, ◌-◌, ◌*◌, ◌^◌, get_or, Option, Some, None, ℤ}
 use Rattle.std.specs.Fmt.{signed_decimal}
 use Rattle.fm_grammar.specs.Exposition.{Text}
@@ -17,7 +17,7 @@ abbrev pub FoundFixed : Text → Option ℤ → Type 0
 FoundFixed text None = (z : ℤ) → IsBetween (2 ^ 127) (2 ^ 127) z → text ≢ fixed_text z
 FoundFixed text (Some z) = IsBetween (2 ^ 127) (2 ^ 127) z × (text ≡ fixed_text z)
 
--- the value of the digit at a place, where a missing one is a zero
+-- the value of the digit at an index, and zero if it is missing
 abbrev pub place : Text → ℕ → ℕ
 place text i = get_or text i 48 - 48
 

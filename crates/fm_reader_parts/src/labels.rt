@@ -7,8 +7,8 @@ ghost use Rattle.fm_reader_parts.specs.Fronts.{IsEscapedFront, IsLabelFront, IsL
 use fm_raw::is_label_name;
 use std::alloc::{AllocError, Global};
 
-/// Reads an escaped text at the front, up to a quote, a line feed or the end, and gives what is
-/// behind it too; none where no escaped text stands there.
+/// Reads an escaped text at the start, up to a quote, a line feed or the end, and returns it with the text after it;
+/// None if the text does not begin with an escaped text.
 pub fn read_escaped(alloc: Global, text: &str) -> Result<Option<(String, &str)>, AllocError>
     ensures { IfOk result (λ found. IsEscapedFront text.now (seen found)) }
 {
@@ -40,7 +40,7 @@ pub fn read_escaped(alloc: Global, text: &str) -> Result<Option<(String, &str)>,
     }
 }
 
-/// Reads a label at the front, and gives what is behind it too; none where no label stands there.
+/// Reads a label at the start, and returns it with the text after it; None if the text does not begin with a label.
 pub fn read_label(alloc: Global, text: &str) -> Result<Option<((String, String), &str)>, AllocError>
     ensures { IfOk result (λ found. IsLabelFront text.now (seen_label found)) }
 {
@@ -63,7 +63,7 @@ pub fn read_label(alloc: Global, text: &str) -> Result<Option<((String, String),
     Ok(Some(((name, value), rest)))
 }
 
-/// Reads labels behind an opening brace, up to the closing one, and gives what is behind that too.
+/// Reads labels after an opening brace, up to the closing brace, and returns them with the text after that.
 pub fn read_labels(
     alloc: Global,
     text: &str,

@@ -7,10 +7,10 @@ ghost use Rattle.fm_reader_parts.specs.Numbers.{FoundWhole, FoundMillis, FoundFi
 
 use fm_raw::{FixedBuffer, FixedSum};
 
-// The milliseconds of the longest duration.
+// The longest duration, in milliseconds.
 const MAX_MILLIS: u128 = 18_446_744_073_709_551_615_999;
 
-/// The whole number, from -2^63 to 2^64-1, that a text spells.
+/// The whole number from -2^63 to 2^64 - 1 that has this text.
 pub fn read_whole(text: &str) -> Option<i128>
     ensures { FoundWhole text.now result }
 {
@@ -27,7 +27,7 @@ pub fn read_whole(text: &str) -> Option<i128>
     Some(number)
 }
 
-/// The milliseconds that a text of seconds spells.
+/// The milliseconds that have this text, in seconds.
 pub fn read_millis(text: &str) -> Option<u128>
     ensures { FoundMillis text.now result }
 {
@@ -44,7 +44,7 @@ pub fn read_millis(text: &str) -> Option<u128>
     Some(millis)
 }
 
-/// The millionths that a text spells.
+/// The millionths that have this text.
 pub fn read_fixed(text: &str) -> Option<i128>
     ensures { FoundFixed text.now result }
 {
@@ -58,7 +58,7 @@ pub fn read_fixed(text: &str) -> Option<i128>
     Some(number)
 }
 
-// The only whole number whose text this can be.
+// The only whole number that may have this text.
 fn whole_in(text: &str) -> Option<i128>
     ensures { (z : ℤ) → IsBetween (2 ^ 63) (2 ^ 64) z → text.now ≡ signed_decimal z → result ≡ Some z }
 {
@@ -68,7 +68,7 @@ fn whole_in(text: &str) -> Option<i128>
     Some(number)
 }
 
-// The only milliseconds whose text this can be.
+// The only milliseconds that may have this text.
 fn millis_in(text: &str) -> Option<u128>
     ensures { (t : ℕ) → AreMillis t → text.now ≡ millis_text t → result ≡ Some t }
 {
@@ -81,7 +81,7 @@ fn millis_in(text: &str) -> Option<u128>
     Some(u128::from(seconds) * 1000 + u128::from(three_places(decimals.as_bytes())))
 }
 
-// The only number whose text this can be.
+// The only number that may have this text.
 fn fixed_in(text: &str) -> Option<i128>
     ensures { (z : ℤ) → IsBetween (2 ^ 127) (2 ^ 127) z → text.now ≡ fixed_text z → result ≡ Some z }
 {
@@ -97,7 +97,7 @@ fn fixed_in(text: &str) -> Option<i128>
     0_i128.checked_sub_unsigned(millionths)
 }
 
-// The only number without a sign whose text this can be.
+// The only number without a sign that may have this text.
 fn magnitude_in(text: &str) -> Option<u128>
     ensures { (n : ℕ) → n ≤ 2 ^ 127 → text.now ≡ millionths_text n → result ≡ Some n }
 {
@@ -113,7 +113,7 @@ fn magnitude_in(text: &str) -> Option<u128>
     scaled.checked_add(u128::from(six_places(decimals.as_bytes())))
 }
 
-// The digit at a place behind the point, where a missing one is a zero.
+// The digit at an index after the point, and zero if it is missing.
 fn digit_at(decimals: &[u8], place: usize) -> u32
     ensures digit { result ≡ get_or decimals.now place 48 - 48 }
     ensures small { result ≤ 207 }
@@ -124,7 +124,7 @@ fn digit_at(decimals: &[u8], place: usize) -> u32
     }
 }
 
-// The number of the first three digits behind the point.
+// The number of the first three digits after the point.
 fn three_places(decimals: &[u8]) -> u32
     ensures value { result ≡ places_3 decimals.now }
     ensures small { result ≤ 22977 }
@@ -132,7 +132,7 @@ fn three_places(decimals: &[u8]) -> u32
     digit_at(decimals, 0) * 100 + digit_at(decimals, 1) * 10 + digit_at(decimals, 2)
 }
 
-// The number of the first six digits behind the point.
+// The number of the first six digits after the point.
 fn six_places(decimals: &[u8]) -> u32
     ensures value { result ≡ places_6 decimals.now }
     ensures small { result ≤ 22999977 }
