@@ -1,4 +1,4 @@
-//! The tree of registries against the book of accepted calls.
+//! `RegistryError`, and the definitions of registry calls: books of accepted calls, and the trees that read them.
 #![tactic(auto)]
 
 ghost use Rattle.std.specs.Prelude.{◌≡◌, map};
@@ -14,22 +14,22 @@ ghost use Rattle.fm_book.specs.declared.RegistryError.TheVariants.{Memory};
 use std::alloc::{AllocError, AllocFailed};
 use thiserror::Error;
 
-/// Why a registry refuses a call. Each kind but `Memory` carries the text that it is about.
+/// Why a registry refuses a call. Each kind except `Memory` has the text that caused it.
 #[derive(Clone, Debug, PartialEq, Eq, Drop, Error)]
 pub enum RegistryError {
     /// The name of a metric is not in snake case.
     #[error("The name of metric '{name}' should be snake_case")]
     InvalidNameFormat { name: String },
-    /// A metric whose type has no unit was given one.
+    /// A metric whose type can't have a unit was given one.
     #[error("The type of metric '{name}' must have an empty unit string")]
     MustHaveAnEmptyUnitString { name: String },
-    /// The text of a unit is not a word of lowercase letters and digits.
+    /// The text of a unit is not one word of lowercase letters and digits.
     #[error("The format of unit '{unit}' must be lowercase")]
     OtherUnitFormatMustBeLowercase { unit: String },
-    /// The registry has a metric with this name, type and unit.
+    /// The registry already has a metric with this name, type and unit.
     #[error("The metric '{name}' to be registered already exists in the registry")]
     AlreadyExists { name: String },
-    /// No memory could be had.
+    /// Memory could not be allocated.
     #[error("Memory")]
     Memory,
     /// The namespace of a root is not in snake case.
@@ -38,25 +38,26 @@ pub enum RegistryError {
     /// The name of a subsystem is not in snake case.
     #[error("InvalidSubsystemName")]
     InvalidSubsystemName { name: String },
-    /// The name of a label is not a label name.
+    /// The name of a label is not valid: a letter or an underscore, and then letters, digits and underscores.
     #[error("InvalidLabelName")]
     InvalidLabelName { name: String },
-    /// A label of a root has the name of one before it.
+    /// A label of a root has the name of an earlier one.
     #[error("DuplicateLabel")]
     DuplicateLabel { name: String },
-    /// No subsystem has the name that a path asks for.
+    /// A name on the path of a call is not that of a subsystem.
     #[error("NoSuchSubsystem")]
     NoSuchSubsystem { name: String },
-    /// The subsystem would lie deeper than 64 registries below a root.
+    /// The subsystem would be more than 64 registries below the root.
     #[error("TooDeep")]
     TooDeep { name: String },
-    /// A name that is printed here, or below, could be that of a metric or a subsystem that is there.
+    /// The name is that of another metric here, where a unit is part of the name (`name_unit`); or a metric's or
+    /// another subsystem's name would begin with a subsystem's name and an underscore.
     #[error("NameTaken")]
     NameTaken { name: String },
 }
 
 impl RegistryError {
-    /// The number of this kind of refusal.
+    /// The error's number, from 1 to 12.
     pub fn number(&self) -> u8
         ensures { result ≡ error_number self.now }
     {
@@ -93,8 +94,8 @@ impl<T: Drop> From<AllocFailed<T>> for RegistryError {
     }
 }
 
-/// In every book of accepted calls the rules of names hold in each registry, and no two of all its metrics are printed
-/// under one name.
+/// In every book of accepted calls the rules for names hold in each registry, and no two of all its metrics have the
+/// same name in the exposition.
 pub fn names_are_different<M>()
     ensures rules { (b : Book M) (path : Path) → IsBook b → AreSeparate (tails_of (metrics_at b.calls path)) (children_at b.calls path) }
     ensures names { (b : Book M) → IsBook b → AllDifferent (map listed_name (order b)) }
