@@ -1,14 +1,14 @@
-//! How many code points the labels of an exemplar have, and may have.
+//! The limit on the code points in an exemplar's labels, and its test.
 #![tactic(auto)]
 
 ghost use Rattle.std.specs.Prelude.{◌≡◌, ◌≤◌, ◌↔◌, IsTrue};
 ghost use Rattle.fm_grammar.specs.WellFormed.{begins_character as byte_begins_character, code_points as text_code_points, label_code_points};
 ghost use Rattle.fm_text.specs.Samples.{labels_of};
 
-// How many code points the labels of an exemplar have at most.
+// The greatest number of code points in the labels of an exemplar.
 const MAX_CODE_POINTS: usize = 128;
 
-/// Whether the names and values have no more code points together than an exemplar may have, which are 128.
+/// Whether the names and values have at most 128 code points together, which is OpenMetrics' limit for an exemplar.
 pub fn are_short(labels: &[(String, String)]) -> bool
     ensures { IsTrue result ↔ (label_code_points (labels_of labels.now) ≤ 128) }
 {
@@ -25,7 +25,7 @@ pub fn are_short(labels: &[(String, String)]) -> bool
     true
 }
 
-// How many code points a text has.
+// The number of code points of a text.
 fn code_points(text: &str) -> usize
     ensures { result ≡ text_code_points text.now }
 {
@@ -38,7 +38,7 @@ fn code_points(text: &str) -> usize
     count
 }
 
-// Whether a byte doesn't go on with a character.
+// Whether a byte begins a character: it is not a UTF-8 continuation byte.
 fn begins_character(byte: u8) -> bool
     ensures { result ≡ byte_begins_character byte }
 {
