@@ -1,4 +1,4 @@
--- Offers whose numbers are in range. No line says that labels are valid or that samples are well formed.
+-- Offers whose numbers are in range. This does not say that labels are valid or that samples are well formed.
 use Rattle.std.specs.Prelude.{◌<◌, ◌^◌, List, IfSome}
 use Rattle.std.specs.List.{AllByRecursion}
 use Rattle.fm_grammar.specs.Exposition.{Fixed}

@@ -1,4 +1,4 @@
-//! A law of what metrics offer: which offers are clean.
+//! The law of what metrics offer: which offers are valid ("clean" in the definitions).
 #![tactic(auto)]
 
 ghost use Rattle.std.specs.Prelude.{List, ◌⊎◌, ◌↔◌};
@@ -7,9 +7,9 @@ ghost use Rattle.fm_text.specs.declared.error.EncodeError.{EncodeError};
 ghost use Rattle.fm_encoder.specs.Points.{Context, Member, MembersClean, MembersFault};
 ghost use Rattle.fm_offer_law.specs.Ranges.{NumbersFit};
 
-/// No fault stands in a clean offer. Where a family's name is in snake case, as every registered one is, and the numbers
-/// of an offer are in range, the offer is clean exactly where no fault stands in it; and it is clean, or some error names a
-/// fault that stands in it.
+/// A clean offer contains no fault. If a family's name is in snake case, as every registered one is, and the numbers of
+/// an offer are in range, the offer is clean exactly if it contains no fault; and it is clean, or some error names a
+/// fault that it contains.
 pub fn clean_is_without_fault()
     ensures faultless { (context : Context) (members : List Member) → MembersClean context members → (k : EncodeError) → ¬ (MembersFault k context members) }
     ensures exact { (context : Context) (members : List Member) → IsSnakeCase context.setting.name → NumbersFit context members
