@@ -7,7 +7,7 @@ ghost use Rattle.fm_book.specs.Errors.{error_number as registry_number};
 ghost use Rattle.fm_text.specs.Errors.{number_of as encode_number};
 ghost use Rattle.fm_text.specs.declared.error.EncodeError.{EncodeError};
 ghost use Rattle.fastmetrics.specs.HasBook.{HasBook};
-ghost use Rattle.fastmetrics.specs.Tree.{Reads};
+ghost use Rattle.fastmetrics.specs.Tree.{Shows};
 ghost use Rattle.fastmetrics.specs.Listing.{order};
 ghost use Rattle.fastmetrics.specs.Admits.{Admits};
 ghost use Rattle.expose.specs.Outcome.{IsRefusal, status_of, PrintsDocument, Finishes};
@@ -97,7 +97,7 @@ fn report<E: Write>(errors: &mut E, fault: Fault) -> u8
 // Prints the registry's document.
 fn print_document<W: Write>(alloc: Global, out: &mut W, registry: &Registry) -> Result<(), Fault>
     requires { HasBook registry.now }
-    ensures printed { PrintsDocument (λ e. (b : _) → Reads registry.now b → Admits (λ m. offers m) (λ m. stamps m) (λ m. may_be_empty m) (order b) e)
+    ensures printed { PrintsDocument (λ e. (b : _) → Shows registry.now b → Admits (λ m. offers m) (λ m. stamps m) (λ m. may_be_empty m) (order b) e)
         (W.contents out.old) (W.contents out.new) result }
     ensures refused { IfErr result (λ fault. (error : EncodeError) × IsRefusal (codes "encode") (encode_number error) fault) }
 {
@@ -119,7 +119,7 @@ pub fn finish<W: Write, E: Write>(
     errors: &mut E,
 ) -> u8
     requires { IfOk made (λ registry. HasBook registry) }
-    ensures { Finishes (λ registry e. (b : _) → Reads registry b → Admits (λ m. offers m) (λ m. stamps m) (λ m. may_be_empty m) (order b) e)
+    ensures { Finishes (λ registry e. (b : _) → Shows registry b → Admits (λ m. offers m) (λ m. stamps m) (λ m. may_be_empty m) (order b) e)
         (W.contents out.old) (W.contents out.new) made result }
 {
     match made {

@@ -9,6 +9,7 @@ pub mod ForestLemmas
 pub mod PushLemmas
 pub mod ApplyLemmas
 pub mod RunLemmas
+pub mod DepthLemmas
 pub mod OrderLemmas
 pub mod RootLemmas
 pub mod ListableLemmas

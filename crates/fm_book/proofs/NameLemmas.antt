@@ -12,10 +12,11 @@ use Rattle.fm_book.specs.Registration.{Registration, printed_unit}
 use Rattle.fm_book.specs.Book.{Call, Subsystem, Register, Book, metrics_at, children_at, with_more, book_below}
 use Rattle.fm_book.specs.Taken.{IsBelow, AreApart, AllApart, AreSeparate, tail_of, tails_of, is_below, is_tail_taken, is_child_taken}
 use Rattle.fm_book.specs.Accepted.{IsAccepted, AreAccepted, IsBook}
-use Rattle.fm_book.specs.Listing.{Listed, listed_with, listed_name, order_to, order}
+use Rattle.fm_book.specs.Listing.{Listed, listed_with, listed_name, order}
 use Rattle.fm_book.proofs.TextLemmas.{bytes_eq-refl, same_path, both_once}
 use Rattle.fm_book.proofs.BookLemmas.{metrics_at-++, children_at-++}
 use Rattle.fm_book.proofs.AnswerLemmas.{registered_free, asked_passed, child_free}
+use Rattle.fm_book.proofs.DepthLemmas.{order_to, order-to}
 use Rattle.fm_book.proofs.AcceptedLemmas.{IsBook-below, is_once-children}
 use Rattle.std.proofs.lemmas.Bool.Decides.{Decides-eqb}
 
@@ -303,4 +304,4 @@ module _ {M : Type 0} where
 
   -- no two metrics of a book are printed under one name
   pub printed_names-different : (b : Book M) → IsBook b → AllDifferent (map listed_name (order b))
-  printed_names-different b h = names_different (length b.calls) b h
+  printed_names-different b h = subst (λ ls. AllDifferent (map listed_name ls)) (sym (order-to b)) (names_different (length b.calls) b h)

@@ -9,7 +9,7 @@ ghost use Rattle.fm_text.specs.Rows.{document_rows};
 ghost use Rattle.fm_text.specs.Samples.{labels_of};
 ghost use Rattle.fm_text.specs.Written.{AppendsDocument, BeginsDocument, IsWritersFault};
 ghost use Rattle.fm_book.specs.Listing.{order, IsListable};
-ghost use Rattle.fm_book.specs.Tree.{Reads};
+ghost use Rattle.fm_book.specs.Tree.{Shows};
 ghost use Rattle.fm_registry.specs.Seen.{seen_list, seen_listed};
 ghost use Rattle.fm_registry.specs.HasBook.{HasBook};
 ghost use Rattle.fm_sink.specs.Grown.{Grown};
@@ -100,9 +100,9 @@ fn with_listed(
 pub(crate) fn document_lines(alloc: Global, registry: &Registry) -> Result<Lines, EncodeError>
     requires { HasBook registry.now }
     ensures text { IfOk result (λ lines. (e : Exposition)
-        × ((b : _) → Reads registry.now b → Admits (λ m. offers m) (λ m. stamps m) (λ m. may_be_empty m) (order b) e)
+        × ((b : _) → Shows registry.now b → Admits (λ m. offers m) (λ m. stamps m) (λ m. may_be_empty m) (order b) e)
         × IsExposition e × (lines.text ≡ document_rows e)) }
-    ensures fault { IfErr result (λ k. (k ≡ EncodeError.Memory) ⊎ ((b : _) → Reads registry.now b → Fault k (λ m. offers m) (λ m. stamps m) (λ m. may_fault m) (order b))) }
+    ensures fault { IfErr result (λ k. (k ≡ EncodeError.Memory) ⊎ ((b : _) → Shows registry.now b → Fault k (λ m. offers m) (λ m. stamps m) (λ m. may_fault m) (order b))) }
     ensures not_writing { IfErr result (λ k. ¬ (IsWritersFault k)) }
 {
     let Ok(list) = registry.listing(alloc) else {

@@ -91,15 +91,16 @@ impl<M> Registry<M> {
     ghost use Rattle.std.specs.Option.{option_map};
     ghost use Rattle.fm_text.specs.Samples.{labels_of};
     ghost use Rattle.fm_book.specs.Book.{namespace_at, labels_at};
-    ghost use Rattle.fm_book.specs.Tree.{Reads};
+    ghost use Rattle.fm_book.specs.Tree.{Shows};
     ghost use Rattle.fm_book.specs.Listing.{own_metrics, listed_tree, order};
+    ghost use Rattle.fm_registry.specs.HasBook.{HasBook};
     ghost use Rattle.fm_registry.specs.Seen.{seen_list};
 
     /// The prefix of the names of this registry's metrics: the root's namespace and the names of the subsystems down to
     /// this one, joined by underscores.
     pub fn namespace(&self) -> Option<&str>
         ensures tree { option_map (λ namespace. namespace.now) result ≡ self.now.facts.namespace }
-        ensures book { (b : _) → Reads self.now b → option_map (λ namespace. namespace.now) result ≡ namespace_at b [] }
+        ensures book { (b : _) → Shows self.now b → option_map (λ namespace. namespace.now) result ≡ namespace_at b [] }
     {
         match &self.namespace {
             Some(namespace) => Some(namespace.as_str()),
@@ -110,7 +111,7 @@ impl<M> Registry<M> {
     /// The labels that each sample of this registry's metrics carries, including those of the registries above.
     pub fn constant_labels(&self) -> &[(String, String)]
         ensures tree { labels_of result.now ≡ self.now.facts.labels }
-        ensures book { (b : _) → Reads self.now b → labels_of result.now ≡ labels_at b [] }
+        ensures book { (b : _) → Shows self.now b → labels_of result.now ≡ labels_at b [] }
     {
         match &self.const_labels {
             Some(labels) => labels.as_slice(),
@@ -146,7 +147,7 @@ impl<M> Registry<M> {
     /// allocates the list only.
     pub fn listing(&self, alloc: Global) -> Result<Vec<ListedMetric<'_, M>>, AllocError>
         ensures tree { IfOk result (λ list. seen_list list.items ≡ listed_tree self.now) }
-        ensures book { IfOk result (λ list. (b : _) → Reads self.now b → seen_list list.items ≡ order b) }
+        ensures book { IfOk result (λ list. HasBook self.now → (b : _) → Shows self.now b → seen_list list.items ≡ order b) }
     {
         let mut list = Vec::new(alloc);
         self.list_into(&mut list)?;

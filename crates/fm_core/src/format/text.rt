@@ -7,7 +7,7 @@ ghost use Rattle.fm_text.specs.declared.error.EncodeError.{EncodeError};
 ghost use Rattle.fm_text.specs.Samples.{labels_of};
 ghost use Rattle.fm_text.specs.Written.{IsWritersFault};
 ghost use Rattle.fm_book.specs.Listing.{listed_name, order, IsListable};
-ghost use Rattle.fm_book.specs.Tree.{Reads};
+ghost use Rattle.fm_book.specs.Tree.{Shows};
 ghost use Rattle.fm_registry.specs.Seen.{seen_listed};
 ghost use Rattle.fm_registry.specs.View.{seen_labels};
 ghost use Rattle.fm_registry.specs.HasBook.{HasBook};
@@ -85,9 +85,9 @@ fn encode_listed<'a>(
 pub fn collect(alloc: Global, registry: &Registry) -> Result<Exposition, EncodeError>
     requires { HasBook registry.now }
     // Every book that the registry reads admits the exposition.
-    ensures admitted { IfOk result (λ e. (b : _) → Reads registry.now b → Admits (λ m. offers m) (λ m. stamps m) (λ m. may_be_empty m) (order b) e) }
+    ensures admitted { IfOk result (λ e. (b : _) → Shows registry.now b → Admits (λ m. offers m) (λ m. stamps m) (λ m. may_be_empty m) (order b) e) }
     // A refusal names a fault that stands there.
-    ensures fault { IfErr result (λ k. (k ≡ EncodeError.Memory) ⊎ ((b : _) → Reads registry.now b → Fault k (λ m. offers m) (λ m. stamps m) (λ m. may_fault m) (order b))) }
+    ensures fault { IfErr result (λ k. (k ≡ EncodeError.Memory) ⊎ ((b : _) → Shows registry.now b → Fault k (λ m. offers m) (λ m. stamps m) (λ m. may_fault m) (order b))) }
     ensures not_writing { IfErr result (λ k. ¬ (IsWritersFault k)) }
 {
     let Ok(list) = registry.listing(alloc) else {
@@ -113,14 +113,14 @@ pub fn encode<W: Write>(
     requires { HasBook registry.now }
     // The document, and nothing else, of an exposition that every book of the registry admits, and of no other exposition.
     ensures document { OnOk result (WritesAdmitted
-        (λ e. (b : _) → Reads registry.now b → Admits (λ m. offers m) (λ m. stamps m) (λ m. may_be_empty m) (order b) e)
+        (λ e. (b : _) → Shows registry.now b → Admits (λ m. offers m) (λ m. stamps m) (λ m. may_be_empty m) (order b) e)
         (W.contents writer.old) (W.contents writer.new)) }
     // A refusal in collecting writes nothing, and names a fault that stands there.
     ensures refused { IfErr result (λ k. ¬ (IsWritersFault k) → Keeps (W.contents writer.old) (W.contents writer.new)
-        × ((k ≡ EncodeError.Memory) ⊎ ((b : _) → Reads registry.now b → Fault k (λ m. offers m) (λ m. stamps m) (λ m. may_fault m) (order b)))) }
+        × ((k ≡ EncodeError.Memory) ⊎ ((b : _) → Shows registry.now b → Fault k (λ m. offers m) (λ m. stamps m) (λ m. may_fault m) (order b)))) }
     // A writer's fault leaves a beginning of such a document.
     ensures stopped { IfErr result (λ k. IsWritersFault k → BeginsAdmitted
-        (λ e. (b : _) → Reads registry.now b → Admits (λ m. offers m) (λ m. stamps m) (λ m. may_be_empty m) (order b) e)
+        (λ e. (b : _) → Shows registry.now b → Admits (λ m. offers m) (λ m. stamps m) (λ m. may_be_empty m) (order b) e)
         (W.contents writer.old) (W.contents writer.new)) }
 {
     let lines = document_lines(alloc, registry)?;

@@ -24,7 +24,7 @@ loop-listed-preserved g c =
     let within : c.loop-listed.listed-index < length c.deref-listed-items.result.now = omega arith in
     IsTextOf-next _ _ _ c.deref-listed-items.result.now c.loop-listed.listed-index c.listed-item.result c.loop-listed.lines.text c.in_ok-lines.lines.text
     within c.listed-item.is
-    (names_differ c.args.registry.now c.requires.book (seen_list c.deref-listed-items.result.now) c.requires.reads (ap seen_list c.deref-listed-items.ensures.value ∙ c.in-Ok.ensures.book c.requires.book c.requires.reads))
+    (names_differ c.args.registry.now c.requires.book (seen_list c.deref-listed-items.result.now) c.requires.reads (ap seen_list c.deref-listed-items.ensures.value ∙ c.in-Ok.ensures.book c.requires c.requires.book c.requires.reads.shows))
     c.loop-listed.invariant (rw c.in_ok-lines.was at c.with_listed.ensures)
 
 pub returns-in_err-lines-clause-fault : goal.returns-in_err-lines-clause-fault
@@ -35,7 +35,7 @@ returns-in_err-lines-clause-fault g c =
     let k = c.in_err-lines.field-0.0 in
     rw (exit.1, exit.2) (elim refusal [
       | inl memory ↦ inl memory
-      | inr fault ↦ inr (λ b reads. subst (λ ls. Fault k (λ m. (goal.EncodeMetric-dyn g (m.vtable, m.value)).offers m.value) (λ m. (goal.EncodeMetric-dyn g (m.vtable, m.value)).stamps m.value) (λ m. (goal.EncodeMetric-dyn g (m.vtable, m.value)).may_fault m.value) ls) (ap seen_list c.deref-listed-items.ensures.value ∙ c.in-Ok.ensures.book b reads)
+      | inr fault ↦ inr (λ b shows. subst (λ ls. Fault k (λ m. (goal.EncodeMetric-dyn g (m.vtable, m.value)).offers m.value) (λ m. (goal.EncodeMetric-dyn g (m.vtable, m.value)).stamps m.value) (λ m. (goal.EncodeMetric-dyn g (m.vtable, m.value)).may_fault m.value) ls) (ap seen_list c.deref-listed-items.ensures.value ∙ c.in-Ok.ensures.book c.requires b shows)
           (Fault-at k (λ m. (goal.EncodeMetric-dyn g (m.vtable, m.value)).offers m.value) (λ m. (goal.EncodeMetric-dyn g (m.vtable, m.value)).stamps m.value) (λ m. (goal.EncodeMetric-dyn g (m.vtable, m.value)).may_fault m.value) c.deref-listed-items.result.now c.loop-listed.listed-index c.listed-item.result within c.listed-item.is fault))
     ])
 
