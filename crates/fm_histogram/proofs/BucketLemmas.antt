@@ -6,7 +6,6 @@ use Rattle.std.proofs.lemmas.List.Sums.{sum_by-append, count_by-le-length}
 use Rattle.fm_bucket.specs.declared.bound.Bucket.{Bucket}
 use Rattle.fm_bucket.specs.declared.bound.Bound.TheVariants.{Finite, Inf}
 use Rattle.fm_histogram.specs.Histogram.{is_above, is_between, buckets_above, rises, place, place_among, one_more}
-use Rattle.fm_bucket.specs.BoundTests.{lies_below}
 
 -- a bound above one that does not lie below x does not lie below x
 stays_above : (a b x : ℤ) → int_lt a x ≡ false → int_lt a b ≡ true → int_lt b x ≡ false

@@ -1,4 +1,4 @@
--- What histograms hand over to encoders.
+-- What histograms emit.
 use Rattle.std.proofs.Common.{◌≡◌, ℤ, Bool, [], ◌∷◌, Result, inl, inr}
 use Rattle.fm_text.specs.declared.error.EncodeError.{EncodeError}
 use Rattle.fm_encoder.specs.Points.{Point}

@@ -2,8 +2,8 @@
 use Rattle.std.specs.Prelude.{Option}
 use Rattle.std.specs.Arc.{arc_value}
 use Rattle.std.specs.declared.time.Duration.{Duration}
-use Rattle.fm_histogram.specs.declared.histogram.Histogram.{Histogram}
+use Rattle.fm_histogram.specs.declared.histogram.HistogramOf.{HistogramOf}
 
 -- the time of creation that the clones of a histogram share
-abbrev pub created_of : {H : Type 0} → Histogram H → Option Duration
+abbrev pub created_of : {S H : Type 0} → HistogramOf S H → Option Duration
 created_of h = (arc_value h.locked).created

@@ -1,4 +1,4 @@
--- What histograms hand over to encoders.
+-- What histograms emit.
 use Rattle.std.specs.Prelude.{ℕ, List, [], map, Option}
 use Rattle.fm_encoder.specs.Points.{HandedExemplar, Point, HistogramPoint, GaugeHistogramPoint, Member}
 use Rattle.fm_histogram.specs.Histogram.{Histogram}
@@ -11,13 +11,10 @@ empty_slots buckets = map (λ _. []) buckets
 abbrev pub point_of : Histogram → Option ℕ → Point
 point_of s created = HistogramPoint s.buckets (empty_slots s.buckets) s.count s.sum created
 
--- the same as a member without labels
-abbrev pub member_of : Histogram → Option ℕ → Member
-member_of s created = record { labels = []; point = point_of s created }
-
--- the point of a gauge histogram, without exemplars, and the same as a member without labels
+-- the point of a gauge histogram, without exemplars
 abbrev pub gauge_point_of : Histogram → Point
 gauge_point_of s = GaugeHistogramPoint s.buckets (empty_slots s.buckets) s.count s.sum
 
-abbrev pub gauge_member_of : Histogram → Member
-gauge_member_of s = record { labels = []; point = gauge_point_of s }
+-- a point as a member without labels
+abbrev pub alone : Point → Member
+alone point = record { labels = []; point = point }

@@ -14,7 +14,7 @@ use std::sync::ledger::Blank;
 
 /// Counts of values by bounds, how many values there are, and their sum in millionths.
 #[derive(Clone, Drop)]
-pub(crate) struct Counts {
+pub struct Counts {
     // The bounds of all buckets but the last, side by side, where a search is quickest.
     bounds: Vec<Fixed>,
     buckets: Vec<Bucket>,

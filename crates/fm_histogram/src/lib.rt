@@ -3,14 +3,14 @@
 
 mod counts;
 mod encode;
-pub mod gauge_histogram;
 pub mod histogram;
 mod law;
 mod place;
 mod rising;
+pub mod sign;
 pub mod snapshot;
 
-pub use gauge_histogram::GaugeHistogram;
-pub use histogram::Histogram;
+pub use histogram::{GaugeHistogram, Histogram};
 pub use law::merging_is_lawful;
+pub use sign::Sign;
 pub use snapshot::{GaugeHistogramSnapshot, HistogramSnapshot};

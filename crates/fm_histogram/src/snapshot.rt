@@ -1,58 +1,80 @@
 //! Snapshots of histograms, and of gauge histograms.
-ghost use Rattle.std.specs.Prelude.{◌≡◌, ℤ, ◌+◌, ◌^◌, ◌≤◌, ◌↔◌, List, [], ◌∷◌, ◌++◌, true, Err, IfOk, IfErr, OnOk, OnErr, ◌⊎◌, ◌≢◌, if◌then◌else◌};
+ghost use Rattle.std.specs.Prelude.{◌≡◌, ℤ, ◌+◌, ◌^◌, ◌≤◌, ◌↔◌, List, [], ◌∷◌, ◌++◌, true, None, Err, IfOk, IfErr, OnOk, OnErr, ◌⊎◌, ◌≢◌, if◌then◌else◌};
+ghost use Rattle.std.specs.Option.{option_map};
 ghost use Rattle.std.specs.Iterator.{IsFinite, Drains};
 ghost use Rattle.fm_raw.specs.declared.error.MetricError.TheVariants.{Memory, CountFull, UnequalBounds};
 ghost use Rattle.fm_bucket.specs.Bounds.{default_bounds};
-ghost use Rattle.fm_histogram.specs.Histogram.{IsHistogram, CountsTaken, IsBoundsOf, is_taken, takes_all, upper_bounds, merged};
+ghost use Rattle.fm_encoder.specs.Points.{millis};
+ghost use Rattle.fm_encoder.specs.Hands.{HandsPoints};
+ghost use Rattle.fm_histogram.specs.Histogram.{IsHistogram, CountsTaken, IsBoundsOf, takes, upper_bounds, merged};
 
 use crate::counts::Counts;
 use crate::rising::rising_bounds;
+use crate::sign::{Any, NotNegative, Sign};
 use fm_bucket::Bucket;
+use fm_encoder::PointEncoder;
 use fm_raw::{Fixed, FixedSum, MetricError};
-use std::alloc::Global;
-use std::marker::Model;
+use fm_text::EncodeError;
+use std::alloc::{AllocError, Global};
+use std::marker::{Model, PhantomData};
+use std::time::Duration;
+
+/// How many observed values lie in each bucket, how many there are, and their sum. The sign says whether negative values
+/// and bounds are taken. Cloning takes memory.
+#[derive(Drop)]
+pub struct SnapshotOf<S: Sign> {
+    counts: Counts,
+    sign: PhantomData<S>,
+}
 
 /// How many observed values lie in each bucket, how many there are, and their sum.
 /// Negative values are not taken. Cloning takes memory.
-#[derive(Clone, Drop)]
-pub struct HistogramSnapshot {
-    counts: Counts,
-}
+pub type HistogramSnapshot = SnapshotOf<NotNegative>;
 
-impl Model for HistogramSnapshot {
-    ghost use Rattle.fm_histogram.specs.Histogram.{Histogram, CountsTaken, is_taken};
+/// How many observed values lie in each bucket, how many there are, and their sum.
+/// Negative values and bounds are taken too. Cloning takes memory.
+pub type GaugeHistogramSnapshot = SnapshotOf<Any>;
+
+impl<S: Sign> Model for SnapshotOf<S> {
+    ghost use Rattle.fm_histogram.specs.Histogram.{Histogram, CountsTaken, takes};
 
     ghost Value = { Histogram };
 
     ghost view = { λ s. s.counts };
 
-    ghost invariant = { λ s. CountsTaken is_taken s.counts };
+    ghost invariant = { λ s. CountsTaken (takes S.NEGATIVE) s.counts };
 }
 
-impl HistogramSnapshot {
-    /// A histogram of no values. Its bounds are those given that are not negative, each once and in order, and `Inf`.
-    /// It takes memory.
+impl<S: Sign> SnapshotOf<S> {
+    /// A snapshot of no values. Its bounds are those given that are taken, each once and in order, and `Inf`: a histogram takes those
+    /// that are not negative, and a gauge histogram all. It takes memory.
     pub fn new<I: Iterator<Item = Fixed> + Drop>(
         alloc: Global,
         bounds: I,
-    ) -> Result<HistogramSnapshot, MetricError>
+    ) -> Result<SnapshotOf<S>, MetricError>
         requires can { I.can_next bounds }
         requires ends { IsFinite (I.remaining bounds) }
-        ensures bounds { IfOk result (λ s. (given : List ℤ) × Drains I.next_gives bounds given × ((taken : List ℤ) × IsBoundsOf is_taken given taken × IsHistogram is_taken taken [] s)) }
+        ensures bounds { IfOk result (λ s. (given : List ℤ) × Drains I.next_gives bounds given × ((taken : List ℤ) × IsBoundsOf (takes S.NEGATIVE) given taken × IsHistogram (takes S.NEGATIVE) taken [] s)) }
         ensures only_memory { IfErr result (λ e. e ≡ Memory) }
     {
-        let rising = rising_bounds(alloc, bounds, false)?;
+        let rising = rising_bounds(alloc, bounds, S::NEGATIVE)?;
         let counts = Counts::new(alloc, rising)?;
-        Ok(HistogramSnapshot { counts })
+        Ok(SnapshotOf {
+            counts,
+            sign: PhantomData,
+        })
     }
 
-    // A histogram of no values with the bounds that suit most durations.
-    pub(crate) fn with_default_bounds(alloc: Global) -> Result<HistogramSnapshot, MetricError>
-        ensures bounds { IfOk result (IsHistogram is_taken default_bounds []) }
+    // A snapshot of no values with the bounds that suit most durations.
+    pub(crate) fn with_default_bounds(alloc: Global) -> Result<SnapshotOf<S>, MetricError>
+        ensures bounds { IfOk result (IsHistogram (takes S.NEGATIVE) default_bounds []) }
         ensures only_memory { IfErr result (λ e. e ≡ Memory) }
     {
         let counts = Counts::with_default_bounds(alloc)?;
-        Ok(HistogramSnapshot { counts })
+        Ok(SnapshotOf {
+            counts,
+            sign: PhantomData,
+        })
     }
 
     /// The buckets, from the least bound on. The last one has the bound `Inf`.
@@ -62,6 +84,54 @@ impl HistogramSnapshot {
         self.counts.buckets()
     }
 
+    // Each snapshot counts some values, which are all taken.
+    pub(crate) fn counts_taken(&self)
+        ensures { CountsTaken (takes S.NEGATIVE) self.now }
+    {
+        let _ = &self.counts;
+    }
+
+    // Emits the snapshot's point with this time of creation.
+    pub(crate) fn encode_created(
+        &self,
+        created: Option<Duration>,
+        points: &mut PointEncoder,
+    ) -> Result<(), EncodeError>
+        ensures { HandsPoints (λ ps. ps ≡ S.point self.now (option_map millis created) ∷ []) ⊥ points.old points.new result }
+    {
+        S::encode(&self.counts, created, points)
+    }
+
+    /// Counts a value in the first bucket whose bound is not below it. A value that is not taken changes nothing: a negative one in a
+    /// histogram. It returns `CountFull` where the count is the greatest `u64` and the value is taken, and then changes nothing.
+    pub fn observe(&mut self, value: Fixed) -> Result<(), MetricError>
+        ensures counted { OnOk result ((bounds xs : List ℤ) → IsHistogram (takes S.NEGATIVE) bounds xs self.old → IsHistogram (takes S.NEGATIVE) bounds (xs ++ value ∷ []) self.new) }
+        ensures full { (result ≡ Err CountFull) ↔ ((self.old.count + 1 ≡ 2 ^ 64) × (takes S.NEGATIVE value ≡ true)) }
+        ensures only_full { IfErr result (λ e. e ≡ CountFull) }
+        ensures count { OnOk result (self.new.count ≡ self.old.count + (if takes S.NEGATIVE value then 1 else 0)) }
+        ensures kept { OnErr result (self.new ≡ self.old) }
+    {
+        if !S::NEGATIVE && value < Fixed::ZERO {
+            return Ok(());
+        }
+        self.counts.add(value)
+    }
+
+    /// Adds what the other counts. It returns `UnequalBounds` where the bounds differ, and else `CountFull`
+    /// where both counts together are no `u64`, and then changes nothing.
+    pub fn merge(&mut self, other: &SnapshotOf<S>) -> Result<(), MetricError>
+        ensures merged { OnOk result (self.new ≡ merged self.old other.now) }
+        ensures histogram { OnOk result ((bounds xs ys : List ℤ) → IsHistogram (takes S.NEGATIVE) bounds xs self.old → IsHistogram (takes S.NEGATIVE) bounds ys other.now → IsHistogram (takes S.NEGATIVE) bounds (xs ++ ys) self.new) }
+        ensures unequal { (result ≡ Err UnequalBounds) ↔ (upper_bounds self.old.buckets ≢ upper_bounds other.now.buckets) }
+        ensures full { (result ≡ Err CountFull) ↔ ((upper_bounds self.old.buckets ≡ upper_bounds other.now.buckets) × (2 ^ 64 ≤ self.old.count + other.now.count)) }
+        ensures only { IfErr result (λ e. (e ≡ UnequalBounds) ⊎ (e ≡ CountFull)) }
+        ensures kept { OnErr result (self.new ≡ self.old) }
+    {
+        self.counts.merge(&other.counts)
+    }
+}
+
+impl HistogramSnapshot {
     /// How many values were taken.
     pub fn count(&self) -> u64
         ensures { result ≡ self.now.count }
@@ -75,93 +145,9 @@ impl HistogramSnapshot {
     {
         FixedSum::from_millionths(self.counts.sum())
     }
-
-    // Each snapshot counts some values, none of them negative.
-    pub(crate) fn counts_taken(&self)
-        ensures { CountsTaken is_taken self.now }
-    {
-        let _ = &self.counts;
-    }
-
-    /// Counts a value in the first bucket whose bound is not below it. A negative value changes nothing.
-    /// It answers `CountFull` where the count is the greatest `u64` and the value is not negative, and then changes nothing.
-    pub fn observe(&mut self, value: Fixed) -> Result<(), MetricError>
-        ensures counted { OnOk result ((bounds xs : List ℤ) → IsHistogram is_taken bounds xs self.old → IsHistogram is_taken bounds (xs ++ value ∷ []) self.new) }
-        ensures full { (result ≡ Err CountFull) ↔ ((self.old.count + 1 ≡ 2 ^ 64) × (is_taken value ≡ true)) }
-        ensures only_full { IfErr result (λ e. e ≡ CountFull) }
-        ensures count { OnOk result (self.new.count ≡ self.old.count + (if is_taken value then 1 else 0)) }
-        ensures kept { OnErr result (self.new ≡ self.old) }
-    {
-        if value < Fixed::ZERO {
-            return Ok(());
-        }
-        self.counts.add(value)
-    }
-
-    /// Adds what the other counts. It answers `UnequalBounds` where the bounds differ, and else `CountFull`
-    /// where both counts together are no `u64`, and then changes nothing.
-    pub fn merge(&mut self, other: &HistogramSnapshot) -> Result<(), MetricError>
-        ensures merged { OnOk result (self.new ≡ merged self.old other.now) }
-        ensures histogram { OnOk result ((bounds xs ys : List ℤ) → IsHistogram is_taken bounds xs self.old → IsHistogram is_taken bounds ys other.now → IsHistogram is_taken bounds (xs ++ ys) self.new) }
-        ensures unequal { (result ≡ Err UnequalBounds) ↔ (upper_bounds self.old.buckets ≢ upper_bounds other.now.buckets) }
-        ensures full { (result ≡ Err CountFull) ↔ ((upper_bounds self.old.buckets ≡ upper_bounds other.now.buckets) × (2 ^ 64 ≤ self.old.count + other.now.count)) }
-        ensures only { IfErr result (λ e. (e ≡ UnequalBounds) ⊎ (e ≡ CountFull)) }
-        ensures kept { OnErr result (self.new ≡ self.old) }
-    {
-        self.counts.merge(&other.counts)
-    }
-}
-
-/// How many observed values lie in each bucket, how many there are, and their sum.
-/// Negative values and bounds are taken too. Cloning takes memory.
-#[derive(Clone, Drop)]
-pub struct GaugeHistogramSnapshot {
-    counts: Counts,
-}
-
-impl Model for GaugeHistogramSnapshot {
-    ghost use Rattle.fm_histogram.specs.Histogram.{Histogram, CountsTaken, takes_all};
-
-    ghost Value = { Histogram };
-
-    ghost view = { λ s. s.counts };
-
-    ghost invariant = { λ s. CountsTaken takes_all s.counts };
 }
 
 impl GaugeHistogramSnapshot {
-    /// A gauge histogram of no values. Its bounds are those given, each once and in order, and `Inf`.
-    /// It takes memory.
-    pub fn new<I: Iterator<Item = Fixed> + Drop>(
-        alloc: Global,
-        bounds: I,
-    ) -> Result<GaugeHistogramSnapshot, MetricError>
-        requires can { I.can_next bounds }
-        requires ends { IsFinite (I.remaining bounds) }
-        ensures bounds { IfOk result (λ s. (given : List ℤ) × Drains I.next_gives bounds given × ((taken : List ℤ) × IsBoundsOf takes_all given taken × IsHistogram takes_all taken [] s)) }
-        ensures only_memory { IfErr result (λ e. e ≡ Memory) }
-    {
-        let rising = rising_bounds(alloc, bounds, true)?;
-        let counts = Counts::new(alloc, rising)?;
-        Ok(GaugeHistogramSnapshot { counts })
-    }
-
-    // A gauge histogram of no values with the bounds that suit most durations.
-    pub(crate) fn with_default_bounds(alloc: Global) -> Result<GaugeHistogramSnapshot, MetricError>
-        ensures bounds { IfOk result (IsHistogram takes_all default_bounds []) }
-        ensures only_memory { IfErr result (λ e. e ≡ Memory) }
-    {
-        let counts = Counts::with_default_bounds(alloc)?;
-        Ok(GaugeHistogramSnapshot { counts })
-    }
-
-    /// The buckets, from the least bound on. The last one has the bound `Inf`.
-    pub fn buckets(&self) -> &[Bucket]
-        ensures { result.now ≡ self.now.buckets }
-    {
-        self.counts.buckets()
-    }
-
     /// How many values there are.
     pub fn gcount(&self) -> u64
         ensures { result ≡ self.now.count }
@@ -175,36 +161,16 @@ impl GaugeHistogramSnapshot {
     {
         FixedSum::from_millionths(self.counts.sum())
     }
+}
 
-    // Each snapshot counts some values.
-    pub(crate) fn counts_taken(&self)
-        ensures { CountsTaken takes_all self.now }
-    {
-        let _ = &self.counts;
-    }
+impl<S: Sign> Clone for SnapshotOf<S> {
+    ghost is_clone = { λ s t. t ≡ s };
 
-    /// Counts a value in the first bucket whose bound is not below it.
-    /// It answers `CountFull` where the count is the greatest `u64`, and then changes nothing.
-    pub fn observe(&mut self, value: Fixed) -> Result<(), MetricError>
-        ensures counted { OnOk result ((bounds xs : List ℤ) → IsHistogram takes_all bounds xs self.old → IsHistogram takes_all bounds (xs ++ value ∷ []) self.new) }
-        ensures full { (result ≡ Err CountFull) ↔ (self.old.count + 1 ≡ 2 ^ 64) }
-        ensures only_full { IfErr result (λ e. e ≡ CountFull) }
-        ensures count { OnOk result (self.new.count ≡ self.old.count + 1) }
-        ensures kept { OnErr result (self.new ≡ self.old) }
-    {
-        self.counts.add(value)
-    }
-
-    /// Adds what the other counts. It answers `UnequalBounds` where the bounds differ, and else `CountFull`
-    /// where both counts together are no `u64`, and then changes nothing.
-    pub fn merge(&mut self, other: &GaugeHistogramSnapshot) -> Result<(), MetricError>
-        ensures merged { OnOk result (self.new ≡ merged self.old other.now) }
-        ensures histogram { OnOk result ((bounds xs ys : List ℤ) → IsHistogram takes_all bounds xs self.old → IsHistogram takes_all bounds ys other.now → IsHistogram takes_all bounds (xs ++ ys) self.new) }
-        ensures unequal { (result ≡ Err UnequalBounds) ↔ (upper_bounds self.old.buckets ≢ upper_bounds other.now.buckets) }
-        ensures full { (result ≡ Err CountFull) ↔ ((upper_bounds self.old.buckets ≡ upper_bounds other.now.buckets) × (2 ^ 64 ≤ self.old.count + other.now.count)) }
-        ensures only { IfErr result (λ e. (e ≡ UnequalBounds) ⊎ (e ≡ CountFull)) }
-        ensures kept { OnErr result (self.new ≡ self.old) }
-    {
-        self.counts.merge(&other.counts)
+    fn clone(&self) -> Result<SnapshotOf<S>, AllocError> {
+        let counts = self.counts.clone()?;
+        Ok(SnapshotOf {
+            counts,
+            sign: PhantomData,
+        })
     }
 }

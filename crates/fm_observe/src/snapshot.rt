@@ -1,8 +1,9 @@
 //! What the snapshots of both kinds of histograms have in common.
 ghost use Rattle.std.specs.Prelude.{◌≡◌, ◌+◌, ◌≤◌, ◌^◌, ℤ, Bool, List, [], ◌∷◌, ◌++◌, true, false, IfOk, IfErr};
-ghost use Rattle.fm_histogram.specs.Histogram.{Histogram, IsHistogram, IsBoundsOf, upper_bounds, is_taken, takes_all};
+ghost use Rattle.fm_histogram.specs.Histogram.{Histogram, IsHistogram, IsBoundsOf, upper_bounds, takes};
 
-use fm_histogram::{GaugeHistogramSnapshot, HistogramSnapshot};
+use fm_histogram::Sign;
+use fm_histogram::snapshot::SnapshotOf;
 use fm_raw::Fixed;
 use fm_tally::TallyError;
 use std::alloc::Global;
@@ -35,19 +36,19 @@ pub(crate) trait Snapshot: Sized {
         ensures full { result ≡ false → 2 ^ 64 ≤ (counts self.old).count + (counts other.now).count };
 }
 
-impl Snapshot for HistogramSnapshot {
+impl<S: Sign> Snapshot for SnapshotOf<S> {
     ghost counts = { λ s. s };
 
-    ghost taken = { is_taken };
+    ghost taken = { takes S.NEGATIVE };
 
-    fn of_no_values(alloc: Global, bounds: &[Fixed]) -> Result<HistogramSnapshot, TallyError> {
-        match HistogramSnapshot::new(alloc, bounds.iter().copied()) {
+    fn of_no_values(alloc: Global, bounds: &[Fixed]) -> Result<SnapshotOf<S>, TallyError> {
+        match SnapshotOf::new(alloc, bounds.iter().copied()) {
             Ok(snapshot) => Ok(snapshot),
             Err(_) => Err(TallyError::Memory),
         }
     }
 
-    fn duplicate(&self) -> Result<HistogramSnapshot, TallyError> {
+    fn duplicate(&self) -> Result<SnapshotOf<S>, TallyError> {
         Ok(self.clone()?)
     }
 
@@ -55,32 +56,7 @@ impl Snapshot for HistogramSnapshot {
         self.observe(value).is_ok()
     }
 
-    fn take_all(&mut self, other: &HistogramSnapshot) -> bool {
-        self.merge(other).is_ok()
-    }
-}
-
-impl Snapshot for GaugeHistogramSnapshot {
-    ghost counts = { λ s. s };
-
-    ghost taken = { takes_all };
-
-    fn of_no_values(alloc: Global, bounds: &[Fixed]) -> Result<GaugeHistogramSnapshot, TallyError> {
-        match GaugeHistogramSnapshot::new(alloc, bounds.iter().copied()) {
-            Ok(snapshot) => Ok(snapshot),
-            Err(_) => Err(TallyError::Memory),
-        }
-    }
-
-    fn duplicate(&self) -> Result<GaugeHistogramSnapshot, TallyError> {
-        Ok(self.clone()?)
-    }
-
-    fn take_value(&mut self, value: Fixed) -> bool {
-        self.observe(value).is_ok()
-    }
-
-    fn take_all(&mut self, other: &GaugeHistogramSnapshot) -> bool {
+    fn take_all(&mut self, other: &SnapshotOf<S>) -> bool {
         self.merge(other).is_ok()
     }
 }

@@ -1,11 +1,10 @@
-use Rattle.std.proofs.Common.{◌≡◌, ℕ, ◌+◌, ◌<◌, ℤ, ◌+ℤ◌, to_z, of_z, List, [], ◌∷◌, ◌++◌, length, get_or, set, None, refl, ap, sym, subst, ◌∙◌, arith, rules, nat_lt, pos, neg_ℤ, ◌≤ℤ◌, ◌*◌, ◌^◌, vec_len}
+use Rattle.std.proofs.Common.{◌≡◌, ℕ, ◌+◌, ◌<◌, ℤ, ◌+ℤ◌, to_z, of_z, List, [], ◌∷◌, ◌++◌, length, get_or, set, None, refl, ap, sym, subst, ◌∙◌, arith, rules, pos, neg_ℤ, ◌≤ℤ◌, ◌*◌, ◌^◌, vec_len}
 use Rattle.std.proofs.lemmas.Int.{ints, to_z-of_z}
 use Rattle.std.proofs.lemmas.List.{with_items_is}
 use Rattle.std.specs.Int.{w64, w128}
 use Rattle.std.specs.Int.RustNames.{FitsSigned}
 use Rattle.std.specs.Vec.{with_items}
 use Rattle.fm_bucket.specs.declared.bound.Bucket.{Bucket}
-use Rattle.fm_bucket.specs.BoundTests.{lies_below}
 use Rattle.fm_histogram.specs.Histogram.{Histogram, IsCounts, IsOfSome, place, place_among, one_more}
 use Rattle.fm_histogram.proofs.BucketLemmas.{place_is, place_is_first, place_within, count_of_buckets}
 use Rattle.fm_histogram.proofs.EmptyLemmas.{endless}
