@@ -29,10 +29,15 @@ row_braced a b c d name s some start list end =
     let whole : Grows a d ((name ++ (suffix_of s.kind ++ codes "{")) ++ (label_list_text s.labels ++ (codes "} " ++ (value_text s.value ++ after_value s)))) = grown_then a b d _ _ start (grown_then b c d _ _ list end) in
     rw (some, ← braced_is name (suffix_of s.kind) (label_list_text s.labels) (value_text s.value) (time_text s.time) (exemplar_text s.exemplar)) whole
 
--- a line's first three pieces, and what stands behind them up to the line feed
+-- three pieces at once, and what stands behind them, up to the line feed or not
 pub grown_line : (a b c : Text → Type 0) (word name space rest : Text) → Grows a b (word ++ (name ++ space)) → Grows b c (rest ++ codes "\n") → Grows a c ((word ++ (name ++ (space ++ rest))) ++ codes "\n")
 grown_line a b c word name space rest start end =
     let regrouped : (word ++ (name ++ space)) ++ (rest ++ codes "\n") ≡ (word ++ (name ++ (space ++ rest))) ++ codes "\n" = simp append_assoc in
     rw regrouped at (grown_then a b c (word ++ (name ++ space)) (rest ++ codes "\n") start end)
 
-pub ruleset line = (grown_line, grown_then, grown_nothing)
+pub grown_apart : (a b c : Text → Type 0) (x y z rest : Text) → Grows a b (x ++ (y ++ z)) → Grows b c rest → Grows a c (x ++ (y ++ (z ++ rest)))
+grown_apart a b c x y z rest start end =
+    let regrouped : (x ++ (y ++ z)) ++ rest ≡ x ++ (y ++ (z ++ rest)) = simp append_assoc in
+    rw regrouped at (grown_then a b c (x ++ (y ++ z)) rest start end)
+
+pub ruleset line = (grown_line, grown_apart, grown_then, grown_nothing)

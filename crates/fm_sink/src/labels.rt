@@ -98,8 +98,22 @@ impl<O: Output> Front<O> for Rendered<'_, O> {
     }
 }
 
+// Appends a label behind a separator.
+#[tactic(auto, using(crate::proofs::RowLemmas::line), unfolding(fm_grammar::specs::Spelling::label_text))]
+fn append_separated<O: Output>(
+    text: &mut O,
+    separator: &[u8],
+    name: &[u8],
+    value: &[u8],
+) -> Result<(), AllocError>
+    ensures { OnOk result (Grows (O.stands_for text.old) (O.stands_for text.new) (separator.now ++ label_text (record { name = name.now; value = value.now }))) }
+{
+    text.put_three(separator, name, b"=\"")?;
+    append_escaped(text, value)?;
+    text.put(b"\"")
+}
+
 // Appends a label.
-#[tactic(auto, using(crate::proofs::GrownLemmas::grown), unfolding(fm_grammar::specs::Spelling::label_text))]
 pub(crate) fn append_label<O: Output>(
     text: &mut O,
     name: &[u8],
@@ -107,19 +121,7 @@ pub(crate) fn append_label<O: Output>(
 ) -> Result<(), AllocError>
     ensures { OnOk result (Grows (O.stands_for text.old) (O.stands_for text.new) (label_text (record { name = name.now; value = value.now }))) }
 {
-    text.put(name)?;
-    text.put(b"=\"")?;
-    append_escaped(text, value)?;
-    text.put(b"\"")
-}
-
-// Appends a comma and a label.
-#[tactic(auto, using(crate::proofs::GrownLemmas::grown))]
-fn append_further_label<O: Output, L: Pair>(text: &mut O, label: &L) -> Result<(), AllocError>
-    ensures { OnOk result (Grows (O.stands_for text.old) (O.stands_for text.new) (further_label (L.label label.now))) }
-{
-    text.put(b",")?;
-    append_label(text, label.name(), label.value())
+    append_separated(text, b"", name, value)
 }
 
 // Appends labels with a comma before each.
@@ -127,7 +129,7 @@ fn append_further_labels<O: Output, L: Pair>(text: &mut O, labels: &[L]) -> Resu
     ensures { OnOk result (Grows (O.stands_for text.old) (O.stands_for text.new) (further_labels (map L.label labels.now))) }
 {
     for label in labels {
-        append_further_label(text, label)?;
+        append_separated(text, b",", label.name(), label.value())?;
     }
     Ok(())
 }
