@@ -1,8 +1,8 @@
 //! Values of metrics: what hands them over, and the encoders that take one number each.
 
 mod counter;
+mod encoder;
 mod gauge;
-mod slot;
 mod unknown;
 
 pub(crate) use counter::counter_number;

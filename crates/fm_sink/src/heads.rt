@@ -10,45 +10,8 @@ use crate::rendering::append_escaped;
 use fm_grammar::MetricType;
 use std::alloc::AllocError;
 
-// Appends a type line without its line feed.
-#[tactic(auto, using(crate::proofs::GrownLemmas::grown), unfolding(fm_grammar::specs::Spelling::type_line))]
-fn append_type_line<O: Output>(
-    text: &mut O,
-    name: &str,
-    metric_type: MetricType,
-) -> Result<(), AllocError>
-    ensures { OnOk result (Grows (O.stands_for text.old) (O.stands_for text.new) (type_line name.now metric_type)) }
-{
-    text.put(b"# TYPE ")?;
-    text.put(name.as_bytes())?;
-    text.put(b" ")?;
-    text.put(metric_type.as_str().as_bytes())
-}
-
-// Appends a help line without its line feed.
-#[tactic(auto, using(crate::proofs::GrownLemmas::grown), unfolding(fm_grammar::specs::Spelling::help_line))]
-fn append_help_line<O: Output>(text: &mut O, name: &str, help: &str) -> Result<(), AllocError>
-    ensures { OnOk result (Grows (O.stands_for text.old) (O.stands_for text.new) (help_line name.now help.now)) }
-{
-    text.put(b"# HELP ")?;
-    text.put(name.as_bytes())?;
-    text.put(b" ")?;
-    append_escaped(text, help.as_bytes())
-}
-
-// Appends a unit line without its line feed.
-#[tactic(auto, using(crate::proofs::GrownLemmas::grown), unfolding(fm_grammar::specs::Spelling::unit_line))]
-fn append_unit_line<O: Output>(text: &mut O, name: &str, unit: &str) -> Result<(), AllocError>
-    ensures { OnOk result (Grows (O.stands_for text.old) (O.stands_for text.new) (unit_line name.now unit.now)) }
-{
-    text.put(b"# UNIT ")?;
-    text.put(name.as_bytes())?;
-    text.put(b" ")?;
-    text.put(unit.as_bytes())
-}
-
 // Appends a type line.
-#[tactic(auto, using(crate::proofs::GrownLemmas::grown))]
+#[tactic(auto, using(crate::proofs::RowLemmas::line), unfolding(fm_grammar::specs::Spelling::type_line))]
 fn append_type_row<O: Output>(
     text: &mut O,
     name: &str,
@@ -56,21 +19,22 @@ fn append_type_row<O: Output>(
 ) -> Result<(), AllocError>
     ensures { OnOk result (Grows (O.stands_for text.old) (O.stands_for text.new) (ended (type_line name.now metric_type))) }
 {
-    append_type_line(text, name, metric_type)?;
-    text.put(b"\n")
+    text.put_three(b"# TYPE ", name.as_bytes(), b" ")?;
+    text.put_three(metric_type.as_str().as_bytes(), b"\n", b"")
 }
 
 // Appends a help line.
-#[tactic(auto, using(crate::proofs::GrownLemmas::grown))]
+#[tactic(auto, using(crate::proofs::RowLemmas::line), unfolding(fm_grammar::specs::Spelling::help_line))]
 fn append_help_row<O: Output>(text: &mut O, name: &str, help: &str) -> Result<(), AllocError>
     ensures { OnOk result (Grows (O.stands_for text.old) (O.stands_for text.new) (ended (help_line name.now help.now))) }
 {
-    append_help_line(text, name, help)?;
+    text.put_three(b"# HELP ", name.as_bytes(), b" ")?;
+    append_escaped(text, help.as_bytes())?;
     text.put(b"\n")
 }
 
 // Appends a unit line, and nothing for no unit.
-#[tactic(auto, using(crate::proofs::GrownLemmas::grown))]
+#[tactic(auto, using(crate::proofs::RowLemmas::line), unfolding(fm_grammar::specs::Spelling::unit_line))]
 fn append_unit_row<O: Output>(
     text: &mut O,
     name: &str,
@@ -80,8 +44,8 @@ fn append_unit_row<O: Output>(
 {
     match unit {
         Some(unit) => {
-            append_unit_line(text, name, unit)?;
-            text.put(b"\n")
+            text.put_three(b"# UNIT ", name.as_bytes(), b" ")?;
+            text.put_three(unit.as_bytes(), b"\n", b"")
         }
         None => Ok(()),
     }

@@ -5,10 +5,10 @@ mod growing;
 mod heads;
 mod label_list;
 pub mod label_text;
+mod labels;
 pub mod lines;
 mod output;
 mod rendering;
-mod sample_row;
 pub mod sink;
 mod writing;
 

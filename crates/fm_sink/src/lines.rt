@@ -8,7 +8,7 @@ ghost use Rattle.fm_sink.specs.Grown.{Grown};
 use crate::growing::GrowingText;
 use crate::heads::append_heads;
 use crate::label_text::LabelText;
-use crate::sample_row::append_sample_row;
+use crate::rendering::append_sample_row;
 use fm_grammar::{MetricType, SampleKind};
 use fm_text::{Exemplar, Value};
 use std::alloc::{AllocError, Global};

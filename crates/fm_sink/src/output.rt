@@ -1,5 +1,5 @@
 // What a text is rendered to: a text that grows, or its size alone.
-ghost use Rattle.std.specs.Prelude.{◌≡◌, ◌+◌, ◌-◌, ◌^◌, [], min, OnOk};
+ghost use Rattle.std.specs.Prelude.{◌≡◌, ◌+◌, ◌-◌, ◌^◌, ◌++◌, [], min, OnOk};
 ghost use Rattle.fm_grammar.specs.Exposition.{Text};
 ghost use Rattle.fm_sink.specs.Grown.{Grows, size_of};
 
@@ -15,6 +15,10 @@ pub(crate) trait Output {
     fn put(&mut self, bytes: &[u8]) -> Result<(), AllocError>
         ensures { OnOk result (Grows (stands_for self.old) (stands_for self.new) bytes.now) };
 
+    // Appends three pieces. It may find no memory.
+    fn put_three(&mut self, first: &[u8], second: &[u8], third: &[u8]) -> Result<(), AllocError>
+        ensures { OnOk result (Grows (stands_for self.old) (stands_for self.new) (first.now ++ (second.now ++ third.now))) };
+
     // Appends what another output stands for. It may find no memory.
     fn put_output(&mut self, other: &Self) -> Result<(), AllocError>
         ensures { (text : Text) → stands_for other.now text → OnOk result (Grows (stands_for self.old) (stands_for self.new) text) };
@@ -29,6 +33,10 @@ impl Output for GrowingText {
 
     fn put(&mut self, bytes: &[u8]) -> Result<(), AllocError> {
         self.append(bytes)
+    }
+
+    fn put_three(&mut self, first: &[u8], second: &[u8], third: &[u8]) -> Result<(), AllocError> {
+        self.append_three(first, second, third)
     }
 
     fn put_output(&mut self, other: &GrowingText) -> Result<(), AllocError> {
@@ -72,6 +80,13 @@ impl Output for Size {
     fn put(&mut self, bytes: &[u8]) -> Result<(), AllocError> {
         self.add(bytes.len());
         Ok(())
+    }
+
+    #[tactic(auto, using(crate::proofs::GrownLemmas::grown))]
+    fn put_three(&mut self, first: &[u8], second: &[u8], third: &[u8]) -> Result<(), AllocError> {
+        self.put(first)?;
+        self.put(second)?;
+        self.put(third)
     }
 
     fn put_output(&mut self, other: &Size) -> Result<(), AllocError> {

@@ -1,12 +1,12 @@
 // The texts of the parts of a sample's line, appended to an output.
-ghost use Rattle.std.specs.Prelude.{◌≡◌, ◌⊎◌, ◌≤◌, ◌++◌, [], ◌∷◌, length, take, codes, IsTrue, OnOk};
+ghost use Rattle.std.specs.Prelude.{◌≡◌, ◌⊎◌, ◌≤◌, ◌++◌, [], ◌∷◌, length, take, map, codes, IsTrue, OnOk, None};
 ghost use Rattle.std.specs.Option.{option_map};
-ghost use Rattle.fm_grammar.specs.Kinds.{suffix_of};
-ghost use Rattle.fm_grammar.specs.Spelling.{escape, escaped, label_text, label_list_text, in_braces, label_block_text, value_text, time_text, exemplar_text, sample_line};
-ghost use Rattle.fm_text.specs.Rows.{further_label, further_labels, sample_row};
-ghost use Rattle.fm_text.specs.Samples.{label_of, labels_of, value_of, exemplar_at};
+ghost use Rattle.fm_grammar.specs.Spelling.{escape, escaped, value_text, time_text, exemplar_text};
+ghost use Rattle.fm_text.specs.Rows.{sample_row};
+ghost use Rattle.fm_text.specs.Samples.{value_of, exemplar_at};
 ghost use Rattle.fm_sink.specs.Grown.{Grows};
 
+use crate::labels::{Front, Pair, append_in_braces, append_joined_list};
 use crate::output::Output;
 use fm_grammar::SampleKind;
 use fm_raw::fixed::{FixedBuffer, FixedSum};
@@ -75,170 +75,27 @@ pub(crate) fn append_escaped<O: Output>(text: &mut O, raw: &[u8]) -> Result<(), 
     }
 }
 
-// Appends a label.
-#[tactic(auto, using(crate::proofs::GrownLemmas::grown), unfolding(fm_grammar::specs::Spelling::label_text))]
-fn append_label<O: Output>(text: &mut O, label: &(String, String)) -> Result<(), AllocError>
-    ensures { OnOk result (Grows (O.stands_for text.old) (O.stands_for text.new) (label_text (label_of label.now))) }
-{
-    text.put(label.0.as_bytes())?;
-    text.put(b"=\"")?;
-    append_escaped(text, label.1.as_bytes())?;
-    text.put(b"\"")
-}
-
-// Appends a comma and a label.
-#[tactic(auto, using(crate::proofs::GrownLemmas::grown))]
-fn append_further_label<O: Output>(text: &mut O, label: &(String, String)) -> Result<(), AllocError>
-    ensures { OnOk result (Grows (O.stands_for text.old) (O.stands_for text.new) (further_label (label_of label.now))) }
-{
-    text.put(b",")?;
-    append_label(text, label)
-}
-
-// Appends labels with a comma before each.
-fn append_further_labels<O: Output>(
+// Appends a value between two texts.
+fn append_value<O: Output>(
     text: &mut O,
-    labels: &[(String, String)],
+    before: &[u8],
+    value: &Value,
+    after: &[u8],
 ) -> Result<(), AllocError>
-    ensures { OnOk result (Grows (O.stands_for text.old) (O.stands_for text.new) (further_labels (labels_of labels.now))) }
-{
-    for label in labels {
-        append_further_label(text, label)?;
-    }
-    Ok(())
-}
-
-// Appends a label, and others with a comma before each.
-#[tactic(auto, using(crate::proofs::GrownLemmas::grown))]
-fn append_first<O: Output>(
-    text: &mut O,
-    first: &(String, String),
-    others: &[(String, String)],
-) -> Result<(), AllocError>
-    ensures { OnOk result (Grows (O.stands_for text.old) (O.stands_for text.new) (label_text (label_of first.now) ++ further_labels (labels_of others.now))) }
-{
-    append_label(text, first)?;
-    append_further_labels(text, others)
-}
-
-// Appends the text of labels that was rendered before.
-fn append_rendered<O: Output>(
-    text: &mut O,
-    labels: &[(String, String)],
-    rendered: &O,
-) -> Result<(), AllocError>
-    requires { O.stands_for rendered.now (label_list_text (labels_of labels.now)) }
-    ensures { OnOk result (Grows (O.stands_for text.old) (O.stands_for text.new) (label_list_text (labels_of labels.now))) }
-{
-    text.put_output(rendered)
-}
-
-// Appends the text of labels that was rendered before, and further labels with a comma before each.
-#[tactic(auto, using(crate::proofs::GrownLemmas::grown))]
-fn append_after<O: Output>(
-    text: &mut O,
-    common: &[(String, String)],
-    common_text: &O,
-    own: &[(String, String)],
-) -> Result<(), AllocError>
-    requires { O.stands_for common_text.now (label_list_text (labels_of common.now)) }
-    ensures { OnOk result (Grows (O.stands_for text.old) (O.stands_for text.new) (label_list_text (labels_of common.now) ++ further_labels (labels_of own.now))) }
-{
-    append_rendered(text, common, common_text)?;
-    append_further_labels(text, own)
-}
-
-// Appends labels with commas between them.
-#[tactic(auto, using(crate::proofs::GrownLemmas::grown))]
-fn append_label_list<O: Output>(text: &mut O, labels: &[(String, String)]) -> Result<(), AllocError>
-    ensures { OnOk result (Grows (O.stands_for text.old) (O.stands_for text.new) (label_list_text (labels_of labels.now))) }
-{
-    match labels.split_first() {
-        Some((first, others)) => append_first(text, first, others),
-        None => Ok(()),
-    }
-}
-
-// Makes an output the text of labels with commas between them.
-pub(crate) fn render_label_list<O: Output>(
-    text: &mut O,
-    labels: &[(String, String)],
-) -> Result<(), AllocError>
-    ensures { OnOk result (O.stands_for text.new (label_list_text (labels_of labels.now))) }
-{
-    text.reset();
-    append_label_list(text, labels)
-}
-
-// Appends labels in braces.
-#[tactic(auto, using(crate::proofs::GrownLemmas::grown), unfolding(fm_grammar::specs::Spelling::in_braces))]
-fn append_in_braces<O: Output>(text: &mut O, labels: &[(String, String)]) -> Result<(), AllocError>
-    ensures { OnOk result (Grows (O.stands_for text.old) (O.stands_for text.new) (in_braces (labels_of labels.now))) }
-{
-    text.put(b"{")?;
-    append_label_list(text, labels)?;
-    text.put(b"}")
-}
-
-// Appends two lists of labels with commas between them, given the text of the first.
-#[tactic(auto, using(crate::proofs::GrownLemmas::grown, fm_text::proofs::RowLemmas::joined))]
-fn append_joined_list<O: Output>(
-    text: &mut O,
-    common: &[(String, String)],
-    common_text: &O,
-    own: &[(String, String)],
-) -> Result<(), AllocError>
-    requires { O.stands_for common_text.now (label_list_text (labels_of common.now)) }
-    ensures { OnOk result (Grows (O.stands_for text.old) (O.stands_for text.new) (label_list_text (labels_of common.now ++ labels_of own.now))) }
-{
-    if common.is_empty() {
-        append_label_list(text, own)
-    } else {
-        append_after(text, common, common_text, own)
-    }
-}
-
-// Appends two lists of labels in braces, given the text of the first.
-#[tactic(auto, using(crate::proofs::GrownLemmas::grown), unfolding(fm_grammar::specs::Spelling::in_braces))]
-fn append_joined_braces<O: Output>(
-    text: &mut O,
-    common: &[(String, String)],
-    common_text: &O,
-    own: &[(String, String)],
-) -> Result<(), AllocError>
-    requires { O.stands_for common_text.now (label_list_text (labels_of common.now)) }
-    ensures { OnOk result (Grows (O.stands_for text.old) (O.stands_for text.new) (in_braces (labels_of common.now ++ labels_of own.now))) }
-{
-    text.put(b"{")?;
-    append_joined_list(text, common, common_text, own)?;
-    text.put(b"}")
-}
-
-// Appends two lists of labels in braces, and nothing for none, given the text of the first.
-#[tactic(auto, using(crate::proofs::GrownLemmas::grown, crate::proofs::GrownLemmas::two_blocks))]
-fn append_joined_block<O: Output>(
-    text: &mut O,
-    common: &[(String, String)],
-    common_text: &O,
-    own: &[(String, String)],
-) -> Result<(), AllocError>
-    requires { O.stands_for common_text.now (label_list_text (labels_of common.now)) }
-    ensures { OnOk result (Grows (O.stands_for text.old) (O.stands_for text.new) (label_block_text (labels_of common.now ++ labels_of own.now))) }
-{
-    if common.is_empty() && own.is_empty() {
-        return Ok(());
-    }
-    append_joined_braces(text, common, common_text, own)
-}
-
-// Appends a value.
-fn append_value<O: Output>(text: &mut O, value: &Value) -> Result<(), AllocError>
-    ensures { OnOk result (Grows (O.stands_for text.old) (O.stands_for text.new) (value_text (value_of value.now))) }
+    ensures { OnOk result (Grows (O.stands_for text.old) (O.stands_for text.new) (before.now ++ (value_text (value_of value.now) ++ after.now))) }
 {
     match value {
-        Value::Whole(whole) => text.put(Buffer::new().format(*whole).as_bytes()),
-        Value::Fixed(sum) => text.put(FixedBuffer::new().format(*sum).as_bytes()),
-        Value::Millis(millis) => text.put(FixedBuffer::new().format_millis(*millis).as_bytes()),
+        Value::Whole(whole) => {
+            text.put_three(before, Buffer::new().format(*whole).as_bytes(), after)
+        }
+        Value::Fixed(sum) => {
+            text.put_three(before, FixedBuffer::new().format(*sum).as_bytes(), after)
+        }
+        Value::Millis(millis) => text.put_three(
+            before,
+            FixedBuffer::new().format_millis(*millis).as_bytes(),
+            after,
+        ),
     }
 }
 
@@ -275,82 +132,65 @@ fn append_exemplar<O: Output>(text: &mut O, exemplar: Option<&Exemplar>) -> Resu
     }
 }
 
-// Appends a space, a value, a timestamp and an exemplar.
+// Appends a value behind a text, and behind it a timestamp, an exemplar and a line feed.
 #[tactic(auto, using(crate::proofs::GrownLemmas::grown))]
-pub(crate) fn append_reading<O: Output>(
+fn append_stamped<O: Output>(
     text: &mut O,
+    before: &[u8],
     value: &Value,
     time: Option<u128>,
     exemplar: Option<&Exemplar>,
 ) -> Result<(), AllocError>
-    ensures { OnOk result (Grows (O.stands_for text.old) (O.stands_for text.new) (codes " " ++ (value_text (value_of value.now) ++ (time_text time ++ exemplar_text (option_map exemplar_at exemplar.entry))))) }
+    ensures { OnOk result (Grows (O.stands_for text.old) (O.stands_for text.new) ((before.now ++ (value_text (value_of value.now) ++ [])) ++ (time_text time ++ (exemplar_text (option_map exemplar_at exemplar.entry) ++ codes "\n")))) }
 {
-    text.put(b" ")?;
-    append_value(text, value)?;
+    append_value(text, before, value, b"")?;
     append_time(text, time)?;
-    append_exemplar(text, exemplar)
+    append_exemplar(text, exemplar)?;
+    text.put(b"\n")
 }
 
-// Appends a sample's line without its line feed, given the text of its common labels.
-#[tactic(auto, using(crate::proofs::GrownLemmas::grown), unfolding(fm_grammar::specs::Spelling::sample_line))]
-fn append_sample_line<O: Output>(
+// Appends the end of a sample's line behind a text.
+fn append_reading<O: Output>(
     text: &mut O,
-    name: &str,
-    kind: SampleKind,
-    common: &[(String, String)],
-    common_text: &O,
-    own: &[(String, String)],
+    before: &[u8],
     value: &Value,
     time: Option<u128>,
     exemplar: Option<&Exemplar>,
 ) -> Result<(), AllocError>
-    requires { O.stands_for common_text.now (label_list_text (labels_of common.now)) }
-    ensures { OnOk result (Grows (O.stands_for text.old) (O.stands_for text.new) (sample_line name.now (record {
-      kind = kind;
-      labels = labels_of common.now ++ labels_of own.now;
-      value = value_of value.now;
-      time = time;
-      exemplar = option_map exemplar_at exemplar.entry;
-    }))) }
+    ensures { OnOk result (Grows (O.stands_for text.old) (O.stands_for text.new) (before.now ++ (value_text (value_of value.now) ++ (time_text time ++ (exemplar_text (option_map exemplar_at exemplar.entry) ++ codes "\n"))))) }
 {
-    text.put(name.as_bytes())?;
-    text.put(kind.suffix().as_bytes())?;
-    append_joined_block(text, common, common_text, own)?;
-    append_reading(text, value, time, exemplar)
+    match (time, exemplar) {
+        (None, None) => append_value(text, before, value, b"\n"),
+        _ => append_stamped(text, before, value, time, exemplar),
+    }
 }
 
-// Appends a sample's line, given the text of its common labels.
-#[tactic(auto, using(crate::proofs::GrownLemmas::grown))]
-pub(crate) fn append_sample_row<O: Output>(
+// Appends a sample's line.
+pub(crate) fn append_sample_row<O: Output, F: Front<O>, L: Pair>(
     text: &mut O,
     name: &str,
     kind: SampleKind,
-    common: &[(String, String)],
-    common_text: &O,
-    own: &[(String, String)],
+    common: &F,
+    own: &[L],
     value: &Value,
     time: Option<u128>,
     exemplar: Option<&Exemplar>,
 ) -> Result<(), AllocError>
-    requires { O.stands_for common_text.now (label_list_text (labels_of common.now)) }
+    requires { F.is_ready common.now }
     ensures { OnOk result (Grows (O.stands_for text.old) (O.stands_for text.new) (sample_row name.now (record {
       kind = kind;
-      labels = labels_of common.now ++ labels_of own.now;
+      labels = F.labels common.now ++ map L.label own.now;
       value = value_of value.now;
       time = time;
       exemplar = option_map exemplar_at exemplar.entry;
     }))) }
 {
-    append_sample_line(
-        text,
-        name,
-        kind,
-        common,
-        common_text,
-        own,
-        value,
-        time,
-        exemplar,
-    )?;
-    text.put(b"\n")
+    let (name, suffix) = (name.as_bytes(), kind.suffix().as_bytes());
+    if common.len() == 0 && own.is_empty() {
+        text.put_three(name, suffix, b" ")?;
+        return append_reading(text, b"", value, time, exemplar);
+    }
+    text.put_three(name, suffix, b"{")?;
+    append_joined_list(text, common, own)?;
+    append_reading(text, b"} ", value, time, exemplar)
 }

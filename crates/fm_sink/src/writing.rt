@@ -11,8 +11,9 @@ ghost use Rattle.fm_sink.specs.Grown.{Grows, size_of};
 
 use crate::growing::GrowingText;
 use crate::heads::append_heads;
+use crate::labels::{Rendered, render_label_list};
 use crate::output::{Output, Size};
-use crate::rendering::{append_sample_row, render_label_list};
+use crate::rendering::append_sample_row;
 use fm_text::{EncodeError, Exposition, FamilySamples, Sample, parts, write_text};
 use std::alloc::{AllocError, Global};
 use std::io::Write;
@@ -27,12 +28,15 @@ fn append_sample<O: Output>(
     requires { O.stands_for common_text.now (label_list_text (common_labels sample.now)) }
     ensures { OnOk result (Grows (O.stands_for text.old) (O.stands_for text.new) (sample_row name.now (sample_of sample.now))) }
 {
+    let common = Rendered {
+        labels: parts::common(sample),
+        text: common_text,
+    };
     append_sample_row(
         text,
         name,
         sample.kind(),
-        parts::common(sample),
-        common_text,
+        &common,
         parts::own(sample),
         &sample.value(),
         sample.timestamp_millis(),

@@ -2,62 +2,15 @@
 ghost use Rattle.std.specs.Prelude.{◌≡◌, pos, List, [], ◌∷◌, MatchResult};
 ghost use Rattle.fm_grammar.specs.Exposition.{Value as Number, Whole, Fixed as Millionths};
 ghost use Rattle.fm_text.specs.Samples.{value_of};
-ghost use Rattle.fm_encoder.specs.Gathered.{answer};
 ghost use Rattle.fm_encoder.specs.Hands.{HandsNumbers};
 ghost use Rattle.fm_encoder.specs.Steps.{NumberRefusal, IsNumber};
 
-use crate::value::slot::NumberSlot;
-use fm_raw::fixed::{Fixed, FixedSum};
+use crate::value::encoder::{OfCounter, ValueEncoder};
+use fm_raw::fixed::Fixed;
 use fm_text::{EncodeError, Value};
-use std::marker::Model;
 
 /// Takes the value of a counter: just one number.
-#[derive(Drop)]
-pub struct CounterValueEncoder {
-    slot: NumberSlot,
-}
-
-impl Model for CounterValueEncoder {
-    ghost use Rattle.fm_encoder.specs.Gathered.{GatheredNumbers};
-
-    ghost Value = { GatheredNumbers };
-
-    ghost view = { λ e. e.slot };
-}
-
-impl CounterValueEncoder {
-    /// Takes the number; a second one is refused as `ValueTwice`.
-    pub fn encode_u32(&mut self, number: u32) -> Result<(), EncodeError>
-        ensures handed { HandsNumbers (Whole (pos number) ∷ []) ⊥ self.old self.new result }
-        ensures answered { result ≡ answer self.new.refused }
-    {
-        self.slot.gather(Value::Whole(i128::from(number)))
-    }
-
-    /// Takes the number; a second one is refused as `ValueTwice`.
-    pub fn encode_u64(&mut self, number: u64) -> Result<(), EncodeError>
-        ensures handed { HandsNumbers (Whole (pos number) ∷ []) ⊥ self.old self.new result }
-        ensures answered { result ≡ answer self.new.refused }
-    {
-        self.slot.gather(Value::Whole(i128::from(number)))
-    }
-
-    /// Takes the number; a second one is refused as `ValueTwice`.
-    pub fn encode_usize(&mut self, number: usize) -> Result<(), EncodeError>
-        ensures handed { HandsNumbers (Whole (pos number) ∷ []) ⊥ self.old self.new result }
-        ensures answered { result ≡ answer self.new.refused }
-    {
-        self.slot.gather(Value::Whole(number as i128))
-    }
-
-    /// Takes the number of millionths; a second one is refused as `ValueTwice`.
-    pub fn encode_fixed(&mut self, number: Fixed) -> Result<(), EncodeError>
-        ensures handed { HandsNumbers (Millionths number ∷ []) ⊥ self.old self.new result }
-        ensures answered { result ≡ answer self.new.refused }
-    {
-        self.slot.gather(Value::Fixed(FixedSum::from(number)))
-    }
-}
+pub type CounterValueEncoder = ValueEncoder<OfCounter>;
 
 /// Something that hands over the value of a counter.
 pub trait EncodeCounterValue {
@@ -110,10 +63,7 @@ pub(crate) fn counter_number<V: EncodeCounterValue>(value: &V) -> Result<Value, 
         (λ v. (V.numbers value.now ≡ value_of v ∷ []) × IsNumber (value_of v))
         (NumberRefusal (V.numbers value.now) (V.may_fault value.now)) }
 {
-    let mut encoder = CounterValueEncoder {
-        slot: NumberSlot::new(),
-    };
+    let mut encoder = CounterValueEncoder::new();
     let visited = value.encode(&mut encoder);
-    let CounterValueEncoder { slot } = encoder;
-    slot.end(visited)
+    encoder.end(visited)
 }

@@ -2,78 +2,15 @@
 ghost use Rattle.std.specs.Prelude.{◌≡◌, pos, List, [], ◌∷◌, MatchResult};
 ghost use Rattle.fm_grammar.specs.Exposition.{Value as Number, Whole, Fixed as Millionths};
 ghost use Rattle.fm_text.specs.Samples.{value_of};
-ghost use Rattle.fm_encoder.specs.Gathered.{answer};
 ghost use Rattle.fm_encoder.specs.Hands.{HandsNumbers};
 ghost use Rattle.fm_encoder.specs.Steps.{NumberRefusal, IsNumber};
 
-use crate::value::slot::NumberSlot;
-use fm_raw::fixed::{Fixed, FixedSum};
+use crate::value::encoder::{OfGauge, ValueEncoder};
+use fm_raw::fixed::Fixed;
 use fm_text::{EncodeError, Value};
-use std::marker::Model;
 
 /// Takes the value of a gauge: just one number.
-#[derive(Drop)]
-pub struct GaugeValueEncoder {
-    slot: NumberSlot,
-}
-
-impl Model for GaugeValueEncoder {
-    ghost use Rattle.fm_encoder.specs.Gathered.{GatheredNumbers};
-
-    ghost Value = { GatheredNumbers };
-
-    ghost view = { λ e. e.slot };
-}
-
-impl GaugeValueEncoder {
-    /// Takes the number; a second one is refused as `ValueTwice`.
-    pub fn encode_i32(&mut self, number: i32) -> Result<(), EncodeError>
-        ensures handed { HandsNumbers (Whole number ∷ []) ⊥ self.old self.new result }
-        ensures answered { result ≡ answer self.new.refused }
-    {
-        self.slot.gather(Value::Whole(i128::from(number)))
-    }
-
-    /// Takes the number; a second one is refused as `ValueTwice`.
-    pub fn encode_i64(&mut self, number: i64) -> Result<(), EncodeError>
-        ensures handed { HandsNumbers (Whole number ∷ []) ⊥ self.old self.new result }
-        ensures answered { result ≡ answer self.new.refused }
-    {
-        self.slot.gather(Value::Whole(i128::from(number)))
-    }
-
-    /// Takes the number; a second one is refused as `ValueTwice`.
-    pub fn encode_isize(&mut self, number: isize) -> Result<(), EncodeError>
-        ensures handed { HandsNumbers (Whole number ∷ []) ⊥ self.old self.new result }
-        ensures answered { result ≡ answer self.new.refused }
-    {
-        self.slot.gather(Value::Whole(number as i128))
-    }
-
-    /// Takes the number; a second one is refused as `ValueTwice`.
-    pub fn encode_u32(&mut self, number: u32) -> Result<(), EncodeError>
-        ensures handed { HandsNumbers (Whole (pos number) ∷ []) ⊥ self.old self.new result }
-        ensures answered { result ≡ answer self.new.refused }
-    {
-        self.slot.gather(Value::Whole(i128::from(number)))
-    }
-
-    /// Takes the number; a second one is refused as `ValueTwice`.
-    pub fn encode_u64(&mut self, number: u64) -> Result<(), EncodeError>
-        ensures handed { HandsNumbers (Whole (pos number) ∷ []) ⊥ self.old self.new result }
-        ensures answered { result ≡ answer self.new.refused }
-    {
-        self.slot.gather(Value::Whole(i128::from(number)))
-    }
-
-    /// Takes the number of millionths; a second one is refused as `ValueTwice`.
-    pub fn encode_fixed(&mut self, number: Fixed) -> Result<(), EncodeError>
-        ensures handed { HandsNumbers (Millionths number ∷ []) ⊥ self.old self.new result }
-        ensures answered { result ≡ answer self.new.refused }
-    {
-        self.slot.gather(Value::Fixed(FixedSum::from(number)))
-    }
-}
+pub type GaugeValueEncoder = ValueEncoder<OfGauge>;
 
 /// Something that hands over the value of a gauge.
 pub trait EncodeGaugeValue {
@@ -142,10 +79,7 @@ pub(crate) fn gauge_number<V: EncodeGaugeValue>(value: &V) -> Result<Value, Enco
         (λ v. (V.numbers value.now ≡ value_of v ∷ []) × IsNumber (value_of v))
         (NumberRefusal (V.numbers value.now) (V.may_fault value.now)) }
 {
-    let mut encoder = GaugeValueEncoder {
-        slot: NumberSlot::new(),
-    };
+    let mut encoder = GaugeValueEncoder::new();
     let visited = value.encode(&mut encoder);
-    let GaugeValueEncoder { slot } = encoder;
-    slot.end(visited)
+    encoder.end(visited)
 }

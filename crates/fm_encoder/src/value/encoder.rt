@@ -1,0 +1,168 @@
+//! The encoders of one number, which differ in the calls that they have.
+ghost use Rattle.std.specs.Prelude.{◌≡◌, ◌⊎◌, pos, [], ◌∷◌, MatchResult, None, Some, Ok, Err};
+ghost use Rattle.fm_grammar.specs.Exposition.{Whole, Fixed as Millionths};
+ghost use Rattle.fm_text.specs.declared.error.EncodeError.{EncodeError};
+ghost use Rattle.fm_text.specs.Samples.{value_of};
+ghost use Rattle.fm_encoder.specs.Gathered.{answer, own_refusal};
+ghost use Rattle.fm_encoder.specs.Hands.{HandsNumbers};
+ghost use Rattle.fm_encoder.specs.Steps.{IsNumber};
+
+use crate::own::own_refusal;
+use fm_raw::fixed::{Fixed, FixedSum};
+use fm_text::{EncodeError, Value};
+use std::marker::{Model, PhantomData};
+
+/// A counter, whose value is not negative.
+pub struct OfCounter;
+
+/// A gauge.
+pub struct OfGauge;
+
+/// An unknown metric.
+pub struct OfUnknown;
+
+/// Metrics whose values may be signed numbers.
+pub trait TakesSigned {}
+
+impl TakesSigned for OfGauge {}
+
+impl TakesSigned for OfUnknown {}
+
+/// Metrics whose values may be a `u64`.
+pub trait TakesLong {}
+
+impl TakesLong for OfCounter {}
+
+impl TakesLong for OfGauge {}
+
+/// Takes the value of a metric of this kind: just one number.
+#[derive(Drop)]
+pub struct ValueEncoder<K> {
+    number: Option<Value>,
+    refused: Option<EncodeError>,
+    kind: PhantomData<K>,
+}
+
+impl<K> Model for ValueEncoder<K> {
+    ghost use Rattle.std.specs.Prelude.{IfSome};
+    ghost use Rattle.std.specs.Option.{option_to_list, option_map};
+    ghost use Rattle.fm_text.specs.Samples.{value_of};
+    ghost use Rattle.fm_encoder.specs.Gathered.{GatheredNumbers};
+    ghost use Rattle.fm_encoder.specs.Steps.{IsNumber};
+
+    ghost Value = { GatheredNumbers };
+
+    ghost view = { λ e. record { numbers = option_to_list (option_map value_of e.number); refused = e.refused } };
+
+    ghost invariant = { λ e. IfSome e.number (λ v. IsNumber (value_of v)) };
+}
+
+impl<K> ValueEncoder<K> {
+    pub(crate) fn new() -> ValueEncoder<K>
+        ensures { result ≡ record { numbers = []; refused = None } }
+    {
+        ValueEncoder {
+            number: None,
+            refused: None,
+            kind: PhantomData,
+        }
+    }
+
+    fn gather(&mut self, number: Value) -> Result<(), EncodeError>
+        requires { IsNumber (value_of number) }
+        ensures handed { HandsNumbers (value_of number ∷ []) ⊥ self.old self.new result }
+        ensures answered { result ≡ answer self.new.refused }
+    {
+        if let Some(error) = self.refused {
+            return Err(error);
+        }
+        if self.number.is_some() {
+            self.refused = Some(EncodeError::ValueTwice);
+            return Err(EncodeError::ValueTwice);
+        }
+        self.number = Some(number);
+        Ok(())
+    }
+
+    // The one number, where nothing was refused and what was visited answered `visited`.
+    pub(crate) fn end(self, visited: Result<(), EncodeError>) -> Result<Value, EncodeError>
+        ensures { MatchResult result
+            (λ v. (self.refused ≡ None) × (visited ≡ Ok tt) × (self.numbers ≡ value_of v ∷ []) × IsNumber (value_of v))
+            (λ k. (self.refused ≡ Some k)
+            ⊎ (((e : EncodeError) × (self.refused ≡ None) × (visited ≡ Err e) × (k ≡ own_refusal e))
+            ⊎ ((self.refused ≡ None) × (visited ≡ Ok tt) × (k ≡ EncodeError.MissingValue) × (self.numbers ≡ [])))) }
+    {
+        if let Some(error) = self.refused {
+            return Err(error);
+        }
+        if let Err(error) = visited {
+            return Err(own_refusal(error));
+        }
+        match self.number {
+            Some(number) => Ok(number),
+            None => Err(EncodeError::MissingValue),
+        }
+    }
+
+    /// Takes the number; a second one is refused as `ValueTwice`.
+    pub fn encode_u32(&mut self, number: u32) -> Result<(), EncodeError>
+        ensures handed { HandsNumbers (Whole (pos number) ∷ []) ⊥ self.old self.new result }
+        ensures answered { result ≡ answer self.new.refused }
+    {
+        self.gather(Value::Whole(i128::from(number)))
+    }
+
+    /// Takes the number of millionths; a second one is refused as `ValueTwice`.
+    pub fn encode_fixed(&mut self, number: Fixed) -> Result<(), EncodeError>
+        ensures handed { HandsNumbers (Millionths number ∷ []) ⊥ self.old self.new result }
+        ensures answered { result ≡ answer self.new.refused }
+    {
+        self.gather(Value::Fixed(FixedSum::from(number)))
+    }
+}
+
+impl<K: TakesLong> ValueEncoder<K> {
+    /// Takes the number; a second one is refused as `ValueTwice`.
+    pub fn encode_u64(&mut self, number: u64) -> Result<(), EncodeError>
+        ensures handed { HandsNumbers (Whole (pos number) ∷ []) ⊥ self.old self.new result }
+        ensures answered { result ≡ answer self.new.refused }
+    {
+        self.gather(Value::Whole(i128::from(number)))
+    }
+}
+
+impl<K: TakesSigned> ValueEncoder<K> {
+    /// Takes the number; a second one is refused as `ValueTwice`.
+    pub fn encode_i32(&mut self, number: i32) -> Result<(), EncodeError>
+        ensures handed { HandsNumbers (Whole number ∷ []) ⊥ self.old self.new result }
+        ensures answered { result ≡ answer self.new.refused }
+    {
+        self.gather(Value::Whole(i128::from(number)))
+    }
+
+    /// Takes the number; a second one is refused as `ValueTwice`.
+    pub fn encode_i64(&mut self, number: i64) -> Result<(), EncodeError>
+        ensures handed { HandsNumbers (Whole number ∷ []) ⊥ self.old self.new result }
+        ensures answered { result ≡ answer self.new.refused }
+    {
+        self.gather(Value::Whole(i128::from(number)))
+    }
+
+    /// Takes the number; a second one is refused as `ValueTwice`.
+    pub fn encode_isize(&mut self, number: isize) -> Result<(), EncodeError>
+        ensures handed { HandsNumbers (Whole number ∷ []) ⊥ self.old self.new result }
+        ensures answered { result ≡ answer self.new.refused }
+    {
+        self.gather(Value::Whole(number as i128))
+    }
+}
+
+impl ValueEncoder<OfCounter> {
+    /// Takes the number; a second one is refused as `ValueTwice`.
+    pub fn encode_usize(&mut self, number: usize) -> Result<(), EncodeError>
+        ensures handed { HandsNumbers (Whole (pos number) ∷ []) ⊥ self.old self.new result }
+        ensures answered { result ≡ answer self.new.refused }
+    {
+        self.gather(Value::Whole(number as i128))
+    }
+}

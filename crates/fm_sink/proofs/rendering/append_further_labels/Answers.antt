@@ -1,7 +1,0 @@
-use Rattle.fm_text.specs.Rows.{further_label}
-use Rattle.fm_text.specs.Samples.{label_of}
-use Rattle.fm_sink.proofs.GrownLemmas.{left_more_seen}
-use Rattle.fm_sink.proofs.rendering.append_further_labels.Goals as goal
-
-pub loop-label-preserved : goal.loop-label-preserved
-loop-label-preserved g c = left_more_seen label_of further_label _ _ c.label-item.result _ _ _ c.loop-label-test.true c.label-item.is c.loop-label.invariant (rw c.in_ok-append_further_label.was at c.append_further_label.ensures)
