@@ -8,7 +8,7 @@ use Rattle.fm_grammar.proofs.States.{exposition_push}
 use Rattle.fm_book.specs.Listing.{listed_name}
 use Rattle.fm_text.specs.Rows.{sample_rows, family_rows, families_rows}
 use Rattle.fm_sink.specs.Grown.{Grown}
-use Rattle.fm_sink.specs.Output.{Output, OutputText, LinesState, lines_from}
+use Rattle.fm_sink.specs.Output.{Output, OutputText, LinesState, lines_in}
 use Rattle.fm_encoder.specs.Points.{Member}
 use Rattle.fm_registry.specs.Seen.{seen_list, seen_listed}
 use Rattle.fm_registry.specs.declared.listing.ListedMetric.{ListedMetric}
@@ -22,17 +22,17 @@ text_or None = []
 text_or (Some lines) = lines.text
 
 -- the lines that a sink gives back have the text that it got
-lines_text : (common : List Label) (output : Output) (lines : LinesState) (text : Text) → output ≡ OutputText text → lines_from common output ≡ Some lines → lines.text ≡ text
-lines_text common output lines text is some =
-    let both : Some (record { common = common; text = text }) ≡ Some lines = rw is at some in
+lines_text : (output : Output) (lines : LinesState) (text : Text) → output ≡ OutputText text → lines_in output ≡ Some lines → lines.text ≡ text
+lines_text output lines text is some =
+    let both : Some (record { text = text }) ≡ Some lines = rw is at some in
     sym (ap text_or both)
 
 -- a heading's lines, and then those of the samples that the metric offered, are the lines of its family
-pub AddsRows-family : (Offers : List Member → Type 0) (Stamps : Option ℕ → Type 0) (MayBeEmpty : Type 0) (heading : Heading) (old headed : Text) (common : List Label) (output : Output) (lines : LinesState) → IsHeading heading → Grown old headed (heading_rows heading) → Offered Offers Stamps heading.name heading.metric_type heading.labels (OutputText headed) output → lines_from common output ≡ Some lines → AddsRows Offers Stamps MayBeEmpty heading old lines.text
-AddsRows-family Offers Stamps MayBeEmpty heading old headed common output lines heads grown offered some =
+pub AddsRows-family : (Offers : List Member → Type 0) (Stamps : Option ℕ → Type 0) (MayBeEmpty : Type 0) (heading : Heading) (old headed : Text) (output : Output) (lines : LinesState) → IsHeading heading → Grown old headed (heading_rows heading) → Offered Offers Stamps heading.name heading.metric_type heading.labels (OutputText headed) output → lines_in output ≡ Some lines → AddsRows Offers Stamps MayBeEmpty heading old lines.text
+AddsRows-family Offers Stamps MayBeEmpty heading old headed output lines heads grown offered some =
     let rows = sample_rows heading.name offered.samples in
     let family : Family = record { name = heading.name; metric_type = heading.metric_type; help = heading.help; unit = heading.unit; samples = offered.samples } in
-    let text : lines.text ≡ headed ++ rows = lines_text common output lines (headed ++ rows) offered.is some in
+    let text : lines.text ≡ headed ++ rows = lines_text output lines (headed ++ rows) offered.is some in
     inr (
       family,
       record { name = refl; metric_type = refl; help = refl; unit = refl; samples = offered.admitted },

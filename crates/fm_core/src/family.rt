@@ -8,6 +8,7 @@ ghost use Rattle.fm_grammar.specs.WellFormed.{AreMillis, IsSample, IsFamily};
 ghost use Rattle.fm_raw.specs.Units.{unit_text};
 ghost use Rattle.fm_text.specs.declared.error.EncodeError.{EncodeError};
 ghost use Rattle.fm_text.specs.Samples.{labels_of};
+ghost use Rattle.fm_sink.specs.Output.{AreShared};
 ghost use Rattle.fm_book.specs.Texts.{printed_name};
 ghost use Rattle.fm_encoder.specs.Points.{millis};
 ghost use Rattle.fm_encoder.specs.Gathered.{answer};
@@ -100,7 +101,7 @@ pub(crate) fn offered_by(
     sink: Sink,
 ) -> Result<(String, Sink), EncodeError>
     requires name { IsSnakeCase (string_bytes name) }
-    requires common { sink.common ≡ [] }
+    requires shared { AreShared [] sink.shared }
     ensures { MatchResult result
         (λ made. (string_bytes made.0 ≡ string_bytes name)
         × Offered (offers metric.now) (stamps metric.now) (string_bytes name) metric_type (labels_of constants.now) sink.output made.1.output)

@@ -1,12 +1,11 @@
 -- Members of a metric, one after the other.
-use Rattle.std.proofs.Common.{◌≡◌, ℕ, List, [], ◌∷◌, ◌++◌, Some, None, Result, Ok, Err, ◌⊎◌, inl, inr, refl, sym, ◌∙◌, ap, subst, append_assoc, append-nil, MatchResult, ◌<◌, ◌+◌, length, get_or, take}
+use Rattle.std.proofs.Common.{◌≡◌, ℕ, List, [], ◌∷◌, ◌++◌, Some, None, Result, Ok, Err, ◌⊎◌, inl, inr, refl, sym, ◌∙◌, ap, subst, append_assoc, append-nil, ◌<◌, ◌+◌, length, get_or, take}
 use Rattle.std.specs.List.{AllByRecursion}
 use Rattle.std.proofs.lemmas.List.{take_more}
 use Rattle.std.proofs.lemmas.Grind.{flat_map-append}
 use Rattle.fm_grammar.specs.Exposition.{Label}
 use Rattle.fm_grammar.specs.declared.MetricType.{MetricType}
 use Rattle.fm_text.specs.declared.error.EncodeError.{EncodeError}
-use Rattle.fm_text.specs.declared.error.EncodeError.TheVariants.{Memory}
 use Rattle.fm_grammar.specs.WellFormed.{IsSample}
 use Rattle.fm_grammar.proofs.Runs.{all_append}
 use Rattle.fm_sink.specs.Output.{appended}
@@ -114,39 +113,6 @@ HandsMembers-one constants labels A F G old begun mid new visited begins hands e
         ]
       ];
     }
-
--- what is read of the labels is what the next points have
-pub BeginsMember-read : {L : Type 0} (items : L → List Label) (all : List HandedLabel) (F : Type 0) (old new : GatheredPoints) (read : Result L EncodeError) → new.setting ≡ old.setting → new.output ≡ old.output → new.refused ≡ old.refused → MatchResult read (λ ls. ((new.deferred ≡ None) × (new.common ≡ items ls)) ⊎ (new.deferred ≡ Some Memory)) (λ k. new.deferred ≡ Some k) → MatchResult read (λ ls. LabelsClean old.setting.metric_type [] all × (items ls ≡ all_written all)) (λ k. OwnRefusal F k ⊎ LabelsFault k old.setting.metric_type [] all) → BeginsMember all F old new
-BeginsMember-read items all F old new (Ok ls) setting output refused (inr none) clean = record {
-  setting = setting;
-  output = output;
-  refused = refused;
-  clean = λ e. absurd cc;
-  common = λ e. absurd cc;
-  deferred = λ k e. (let same : Memory ≡ k = cc in inl (inl (sym same)));
-}
-BeginsMember-read items all F old new (Ok ls) setting output refused (inl taken) clean = record {
-  setting = setting;
-  output = output;
-  refused = refused;
-  clean = λ _. clean.0;
-  common = λ _. taken.1 ∙ clean.1;
-  deferred = λ k e. absurd cc;
-}
-BeginsMember-read items all F old new (Err j) setting output refused taken fault = record {
-  setting = setting;
-  output = output;
-  refused = refused;
-  clean = λ e. absurd cc;
-  common = λ e. absurd cc;
-  deferred = λ k e. (let same : j ≡ k = cc in subst (λ (i : EncodeError). OwnRefusal F i ⊎ LabelsFault i old.setting.metric_type [] all) same fault);
-}
-
--- the same, where the labels were read for a family of this type
-pub BeginsMember-typed : {L : Type 0} (items : L → List Label) (all : List HandedLabel) (F : Type 0) (type : MetricType) (old new : GatheredPoints) (read : Result L EncodeError) → type ≡ old.setting.metric_type → new.setting ≡ old.setting → new.output ≡ old.output → new.refused ≡ old.refused → MatchResult read (λ ls. ((new.deferred ≡ None) × (new.common ≡ items ls)) ⊎ (new.deferred ≡ Some Memory)) (λ k. new.deferred ≡ Some k) → MatchResult read (λ ls. LabelsClean type [] all × (items ls ≡ all_written all)) (λ k. OwnRefusal F k ⊎ LabelsFault k type [] all) → BeginsMember all F old new
-BeginsMember-typed items all F type old new read same setting output refused taken clean =
-    BeginsMember-read items all F old new read setting output refused taken
-    (subst (λ (t : MetricType). MatchResult read (λ ls. LabelsClean t [] all × (items ls ≡ all_written all)) (λ k. OwnRefusal F k ⊎ LabelsFault k t [] all)) same clean)
 
 MembersClean-append : (context : Context) (xs ys : List Member) → MembersClean context xs → MembersClean context ys → MembersClean context (xs ++ ys)
 MembersClean-append context [] ys h after = after

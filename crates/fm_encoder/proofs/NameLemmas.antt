@@ -1,5 +1,5 @@
 -- The names of labels, and that clean labels have valid and different names.
-use Rattle.std.proofs.Common.{◌≡◌, ◌≢◌, zero, suc, List, [], ◌∷◌, ◌++◌, length, drop, map, ◌⊎◌, inl, inr, refl, sym, ap, subst, ◌∙◌, arith, append-nil, append_assoc, String, Global, string_bytes, Contains, Result, Ok, Err, MatchResult, IfOk, codes}
+use Rattle.std.proofs.Common.{◌≡◌, ◌≢◌, zero, suc, List, [], ◌∷◌, ◌++◌, length, drop, map, ◌⊎◌, inl, inr, refl, sym, ap, subst, ◌∙◌, arith, append-nil, append_assoc, String, Global, string_bytes, Contains, codes}
 use Rattle.std.specs.List.{AllByRecursion}
 use Rattle.std.proofs.lemmas.List.{drop_at}
 use Rattle.std.proofs.lemmas.List.Elements.{Contains-append_right}
@@ -59,11 +59,6 @@ pub handed_again-pairs : (ls : Pairs) → map (λ p. NamePiece (string_bytes p.0
 handed_again-pairs [] = refl
 handed_again-pairs (l ∷ ls) = ap (λ (hs : List HandedLabel). (NamePiece (string_bytes l.0) ∷ ValuePiece (string_bytes l.1) ∷ []) ∷ hs) (handed_again-pairs ls)
 
--- labels that were read clean are well formed
-pub AreLabels-read : {L E : Type 0} (items : L → List Label) (type : MetricType) (all : List HandedLabel) (Refused : E → Type 0) (read : Result L E) → MatchResult read (λ ls. LabelsClean type [] all × (items ls ≡ all_written all)) Refused → IfOk read (λ ls. AreLabels (items ls))
-AreLabels-read items type all Refused (Ok ls) h = subst AreLabels (sym h.1) (AreLabels-written type all h.0)
-AreLabels-read items type all Refused (Err e) h = tt
-
 -- own labels that stand behind the common ones in a list of both
 pub own_of_all : (common all own : List Label) → all ≡ common ++ own → drop (length common) all ≡ own
 own_of_all common all own is = ap (drop (length common)) is ∙ drop_at common own (length common) refl
@@ -119,11 +114,6 @@ pub AreFree-written : (type : MetricType) (before : List Label) (labels : List H
 AreFree-written type before [] clean = tt
 AreFree-written type before (label ∷ labels) clean =
     AreFree-append type (written label) (all_written labels) (AreFree-clean type before label clean.0) (AreFree-written type _ labels clean.1)
-
--- nor have labels that were read clean
-pub AreFree-read : {L E : Type 0} (items : L → List Label) (type : MetricType) (all : List HandedLabel) (Refused : E → Type 0) (read : Result L E) → MatchResult read (λ ls. LabelsClean type [] all × (items ls ≡ all_written all)) Refused → IfOk read (λ ls. AreFree type (items ls))
-AreFree-read items type all Refused (Ok ls) h = subst (AreFree type) (sym h.1) (AreFree-written type [] all h.0)
-AreFree-read items type all Refused (Err e) h = tt
 
 AreFree-without : (type : MetricType) (before : List Label) (name : Text) → AreFree type before → IsReserved type name → ¬ (Contains (label_names before) name)
 AreFree-without type [] name h reserved (i, within, is) = absurd (omega arith)

@@ -1,14 +1,17 @@
 -- What holds of a point encoder's fields between calls: the family's name is in snake case, and well formed are the common labels
--- and the timestamp that further samples get. No common label has a name that the family's type keeps for labels of its own.
+-- and the timestamp that further samples get. No common label has a name that the family's type keeps for labels of its own. The
+-- samples that the sink keeps may share the common labels.
 use Rattle.std.specs.Prelude.{IfSome}
 use Rattle.std.specs.String.{string_bytes}
 use Rattle.fm_grammar.specs.Names.{IsSnakeCase}
 use Rattle.fm_grammar.specs.WellFormed.{AreLabels, AreMillis}
+use Rattle.fm_sink.specs.Output.{AreShared}
 use Rattle.fm_encoder.specs.Labels.{AreFree}
 use Rattle.fm_encoder.specs.declared.point.PointEncoder.TheInside.{Inside}
 
 pub record IsGathering (e : Inside) : Type 0 where
   pub name : IsSnakeCase (string_bytes e.name)
-  pub labels : AreLabels e.sink.common
-  pub free : AreFree e.metric_type e.sink.common
+  pub labels : AreLabels e.labels.labels
+  pub free : AreFree e.labels.metric_type e.labels.labels
+  pub shared : AreShared e.labels.labels e.sink.shared
   pub time : IfSome e.time AreMillis

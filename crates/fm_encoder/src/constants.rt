@@ -48,9 +48,10 @@ fn tested(
         (λ ls. LabelsClean metric_type [] (handed_again (labels_of labels.now)) × (ls.labels ≡ all_written (handed_again (labels_of labels.now))))
         (λ k. OwnRefusal ⊥ k ⊎ LabelsFault k metric_type [] (handed_again (labels_of labels.now))) }
 {
-    let mut encoder = LabelSetEncoder::behind(metric_type, LabelText::new(alloc));
+    let mut encoder = LabelSetEncoder::new(alloc, metric_type);
     let visited = encode_written(labels, &mut encoder);
-    encoder.end(visited)
+    encoder.outcome(visited)?;
+    Ok(encoder.into_text())
 }
 
 // The constant labels of a family, which are tested once.
@@ -100,20 +101,22 @@ impl ConstantLabels {
         }
     }
 
-    // The constant labels and these behind them, each of them clean. They take the memory of `text`.
+    // Puts the constant labels and these behind them in place of the encoder's own, each of them clean.
     pub(crate) fn followed_by<LS: EncodeLabelSet>(
         &self,
-        text: LabelText,
+        encoder: &mut LabelSetEncoder,
         labels: &LS,
-    ) -> Result<LabelText, EncodeError>
-        ensures { let all = handed_again self.now.labels ++ LS.labels labels.now in
+    ) -> Result<(), EncodeError>
+        requires { self.now.metric_type ≡ encoder.old.metric_type }
+        ensures type_kept { encoder.new.metric_type ≡ encoder.old.metric_type }
+        ensures gathered { let all = handed_again self.now.labels ++ LS.labels labels.now in
             MatchResult result
-            (λ ls. LabelsClean self.now.metric_type [] all × (ls.labels ≡ all_written all))
-            (λ k. OwnRefusal (LS.may_fault labels.now) k ⊎ LabelsFault k self.now.metric_type [] all) }
+            (λ _. LabelsClean encoder.old.metric_type [] all × (encoder.new.labels ≡ all_written all))
+            (λ k. OwnRefusal (LS.may_fault labels.now) k ⊎ LabelsFault k encoder.old.metric_type [] all) }
     {
         if let Some(error) = self.refusal {
             return Err(error);
         }
-        labels_behind(text, self.metric_type, &self.labels, labels)
+        labels_behind(encoder, &self.labels, labels)
     }
 }

@@ -15,7 +15,7 @@ use crate::own::own_refusal;
 use fm_code_points::are_short;
 use fm_grammar::MetricType;
 use fm_raw::fixed::Fixed;
-use fm_sink::{LabelText, owned_labels};
+use fm_sink::owned_labels;
 use fm_text::{EncodeError, Exemplar, make};
 use std::alloc::Global;
 use std::marker::Model;
@@ -160,10 +160,10 @@ fn written_labels<LS: EncodeLabelSet>(
         (λ ls. LabelsClean Unknown [] (LS.labels labels.now) × (labels_of ls.items ≡ all_written (LS.labels labels.now)))
         (λ k. OwnRefusal (LS.may_fault labels.now) k ⊎ LabelsFault k Unknown [] (LS.labels labels.now)) }
 {
-    let mut encoder = LabelSetEncoder::behind(MetricType::Unknown, LabelText::new(alloc));
+    let mut encoder = LabelSetEncoder::new(alloc, MetricType::Unknown);
     let visited = labels.encode(&mut encoder);
-    let read = encoder.end(visited)?;
-    let pairs = read.pairs(alloc, 0)?;
+    encoder.outcome(visited)?;
+    let pairs = encoder.text().pairs(alloc, 0)?;
     Ok(owned_labels(alloc, &pairs)?)
 }
 

@@ -5,29 +5,26 @@ ghost use Rattle.fm_encoder.specs.Gathered.{OwnRefusal};
 
 use crate::label::LabelSetEncoder;
 use crate::label_set::EncodeLabelSet;
-use fm_grammar::MetricType;
 use fm_sink::LabelText;
 use fm_text::EncodeError;
 
-// Copies of the labels before, and behind them those that a label set hands over. They take the memory of `text`.
+// Puts copies of the labels before in place of the encoder's own, and behind them those that a label set hands over.
 pub(crate) fn labels_behind<LS: EncodeLabelSet>(
-    text: LabelText,
-    metric_type: MetricType,
+    encoder: &mut LabelSetEncoder,
     before: &LabelText,
     labels: &LS,
-) -> Result<LabelText, EncodeError>
-    ensures { MatchResult result
-        (λ ls. LabelsClean metric_type before.now.labels (LS.labels labels.now) × (ls.labels ≡ before.now.labels ++ all_written (LS.labels labels.now)))
-        (λ k. OwnRefusal (LS.may_fault labels.now) k ⊎ LabelsFault k metric_type before.now.labels (LS.labels labels.now)) }
+) -> Result<(), EncodeError>
+    ensures type_kept { encoder.new.metric_type ≡ encoder.old.metric_type }
+    ensures gathered { MatchResult result
+        (λ _. LabelsClean encoder.old.metric_type before.now.labels (LS.labels labels.now) × (encoder.new.labels ≡ before.now.labels ++ all_written (LS.labels labels.now)))
+        (λ k. OwnRefusal (LS.may_fault labels.now) k ⊎ LabelsFault k encoder.old.metric_type before.now.labels (LS.labels labels.now)) }
 {
-    let mut text = text;
-    if let Err(_) = text.assign(before) {
+    if let Err(_) = encoder.restart(before) {
         return Err(EncodeError::Memory);
     }
     if labels.is_empty() {
-        return Ok(text);
+        return Ok(());
     }
-    let mut encoder = LabelSetEncoder::behind(metric_type, text);
-    let visited = labels.encode(&mut encoder);
-    encoder.end(visited)
+    let visited = labels.encode(encoder);
+    encoder.outcome(visited)
 }

@@ -1,5 +1,5 @@
 //! Labels: what hands them over, and the encoders that gather them.
-ghost use Rattle.std.specs.Prelude.{◌≡◌, ◌↔◌, IsTrue, IfOk, ℕ, List, [], ◌∷◌, ◌++◌, Bool, ◌⊎◌, Some, None, Ok, Err, MatchResult};
+ghost use Rattle.std.specs.Prelude.{◌≡◌, ◌↔◌, IsTrue, IfOk, ℕ, List, [], ◌∷◌, ◌++◌, Bool, ◌⊎◌, Some, None, Ok, Err, OnOk, MatchResult};
 ghost use Rattle.fm_text.specs.declared.error.EncodeError.{EncodeError};
 ghost use Rattle.fm_encoder.specs.Labels.{HandedLabel, NamePiece, ValuePiece, written};
 ghost use Rattle.fm_encoder.specs.Gathered.{GatheredPieces, GatheredLabels, answer, own_refusal};
@@ -12,6 +12,7 @@ use fm_grammar::MetricType;
 use fm_raw::name::is_label_name;
 use fm_sink::LabelText;
 use fm_text::EncodeError;
+use std::alloc::{AllocError, Global};
 use std::marker::Model;
 
 /// Something that hands over the name of a label.
@@ -87,6 +88,25 @@ impl Model for LabelEncoder {
 }
 
 impl LabelEncoder {
+    // Takes copies of these labels in place of its own, as if nothing had been refused. It may find no memory; then it has any labels.
+    fn restart(&mut self, before: &LabelText) -> Result<(), AllocError>
+        ensures type_kept { self.new.metric_type ≡ self.old.metric_type }
+        ensures accepting { self.new.refused ≡ None }
+        ensures pieces { self.new.pieces ≡ [] }
+        ensures labels { OnOk result (self.new.labels ≡ before.now.labels) }
+    {
+        self.refused = None;
+        self.labels.assign(before)
+    }
+
+    // Removes all labels, as if nothing had been refused.
+    fn clear(&mut self)
+        ensures { self.new ≡ record { metric_type = self.old.metric_type; labels = []; pieces = []; refused = None } }
+    {
+        self.refused = None;
+        self.labels.clear();
+    }
+
     fn refuse(&mut self, error: EncodeError) -> Result<(), EncodeError>
         ensures refused { self.new ≡ record self.old { refused = Some error } }
         ensures answered { result ≡ Err error }
@@ -197,22 +217,46 @@ impl Model for LabelSetEncoder {
 }
 
 impl LabelSetEncoder {
-    // An encoder that has these labels already.
-    pub(crate) fn behind(metric_type: MetricType, labels: LabelText) -> LabelSetEncoder
-        requires { (labels.name ≡ None) × (labels.value ≡ None) }
-        ensures { result ≡ record {
-          metric_type = metric_type;
-          labels = labels.labels;
-          refused = None;
-        } }
+    // An encoder without labels.
+    pub(crate) fn new(alloc: Global, metric_type: MetricType) -> LabelSetEncoder
+        ensures { result ≡ record { metric_type = metric_type; labels = []; refused = None } }
     {
         LabelSetEncoder {
             label: LabelEncoder {
                 metric_type,
-                labels,
+                labels: LabelText::new(alloc),
                 refused: None,
             },
         }
+    }
+
+    // The type of the family that the labels stand in.
+    pub(crate) fn metric_type(&self) -> MetricType
+        ensures { result ≡ self.now.metric_type }
+    {
+        self.label.metric_type
+    }
+
+    // The labels so far.
+    pub(crate) fn text(&self) -> &LabelText
+        ensures { result.now.labels ≡ self.now.labels }
+    {
+        &self.label.labels
+    }
+
+    // Takes copies of these labels in place of its own, as if nothing had been refused. It may find no memory; then it has any labels.
+    pub(crate) fn restart(&mut self, before: &LabelText) -> Result<(), AllocError>
+        ensures type_kept { self.new.metric_type ≡ self.old.metric_type }
+        ensures restarted { OnOk result (self.new ≡ record self.old { labels = before.now.labels; refused = None }) }
+    {
+        self.label.restart(before)
+    }
+
+    // Removes all labels, as if nothing had been refused.
+    pub(crate) fn clear(&mut self)
+        ensures { self.new ≡ record self.old { labels = []; refused = None } }
+    {
+        self.label.clear();
     }
 
     /// Takes one more label. Beside the refusals of its name, a name without a value is refused as `MalformedLabel`,
@@ -225,24 +269,25 @@ impl LabelSetEncoder {
         self.label.end_label(visited)
     }
 
-    // The labels, where nothing was refused and what was visited answered `visited`.
-    pub(crate) fn end(self, visited: Result<(), EncodeError>) -> Result<LabelText, EncodeError>
+    // The first refusal, where what was visited returned `visited`.
+    pub(crate) fn outcome(&self, visited: Result<(), EncodeError>) -> Result<(), EncodeError>
         ensures { MatchResult result
-            (λ ls. (self.refused ≡ None) × (visited ≡ Ok tt) × (ls.labels ≡ self.labels))
-            (λ k. (self.refused ≡ Some k) ⊎ ((e : EncodeError) × (self.refused ≡ None) × (visited ≡ Err e) × (k ≡ own_refusal e))) }
+            (λ _. (self.now.refused ≡ None) × (visited ≡ Ok tt))
+            (λ k. (self.now.refused ≡ Some k) ⊎ ((e : EncodeError) × (self.now.refused ≡ None) × (visited ≡ Err e) × (k ≡ own_refusal e))) }
     {
-        let LabelSetEncoder { label } = self;
-        let LabelEncoder {
-            labels,
-            refused,
-            ..
-        } = label;
-        if let Some(error) = refused {
+        if let Some(error) = self.label.refused {
             return Err(error);
         }
         match visited {
-            Ok(()) => Ok(labels),
+            Ok(()) => Ok(()),
             Err(error) => Err(own_refusal(error)),
         }
+    }
+
+    // The labels.
+    pub(crate) fn into_text(self) -> LabelText
+        ensures { result.labels ≡ self.labels }
+    {
+        self.label.labels
     }
 }

@@ -6,6 +6,7 @@ ghost use Rattle.fm_grammar.specs.Names.{IsSnakeCase};
 ghost use Rattle.fm_grammar.specs.WellFormed.{AreMillis};
 ghost use Rattle.fm_text.specs.declared.error.EncodeError.{EncodeError};
 ghost use Rattle.fm_text.specs.Samples.{labels_of};
+ghost use Rattle.fm_sink.specs.Output.{AreShared};
 ghost use Rattle.fm_encoder.specs.Labels.{LabelsClean, LabelsFault, all_written, handed_again};
 ghost use Rattle.fm_encoder.specs.Points.{Member, UnknownPoint, GaugePoint, CounterPoint, StateSetPoint, InfoPoint, millis};
 ghost use Rattle.fm_encoder.specs.States.{state_of};
@@ -176,7 +177,7 @@ impl MetricEncoder {
     ) -> Result<MetricEncoder, EncodeError>
         requires name { IsSnakeCase (string_bytes name) }
         requires time { IfSome time AreMillis }
-        requires common { sink.common ≡ [] }
+        requires shared { AreShared [] sink.shared }
         ensures made { IfOk result (λ encoder. encoder ≡ record {
           context = record {
             setting = record { name = string_bytes name; metric_type = metric_type; time = time };
@@ -206,9 +207,7 @@ impl MetricEncoder {
         if let Some(error) = self.points.refused() {
             return Err(error);
         }
-        let spare = self.points.take_spare();
-        let read = self.constants.followed_by(spare, labels);
-        self.points.begin_member(read);
+        self.points.begin_member(&self.constants, labels);
         let visited = point.encode(&mut self.points);
         self.points.end_points(visited)
     }

@@ -7,16 +7,18 @@ ghost use Rattle.fm_grammar.specs.WellFormed.{AreLabels, AreMillis, IsSample, ki
 ghost use Rattle.fm_grammar.specs.declared.SampleKind.TheVariants.{Total as TotalKind, Created as CreatedKind};
 ghost use Rattle.fm_text.specs.declared.error.EncodeError.{EncodeError};
 ghost use Rattle.fm_text.specs.Samples.{shown_label, value_of, exemplar_of};
-ghost use Rattle.fm_sink.specs.Output.{appended};
+ghost use Rattle.fm_sink.specs.Output.{AreShared, appended};
 ghost use Rattle.fm_encoder.specs.Points.{Point, UnknownPoint, GaugePoint, CounterPoint, StateSetPoint, InfoPoint, plain_sample, state_sample, created_samples, millis};
-ghost use Rattle.fm_encoder.specs.Labels.{AreFree, label_names};
+ghost use Rattle.fm_encoder.specs.Labels.{LabelsClean, LabelsFault, AreFree, all_written, handed_again, label_names};
 ghost use Rattle.fm_encoder.specs.States.{state_of};
-ghost use Rattle.fm_encoder.specs.Gathered.{answer};
+ghost use Rattle.fm_encoder.specs.Gathered.{OwnRefusal, answer};
 ghost use Rattle.fm_encoder.specs.Hands.{HandsPoints};
-ghost use Rattle.fm_encoder.specs.Steps.{FitsType, BeginsPoint, PushesSample, PushesSamples, TestsStates, EndsPoints, IsNumber};
+ghost use Rattle.fm_encoder.specs.Steps.{FitsType, BeginsPoint, BeginsMember, PushesSample, PushesSamples, TestsStates, EndsPoints, IsNumber};
 
+use crate::constants::ConstantLabels;
 use crate::exemplar::{EncodeExemplar, exemplar_if_any};
 use crate::gathered::labels_behind;
+use crate::label::LabelSetEncoder;
 use crate::label_set::EncodeLabelSet;
 use crate::own::own_refusal;
 use crate::value::{
@@ -52,8 +54,9 @@ pub trait EncodePoint {
 pub struct PointEncoder {
     alloc: Global,
     name: String,
-    metric_type: MetricType,
     time: Option<u128>,
+    // The common labels of the next samples, where none of them was refused.
+    labels: LabelSetEncoder,
     deferred: Option<EncodeError>,
     sink: Sink,
     refused: Option<EncodeError>,
@@ -66,8 +69,8 @@ impl Model for PointEncoder {
     ghost Value = { GatheredPoints };
 
     ghost view = { λ e. record {
-      setting = record { name = string_bytes e.name; metric_type = e.metric_type; time = e.time };
-      common = e.sink.common;
+      setting = record { name = string_bytes e.name; metric_type = e.labels.metric_type; time = e.time };
+      common = e.labels.labels;
       deferred = e.deferred;
       output = e.sink.output;
       refused = e.refused;
@@ -84,32 +87,57 @@ fn push_to(
     name: &str,
     metric_type: MetricType,
     kind: SampleKind,
+    common: &LabelText,
     own: &[(&str, &str)],
     value: Value,
     time: Option<u128>,
     exemplar: Option<Exemplar>,
 ) -> Result<(), EncodeError>
-    requires labels { AreLabels (sink.old.common ++ map shown_label own.now) }
+    requires labels { AreLabels (common.now.labels ++ map shown_label own.now) }
+    requires shared { AreShared common.now.labels sink.old.shared }
     requires fits { FitsType metric_type kind (value_of value) (option_map exemplar_of exemplar) }
     requires time { IfSome time AreMillis }
-    ensures common { sink.new.common ≡ sink.old.common }
+    ensures shared { sink.new.shared ≡ sink.old.shared }
     ensures formed { IsSample metric_type (record {
       kind = kind;
-      labels = sink.old.common ++ map shown_label own.now;
+      labels = common.now.labels ++ map shown_label own.now;
       value = value_of value;
       time = time;
       exemplar = option_map exemplar_of exemplar;
     }) }
     ensures pushed { OnOk result (sink.new.output ≡ appended name.now sink.old.output (record {
       kind = kind;
-      labels = sink.old.common ++ map shown_label own.now;
+      labels = common.now.labels ++ map shown_label own.now;
       value = value_of value;
       time = time;
       exemplar = option_map exemplar_of exemplar;
     } ∷ [])) }
     ensures memory { IfErr result (λ e. e ≡ EncodeError.Memory) }
 {
-    sink.push(name, kind, own, value, time, exemplar)
+    sink.push(name, kind, common, own, value, time, exemplar)
+}
+
+// Reads a member's labels behind the constant ones, for a sink's next samples to have.
+fn read_labels<LS: EncodeLabelSet>(
+    encoder: &mut LabelSetEncoder,
+    sink: &mut Sink,
+    constants: &ConstantLabels,
+    labels: &LS,
+) -> Result<(), EncodeError>
+    requires { constants.now.metric_type ≡ encoder.old.metric_type }
+    ensures type_kept { encoder.new.metric_type ≡ encoder.old.metric_type }
+    ensures output { sink.new.output ≡ sink.old.output }
+    ensures shared { OnOk result (AreShared encoder.new.labels sink.new.shared) }
+    ensures gathered { let all = handed_again constants.now.labels ++ LS.labels labels.now in
+        MatchResult result
+        (λ _. LabelsClean encoder.old.metric_type [] all × (encoder.new.labels ≡ all_written all))
+        (λ k. OwnRefusal (LS.may_fault labels.now) k ⊎ LabelsFault k encoder.old.metric_type [] all) }
+{
+    constants.followed_by(encoder, labels)?;
+    match sink.share(encoder.text()) {
+        Ok(()) => Ok(()),
+        Err(_) => Err(EncodeError::Memory),
+    }
 }
 
 impl PointEncoder {
@@ -122,7 +150,7 @@ impl PointEncoder {
     ) -> PointEncoder
         requires name { IsSnakeCase (string_bytes name) }
         requires time { IfSome time AreMillis }
-        requires common { sink.common ≡ [] }
+        requires shared { AreShared [] sink.shared }
         ensures { result ≡ record {
           setting = record { name = string_bytes name; metric_type = metric_type; time = time };
           common = [];
@@ -134,8 +162,8 @@ impl PointEncoder {
         PointEncoder {
             alloc,
             name,
-            metric_type,
             time,
+            labels: LabelSetEncoder::new(alloc, metric_type),
             deferred: None,
             sink,
             refused: None,
@@ -158,7 +186,7 @@ impl PointEncoder {
         if let Some(error) = self.refused {
             return Err(error);
         }
-        if metric_type != self.metric_type {
+        if metric_type != self.labels.metric_type() {
             return self.refuse(EncodeError::KindMismatch);
         }
         if let Some(error) = self.deferred {
@@ -191,8 +219,9 @@ impl PointEncoder {
         match push_to(
             &mut self.sink,
             self.name.as_str(),
-            self.metric_type,
+            self.labels.metric_type(),
             kind,
+            self.labels.text(),
             own,
             value,
             self.time,
@@ -335,7 +364,7 @@ impl PointEncoder {
         ensures tested { TestsStates is_empty self.old self.new }
         ensures answered { result ≡ answer self.new.refused }
     {
-        if !is_empty && self.sink.common().has_name(self.name.as_str()) {
+        if !is_empty && self.labels.text().has_name(self.name.as_str()) {
             return self.refuse(EncodeError::DuplicateLabel);
         }
         Ok(())
@@ -368,8 +397,9 @@ impl PointEncoder {
         match push_to(
             &mut self.sink,
             self.name.as_str(),
-            self.metric_type,
+            self.labels.metric_type(),
             SampleKind::Plain,
+            self.labels.text(),
             &own,
             value,
             self.time,
@@ -387,22 +417,14 @@ impl PointEncoder {
         ensures answered { result ≡ answer self.new.refused }
     {
         self.begin_point(MetricType::Info)?;
-        let spare = self.sink.take_spare();
-        let all = match labels_behind(spare, self.metric_type, self.sink.common(), labels) {
-            Ok(all) => all,
-            Err(error) => return self.refuse(error),
-        };
-        match all.pairs(self.alloc, self.sink.common().len()) {
+        let mut all = LabelSetEncoder::new(self.alloc, self.labels.metric_type());
+        if let Err(error) = labels_behind(&mut all, self.labels.text(), labels) {
+            return self.refuse(error);
+        }
+        match all.text().pairs(self.alloc, self.labels.text().len()) {
             Ok(own) => self.push_labeled(SampleKind::Info, &own, Value::Whole(1), None),
             Err(_) => self.refuse(EncodeError::Memory),
         }
-    }
-
-    // Memory for the labels of the next member: some labels, of which nothing is known.
-    pub(crate) fn take_spare(&mut self) -> LabelText
-        ensures { self.new ≡ self.old }
-    {
-        self.sink.take_spare()
     }
 
     pub(crate) fn refused(&self) -> Option<EncodeError>
@@ -411,23 +433,22 @@ impl PointEncoder {
         self.refused
     }
 
-    // Takes the common labels of the next points, or keeps their refusal for the first of them.
-    pub(crate) fn begin_member(&mut self, read: Result<LabelText, EncodeError>)
-        requires labels { IfOk read (λ ls. AreLabels (ls.labels)) }
-        requires free { IfOk read (λ ls. AreFree self.old.setting.metric_type (ls.labels)) }
-        ensures setting { self.new.setting ≡ self.old.setting }
-        ensures output { self.new.output ≡ self.old.output }
-        ensures refused { self.new.refused ≡ self.old.refused }
-        ensures read { MatchResult read
-            (λ ls. ((self.new.deferred ≡ None) × (self.new.common ≡ ls.labels)) ⊎ (self.new.deferred ≡ Some EncodeError.Memory))
-            (λ k. self.new.deferred ≡ Some k) }
+    // Reads the common labels of the next points, or keeps their refusal for the first of them.
+    pub(crate) fn begin_member<LS: EncodeLabelSet>(
+        &mut self,
+        constants: &ConstantLabels,
+        labels: &LS,
+    )
+        requires { constants.now.metric_type ≡ self.old.setting.metric_type }
+        ensures { BeginsMember (handed_again constants.now.labels ++ LS.labels labels.now) (LS.may_fault labels.now) self.old self.new }
     {
-        match read {
-            Ok(common) => match self.sink.share(common) {
-                Ok(()) => self.deferred = None,
-                Err(_) => self.deferred = Some(EncodeError::Memory),
-            },
-            Err(error) => self.deferred = Some(error),
+        match read_labels(&mut self.labels, &mut self.sink, constants, labels) {
+            Ok(()) => self.deferred = None,
+            Err(error) => {
+                self.labels.clear();
+                self.sink.unshare();
+                self.deferred = Some(error);
+            }
         }
     }
 

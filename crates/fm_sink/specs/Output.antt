@@ -1,8 +1,7 @@
 -- What a sink makes of the samples that it takes: it keeps them, or appends their lines to a text.
-use Rattle.std.specs.Prelude.{List, ◌++◌, Option, Some, None}
+use Rattle.std.specs.Prelude.{◌≡◌, List, ◌++◌, Option, Some, None, IfSome}
 use Rattle.fm_grammar.specs.Exposition.{Text, Label, Sample}
 use Rattle.fm_text.specs.Rows.{sample_rows}
-use Rattle.fm_text.specs.Points.{Stored}
 
 -- the samples so far, or the text so far
 pub data Output : Type 0 where
@@ -14,28 +13,26 @@ abbrev pub appended : Text → Output → List Sample → Output
 appended name (OutputSamples before) samples = OutputSamples (before ++ samples)
 appended name (OutputText before) samples = OutputText (before ++ sample_rows name samples)
 
--- what contracts see of a sink: the common labels of the next samples, and the output so far
+-- What contracts see of a sink: the labels that the next samples share, where it keeps samples and can take them, and the output so
+-- far.
 pub record SinkState : Type 0 where
-  pub common : List Label
+  pub shared : Option (List Label)
   pub output : Output
 
--- what contracts see of lines: the common labels of the next samples, and the text so far
+-- samples under these common labels may go to a sink
+abbrev pub AreShared : List Label → Option (List Label) → Type 0
+AreShared common shared = IfSome shared (λ labels. labels ≡ common)
+
+-- what contracts see of lines: the text so far
 pub record LinesState : Type 0 where
-  pub common : List Label
   pub text : Text
 
--- the samples of a sink that keeps them
-abbrev pub stored_from : List Label → Output → Option Stored
-stored_from common (OutputSamples samples) = Some (record { common = common; samples = samples })
-stored_from common (OutputText text) = None
+-- the samples of an output that keeps them
+abbrev pub samples_in : Output → Option (List Sample)
+samples_in (OutputSamples samples) = Some samples
+samples_in (OutputText text) = None
 
-abbrev pub stored_in : SinkState → Option Stored
-stored_in sink = stored_from sink.common sink.output
-
--- the lines of a sink that appends them
-abbrev pub lines_from : List Label → Output → Option LinesState
-lines_from common (OutputSamples samples) = None
-lines_from common (OutputText text) = Some (record { common = common; text = text })
-
-abbrev pub lines_in : SinkState → Option LinesState
-lines_in sink = lines_from sink.common sink.output
+-- the lines of an output that has them
+abbrev pub lines_in : Output → Option LinesState
+lines_in (OutputSamples samples) = None
+lines_in (OutputText text) = Some (record { text = text })

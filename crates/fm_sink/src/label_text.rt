@@ -254,7 +254,8 @@ impl LabelText {
 
     /// Takes copies of these labels in place of its own. It may find no memory; then it has any labels.
     pub fn assign(&mut self, labels: &LabelText) -> Result<(), AllocError>
-        ensures { OnOk result (self.new ≡ record { labels = labels.now.labels; name = None; value = None }) }
+        ensures assigned { OnOk result (self.new ≡ record { labels = labels.now.labels; name = None; value = None }) }
+        ensures idle { (self.new.name ≡ None) × (self.new.value ≡ None) }
     {
         self.is_listed = false;
         self.places.clear();

@@ -13,17 +13,13 @@ use fm_grammar::{MetricType, SampleKind};
 use fm_text::{Exemplar, Value};
 use std::alloc::{AllocError, Global};
 use std::marker::Model;
-use std::mem;
 
-/// Lines so far, and the common labels of the next samples.
+/// Lines so far.
 ///
 /// Where there is no memory for a line, a part of it may stand at the end.
 #[derive(Drop)]
 pub struct Lines {
     text: GrowingText,
-    common: LabelText,
-    // The memory of the common labels before, which goes from family to family.
-    spare: LabelText,
 }
 
 impl Model for Lines {
@@ -31,18 +27,16 @@ impl Model for Lines {
 
     ghost Value = { LinesState };
 
-    ghost view = { λ l. record { common = l.common.labels; text = l.text } };
+    ghost view = { λ l. record { text = l.text } };
 }
 
 impl Lines {
-    /// No lines and no common labels.
+    /// No lines.
     pub fn new(alloc: Global) -> Lines
-        ensures { result ≡ record { common = []; text = [] } }
+        ensures { result ≡ record { text = [] } }
     {
         Lines {
             text: GrowingText::new(alloc),
-            common: LabelText::new(alloc),
-            spare: LabelText::new(alloc),
         }
     }
 
@@ -55,8 +49,7 @@ impl Lines {
 
     /// Appends bytes. It may find no memory.
     pub fn append(&mut self, bytes: &[u8]) -> Result<(), AllocError>
-        ensures common { self.new.common ≡ self.old.common }
-        ensures grown { OnOk result (Grown self.old.text self.new.text bytes.now) }
+        ensures { OnOk result (Grown self.old.text self.new.text bytes.now) }
     {
         self.text.append(bytes)
     }
@@ -69,8 +62,7 @@ impl Lines {
         help: &str,
         unit: Option<&str>,
     ) -> Result<(), AllocError>
-        ensures common { self.new.common ≡ self.old.common }
-        ensures grown { OnOk result (Grown self.old.text self.new.text (head_rows (record {
+        ensures { OnOk result (Grown self.old.text self.new.text (head_rows (record {
           name = name.now;
           metric_type = metric_type;
           help = help.now;
@@ -81,48 +73,20 @@ impl Lines {
         append_heads(&mut self.text, name, metric_type, help, unit)
     }
 
-    /// The common labels of the next samples.
-    pub fn common(&self) -> &LabelText
-        ensures { result.now.labels ≡ self.now.common }
-    {
-        &self.common
-    }
-
-    /// Forgets the common labels: the next samples have none.
-    pub fn share_none(&mut self)
-        ensures { self.new ≡ record self.old { common = [] } }
-    {
-        self.common.clear();
-    }
-
-    /// Memory for labels that are to be shared: some labels, of which nothing is known.
-    pub fn take_spare(&mut self, alloc: Global) -> LabelText
-        ensures { self.new ≡ self.old }
-    {
-        mem::replace(&mut self.spare, LabelText::new(alloc))
-    }
-
-    /// Takes the common labels of the next samples.
-    pub fn share(&mut self, common: LabelText)
-        ensures { self.new ≡ record self.old { common = common.labels } }
-    {
-        self.spare = mem::replace(&mut self.common, common);
-    }
-
     /// Appends the line of a sample whose own labels come after the common ones. It may find no memory.
     pub fn push(
         &mut self,
         name: &str,
         kind: SampleKind,
+        common: &LabelText,
         own: &[(&str, &str)],
         value: Value,
         time: Option<u128>,
         exemplar: Option<&Exemplar>,
     ) -> Result<(), AllocError>
-        ensures common { self.new.common ≡ self.old.common }
-        ensures pushed { OnOk result (Grown self.old.text self.new.text (sample_row name.now (record {
+        ensures { OnOk result (Grown self.old.text self.new.text (sample_row name.now (record {
           kind = kind;
-          labels = self.old.common ++ map shown_label own.now;
+          labels = common.now.labels ++ map shown_label own.now;
           value = value_of value;
           time = time;
           exemplar = option_map exemplar_at exemplar.entry;
@@ -132,7 +96,7 @@ impl Lines {
             &mut self.text,
             name,
             kind,
-            &self.common,
+            common,
             own,
             &value,
             time,

@@ -1,9 +1,9 @@
 //! Where encoders put the samples of a family.
-ghost use Rattle.std.specs.Prelude.{◌≡◌, ◌++◌, [], ◌∷◌, map, OnOk, OnErr, IfOk, IfErr};
+ghost use Rattle.std.specs.Prelude.{◌≡◌, ◌++◌, None, Some, [], ◌∷◌, map, OnOk, OnErr, IfOk, IfErr};
 ghost use Rattle.std.specs.Option.{option_map};
 ghost use Rattle.fm_text.specs.declared.error.EncodeError.{EncodeError};
 ghost use Rattle.fm_text.specs.Samples.{labels_of, shared_labels, shown_label, value_of, exemplar_of};
-ghost use Rattle.fm_sink.specs.Output.{OutputSamples, OutputText, appended, stored_in, lines_in};
+ghost use Rattle.fm_sink.specs.Output.{OutputSamples, OutputText, AreShared, appended, samples_in, lines_in};
 
 use crate::label_text::LabelText;
 use crate::lines::Lines;
@@ -11,13 +11,12 @@ use fm_grammar::SampleKind;
 use fm_text::{CommonLabels, EncodeError, Exemplar, SampleStore, Value};
 use std::alloc::{AllocError, Global};
 use std::marker::Model;
-use std::mem;
 use std::sync::Arc;
 
 #[derive(Drop)]
 enum Form {
-    // The samples, and the common labels of the next ones.
-    Samples(SampleStore, LabelText),
+    // The samples, and whether the next ones share the store's common labels.
+    Samples(SampleStore, bool),
     Lines(Lines),
 }
 
@@ -52,81 +51,61 @@ fn shared(alloc: Global, labels: &LabelText) -> Result<CommonLabels, AllocError>
 pub struct Sink {
     alloc: Global,
     form: Form,
-    // The memory of the common labels before, of samples that are kept.
-    spare: LabelText,
 }
 
 impl Model for Sink {
     ghost use Rattle.fm_sink.specs.Output.{SinkState};
-    ghost use Rattle.fm_sink.specs.Forms.{state_of, SharesLabels};
+    ghost use Rattle.fm_sink.specs.Forms.{state_of};
 
     ghost Value = { SinkState };
 
     ghost view = { λ s. state_of s.form };
-
-    ghost invariant = { λ s. SharesLabels s.form };
 }
 
 impl Sink {
-    /// A sink that keeps samples. It may find no memory.
+    /// A sink that keeps samples. The next ones share no labels. It may find no memory.
     pub fn samples(alloc: Global) -> Result<Sink, AllocError>
-        ensures { IfOk result (λ sink. sink ≡ record { common = []; output = OutputSamples [] }) }
+        ensures { IfOk result (λ sink. sink ≡ record { shared = Some []; output = OutputSamples [] }) }
     {
         let common = Arc::new(alloc, Vec::new(alloc))?;
         Ok(Sink {
             alloc,
-            form: Form::Samples(SampleStore::new(alloc, common), LabelText::new(alloc)),
-            spare: LabelText::new(alloc),
+            form: Form::Samples(SampleStore::new(alloc, common), true),
         })
     }
 
-    /// A sink that appends lines. The next samples have no common labels.
+    /// A sink that appends lines.
     pub fn lines(alloc: Global, lines: Lines) -> Sink
-        ensures { result ≡ record { common = []; output = OutputText lines.text } }
+        ensures { result ≡ record { shared = None; output = OutputText lines.text } }
     {
-        let mut lines = lines;
-        lines.share_none();
         Sink {
             alloc,
             form: Form::Lines(lines),
-            spare: LabelText::new(alloc),
         }
     }
 
-    /// The labels that the next samples share.
-    pub fn common(&self) -> &LabelText
-        ensures { result.now.labels ≡ self.now.common }
-    {
-        match &self.form {
-            Form::Samples(_, common) => common,
-            Form::Lines(lines) => lines.common(),
-        }
-    }
-
-    /// Memory for labels that are to be shared: some labels, of which nothing is known.
-    pub fn take_spare(&mut self) -> LabelText
-        ensures { self.new ≡ self.old }
-    {
-        match &mut self.form {
-            Form::Samples(_, _) => mem::replace(&mut self.spare, LabelText::new(self.alloc)),
-            Form::Lines(lines) => lines.take_spare(self.alloc),
-        }
-    }
-
-    /// Ends the point. The samples of the next points share these labels. Where there is no memory the common labels stay.
-    pub fn share(&mut self, common: LabelText) -> Result<(), AllocError>
+    /// Ends the point. The next samples have these common labels, of which samples that are kept share a copy. Where there is no
+    /// memory the sink takes no samples until labels are shared again.
+    pub fn share(&mut self, common: &LabelText) -> Result<(), AllocError>
         ensures output { self.new.output ≡ self.old.output }
-        ensures common { OnOk result (self.new.common ≡ common.labels) }
-        ensures kept { OnErr result (self.new ≡ self.old) }
+        ensures shared { OnOk result (AreShared common.now.labels self.new.shared) }
+        ensures none { OnErr result (self.new.shared ≡ None) }
     {
-        match &mut self.form {
-            Form::Samples(store, before) => {
-                store.share(shared(self.alloc, &common)?);
-                self.spare = mem::replace(before, common);
-            }
-            Form::Lines(lines) => lines.share(common),
+        self.unshare();
+        if let Form::Samples(store, is_shared) = &mut self.form {
+            store.share(shared(self.alloc, common)?);
+            *is_shared = true;
         }
         Ok(())
+    }
+
+    /// A sink that keeps samples takes none until labels are shared again.
+    pub fn unshare(&mut self)
+        ensures { self.new ≡ record self.old { shared = None } }
+    {
+        if let Form::Samples(_, is_shared) = &mut self.form {
+            *is_shared = false;
+        }
     }
 
     /// Ends the point: the next sample begins another one, under the same common labels.
@@ -138,23 +117,25 @@ impl Sink {
         }
     }
 
-    /// Takes a sample of the family with this printed name. Its own labels come after the common ones; the time is in
-    /// milliseconds.
+    /// Takes a sample of the family with this printed name. Its own labels come after the common ones, which are those that were
+    /// shared; the time is in milliseconds.
     ///
     /// It may find no memory; then a part of a line may stand at the end of a text.
     pub fn push(
         &mut self,
         name: &str,
         kind: SampleKind,
+        common: &LabelText,
         own: &[(&str, &str)],
         value: Value,
         time: Option<u128>,
         exemplar: Option<Exemplar>,
     ) -> Result<(), EncodeError>
-        ensures common { self.new.common ≡ self.old.common }
+        requires shared { AreShared common.now.labels self.old.shared }
+        ensures shared { self.new.shared ≡ self.old.shared }
         ensures pushed { OnOk result (self.new.output ≡ appended name.now self.old.output (record {
           kind = kind;
-          labels = self.old.common ++ map shown_label own.now;
+          labels = common.now.labels ++ map shown_label own.now;
           value = value_of value;
           time = time;
           exemplar = option_map exemplar_of exemplar;
@@ -162,12 +143,13 @@ impl Sink {
         ensures memory { IfErr result (λ e. e ≡ EncodeError.Memory) }
     {
         match &mut self.form {
-            Form::Samples(store, _) => match owned_labels(self.alloc, own) {
+            Form::Samples(_, false) => Err(EncodeError::Memory),
+            Form::Samples(store, true) => match owned_labels(self.alloc, own) {
                 Ok(own) => store.push(kind, own, value, time, exemplar),
                 Err(_) => Err(EncodeError::Memory),
             },
             Form::Lines(lines) => {
-                match lines.push(name, kind, own, value, time, exemplar.as_ref()) {
+                match lines.push(name, kind, common, own, value, time, exemplar.as_ref()) {
                     Ok(()) => Ok(()),
                     Err(_) => Err(EncodeError::Memory),
                 }
@@ -177,7 +159,7 @@ impl Sink {
 
     /// The samples, or None where the sink appends lines.
     pub fn into_samples(self) -> Option<SampleStore>
-        ensures { result ≡ stored_in self }
+        ensures { option_map (λ stored. stored.samples) result ≡ samples_in self.output }
     {
         let Sink { form, .. } = self;
         match form {
@@ -188,7 +170,7 @@ impl Sink {
 
     /// The lines, or None where the sink keeps samples.
     pub fn into_lines(self) -> Option<Lines>
-        ensures { result ≡ lines_in self }
+        ensures { result ≡ lines_in self.output }
     {
         let Sink { form, .. } = self;
         match form {

@@ -77,7 +77,7 @@ impl PointEncoder {
         ensures begun { BeginsBuckets metric_type buckets slots self.old self.new }
         ensures answered { result ≡ answer self.new.refused }
     {
-        if self.refused.is_none() && metric_type == self.metric_type && buckets != slots {
+        if self.refused.is_none() && metric_type == self.labels.metric_type() && buckets != slots {
             return self.refuse(EncodeError::ExemplarCountMismatch);
         }
         self.begin_point(metric_type)

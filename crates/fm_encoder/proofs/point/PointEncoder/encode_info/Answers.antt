@@ -5,11 +5,11 @@ use Rattle.fm_encoder.proofs.NameLemmas.{AreLabels-behind, own_of_all}
 use Rattle.fm_encoder.proofs.point.PointEncoder.encode_info.Goals as goal
 
 pub push_labeled-requires-clause-labels : goal.push_labeled-requires-clause-labels
-push_labeled-requires-clause-labels g c = λ h _.
-    (let common = c.take_spare-spare.new.self.common in
+push_labeled-requires-clause-labels g c = rw (← c.self.view_is) (λ h _.
+    (let common = c.self.inside.labels.labels in
     let handed = g.LS.EncodeLabelSet.labels c.args.labels.now in
-    let all = c.in-Ok.all.labels in
-    let behind = rw (c.common.ensures) at c.in-Ok.ensures in
-    let count = c.len.ensures ∙ ap length c.common-2.ensures in
-    let own = ap (map shown_label) c.deref.ensures.value ∙ (c.in-Ok-pairs.ensures ∙ (ap (λ (n : ℕ). drop n all) count ∙ own_of_all common all (all_written handed) behind.1)) in
-    AreLabels-behind _ common _ handed h behind.0 (ap (λ ls. common ++ ls) own))
+    let all = c.text-2.result.now.labels in
+    let behind = rw (c.text.ensures) at c.in_default.ensures.gathered in
+    let count = c.len.ensures ∙ ap length c.text-3.ensures in
+    let own = ap (map shown_label) c.deref.ensures.value ∙ (c.in-Ok.ensures ∙ (ap (λ (n : ℕ). drop n all) count ∙ own_of_all common all (all_written handed) (c.text-2.ensures ∙ behind.1))) in
+    AreLabels-behind _ common _ handed h behind.0 (ap (λ ls. common ++ ls) own)))

@@ -8,4 +8,4 @@ use Rattle.fm_encoder.proofs.point.PointEncoder.push_labeled.Goals as goal
 pub push_to-requires-clause-labels : goal.push_to-requires-clause-labels
 push_to-requires-clause-labels c =
     let behind = subst (λ (p : GatheredPoints). AreLabels p.common → AreFree p.setting.metric_type p.common → AreLabels (p.common ++ map shown_label c.args.own.now)) (sym c.self.view_is) c.requires.labels in
-    behind c.self.invariant.labels c.self.invariant.free
+    rw c.text.ensures (behind c.self.invariant.labels c.self.invariant.free)

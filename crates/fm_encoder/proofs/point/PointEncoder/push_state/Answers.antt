@@ -8,7 +8,7 @@ use Rattle.fm_encoder.proofs.point.PointEncoder.push_state.Goals as goal
 pub push_to-requires-clause-labels : goal.push_to-requires-clause-labels
 push_to-requires-clause-labels c =
     let inside = c.self.inside in
-    let before = inside.sink.common in
+    let before = inside.labels.labels in
     let text = c.args.state.now.0.now in
     let fresh = subst (λ (p : GatheredPoints). ¬ (Contains (label_names p.common) p.setting.name)) (sym c.self.view_is) c.requires.fresh in
-    AreLabels-named before _ (record { name = string_bytes inside.name; value = text }) c.self.invariant.labels c.self.invariant.name fresh (ap (λ (n : Text). before ++ record { name = n; value = text } ∷ []) c.as_str.ensures.value)
+    rw c.text.ensures (AreLabels-named before _ (record { name = string_bytes inside.name; value = text }) c.self.invariant.labels c.self.invariant.name fresh (ap (λ (n : Text). before ++ record { name = n; value = text } ∷ []) c.as_str.ensures.value))

@@ -11,8 +11,8 @@ invariant_of-self-2 c =
     let places : c.replace_places.new.places.items ≡ other.places.items = c.in_ok-replace_places.ensures.replaced ∙ c.as_slice-2.ensures.value in
     kept_copied other.is_listed next.result _ _ _ _ other.name other.value next.ensures texts places c.labels.invariant
 
-pub returns : goal.returns
-returns c =
+pub returns-clause-assigned : goal.returns-clause-assigned
+returns-clause-assigned c =
     let other = c.labels.inside in
     let texts : c.append.new.self ≡ other.text = rw (c.clear-2.ensures, c.as_slice.ensures) at c.in_ok-append.ensures.grown.bytes in
     let places : c.replace_places.new.places.items ≡ other.places.items = c.in_ok-replace_places.ensures.replaced ∙ c.as_slice-2.ensures.value in

@@ -1,0 +1,19 @@
+use Rattle.std.proofs.Common.{sym, subst, []}
+use Rattle.fm_grammar.specs.declared.MetricType.{MetricType}
+use Rattle.fm_grammar.specs.WellFormed.{AreLabels}
+use Rattle.fm_encoder.specs.Labels.{AreFree}
+use Rattle.fm_encoder.proofs.NameLemmas.{AreLabels-written, AreFree-written}
+use Rattle.fm_encoder.proofs.point.PointEncoder.begin_member.Goals as goal
+
+pub invariant_of-self : goal.invariant_of-self
+invariant_of-self g c =
+    let read = c.in-Ok.ensures in
+    let type = c.self.inside.labels.metric_type in
+    let labels = c.read_labels.new.encoder.labels in
+    record {
+      name = c.self.invariant.name;
+      labels = subst AreLabels (sym read.gathered.1) (AreLabels-written type _ read.gathered.0);
+      free = subst (λ (t : MetricType). AreFree t labels) (sym read.type_kept) (subst (AreFree type) (sym read.gathered.1) (AreFree-written type [] _ read.gathered.0));
+      shared = read.shared;
+      time = c.self.invariant.time;
+    }
