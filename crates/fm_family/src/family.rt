@@ -24,8 +24,8 @@ struct Shared<LS: Eq + Hash, M, MF, S: BuildHasher> {
     factory: MF,
 }
 
-/// Metrics of one type by label set, behind a lock. The clones of a family share them. The factory `MF` makes a metric
-/// when its label set is first used. The exposition has the members in the order in which they were made.
+/// Metrics of one type by label set, protected by a lock. The clones of a family share them. The factory `MF` makes a
+/// metric when its label set is first used. The exposition has the members in the order in which they were made.
 ///
 /// A call waits while another thread makes a metric, and a call that makes a metric waits for all others. Neither the
 /// factory nor a closure that borrows a metric may call the same family: it would wait for ever. For the hasher `S` see
@@ -139,7 +139,7 @@ impl<LS: Eq + Hash + Drop, M: Drop, MF: Drop, S: BuildHasher + Drop, H: Wait + C
     }
 }
 
-/// Shows the name of the type only, since the members are behind the lock.
+/// Shows the name of the type only, since the members are protected by the lock.
 impl<LS: Eq + Hash, M, MF, S: BuildHasher, H: Wait> Debug for Family<LS, M, MF, S, H> {
     fn fmt<W: fmt::Write>(&self, f: &mut Formatter<W>) -> fmt::Result {
         f.debug_struct("Family").finish_non_exhaustive()

@@ -127,7 +127,7 @@ impl<LS: Clone + Eq + Hash + Drop, M: Drop, S: BuildHasher> FamilyCore<LS, M, S>
 
 impl<LS: EncodeLabelSet + Eq + Hash, M: EncodePoint, S: BuildHasher> FamilyCore<LS, M, S> {
     /// Encodes each metric's points under its labels, in order, up to the first error, which is returned. It waits if a
-    /// metric is behind a lock.
+    /// metric is protected by a lock.
     pub fn encode_members(&self, encoder: &mut MetricEncoder) -> Result<(), EncodeError>
         ensures offered { HandsMembers (OffersFirst LS.labels M.points self.now.members.entries)
             (Any (MayFault LS.may_fault M.may_fault) self.now.members.entries) encoder.old encoder.new result }

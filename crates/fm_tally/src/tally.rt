@@ -14,7 +14,7 @@ pub trait TallyKey: Ledger {}
 
 impl TallyKey for Brand {}
 
-// What is behind the lock. Its type says that whenever the lock is free, the book's sum is the sum of the amounts of
+// What the lock protects. Its type says that whenever the lock is free, the book's sum is the sum of the amounts of
 // all shares of this tally: a ledger's total is the sum of its tokens, each share has one, and the one kept here is 0.
 #[derive(Drop)]
 struct Kept<K: TallyKey> {
