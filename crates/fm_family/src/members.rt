@@ -106,8 +106,8 @@ impl<LS: Clone + Eq + Hash + Drop, M: Drop, S: BuildHasher> FamilyCore<LS, M, S>
 
     /// The metric of these labels. If there is none, the factory makes one, which is added as the last.
     ///
-    /// The factory is called only if there is none. Its error is returned; adding the metric fails with `Memory` if
-    /// there is none. At an error the metrics stay as they were. A clone of a label set must equal it.
+    /// The factory is called only if there is none. Its error is returned; if memory runs out, the error is `Memory`.
+    /// At an error the metrics stay as they were. A clone of a label set must equal it.
     pub fn get_or_new<MF: MetricFactory<M>>(
         &mut self,
         labels: &LS,

@@ -110,7 +110,7 @@ impl<K: TallyKey> Model for Tally<K> {
 
 impl<K: TallyKey> Tally<K> {
     /// A tally with the sum 0, and its `n` shares, which have the amount 0 and were told no total. The blank has one
-    /// part for each share and one for the tally. Fails with `Memory` if there is none.
+    /// part for each share and one for the tally. Fails with `Memory` if memory runs out.
     pub fn new(
         alloc: Global,
         blank: Blank,
