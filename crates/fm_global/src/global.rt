@@ -12,7 +12,7 @@ use std::sync::atomic::Ordering::SeqCst;
 use std::sync::{RwLock, Wait};
 use thiserror::Error;
 
-/// A global registry was set, or used, before.
+/// The registry can't be set: one was set or used before.
 #[derive(Clone, Copy, Debug, PartialEq, Eq, Error)]
 #[error("Global registry has already been initialized")]
 pub struct SetRegistryError;
