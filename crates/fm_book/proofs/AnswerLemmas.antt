@@ -1,4 +1,4 @@
--- What an answer tells, and the answers to calls below a subsystem.
+-- What a reply says, and the replies to calls below a subsystem.
 use Rattle.std.proofs.Common.{◌≡◌, ℕ, ◌+◌, nat_le, Bool, true, false, not, List, [], ◌∷◌, ◌++◌, map, length, Option, None, Some, is_some, ◌⊎◌, inl, inr, if◌then◌else◌, refl, sym, ap, ◌∙◌, true≢false, ◌&&◌, arith}
 use Rattle.fm_grammar.specs.NameTests.{is_snake_case, is_label_name}
 use Rattle.fm_grammar.specs.declared.MetricType.{MetricType}
@@ -178,7 +178,7 @@ module _ {M : Type 0} where
   asked_passed b p n labels h =
       (or_then-none (missing_name (missing_along b.calls [] p)) (subsystem_refusal (b.depth + length p) (metrics_at b.calls p) (children_at b.calls p) n labels) h).1
 
-  -- what a book answers to a call below a subsystem is what the subsystem's book answers
+  -- the reply of a book to a call below a subsystem is that of the subsystem's book
   pub answer-in_front : (b : Book M) (n : Text) (call : Call M) → has_name (children_at b.calls []) n ≡ true → answer b (in_front n call) ≡ answer (book_below b n) call
   answer-in_front b n (Register p r) there =
       rw there (λ i. or_then (missing_name (missing_along-calls_below b.calls n [] p i)) (metric_refusal (metrics_at-calls_below b.calls n p i) (children_at-calls_below b.calls n p i) r))

@@ -149,7 +149,7 @@ module _ {M : Type 0} where
   pub names_separate : (b : Book M) (p : Path) → IsBook b → AreSeparate (tails_of (metrics_at b.calls p)) (children_at b.calls p)
   names_separate b p h = separate_along b.calls (record b { calls = [] }) p h.accepted (record { different = tt; free = tt; apart = tt })
 
--- a printed name is the tail behind the namespace
+-- a name in the exposition is the tail after the namespace
 printed-tail : (namespace : Option Text) (name : Text) (unit : Option Text) → printed_name namespace name unit ≡ prefixed_name namespace (suffixed_name name unit)
 printed-tail None name unit = refl
 printed-tail (Some outer) name None = refl
@@ -159,18 +159,18 @@ one_behind : (namespace : Option Text) (a b : Text) → prefixed_name namespace 
 one_behind None a b e = e
 one_behind (Some outer) a b e = append_cancel_left (codes "_") a b (append_cancel_left outer (codes "_" ++ a) (codes "_" ++ b) e)
 
--- a text behind the namespace of a subsystem lies below its name, behind the namespace of its registry
+-- a text after the namespace of a subsystem is below its name, after the namespace of its registry
 behind_below : (namespace : Option Text) (n t : Text) → prefixed_name namespace n ++ (codes "_" ++ t) ≡ prefixed_name namespace (n ++ (codes "_" ++ t))
 behind_below None n t = refl
 behind_below (Some outer) n t = append_assoc outer (codes "_" ++ n) (codes "_" ++ t)
 
--- the name is behind the namespace, and below n
+-- the name comes after the namespace, and is below n
 record IsPrintedBelow (namespace : Option Text) (n name : Text) : Type 0 where
   tail : Text
   is : name ≡ prefixed_name namespace tail
   below : IsBelow n tail
 
--- where two names lead to one text, they are the same or one lies below the other
+-- if two names lead to one text, they are the same or one is below the other
 one_of : (n m r s : Text) → n ++ (codes "_" ++ r) ≡ m ++ (codes "_" ++ s) → (n ≡ m) ⊎ (IsBelow n m ⊎ IsBelow m n)
 one_of [] [] r s e = inl refl
 one_of [] (d ∷ m) r s e =
@@ -215,7 +215,7 @@ module _ (namespace : Option Text) (f : Text → List Text) (below : (n : Text) 
       later m true e = refl
       later m false e = e
 
-  -- a tail that lies below no subsystem is printed as none of them prints
+  -- a tail that is below no subsystem gives another name than all of theirs
   tail_differs : (t : Text) (ms : List Text) → AllByRecursion (λ m. ¬ (IsBelow m t)) ms → AllByRecursion (λ y. y ≢ prefixed_name namespace t) (flat_map f ms)
   tail_differs t [] free = tt
   tail_differs t (m ∷ ms) free =
@@ -231,7 +231,7 @@ module _ (namespace : Option Text) (f : Text → List Text) (below : (n : Text) 
     tails_differ ts ms (all_weaker (λ m. AllByRecursion (λ u. ¬ (IsBelow m u)) (t ∷ ts)) (λ m. AllByRecursion (λ u. ¬ (IsBelow m u)) ts) (λ m h. h.1) ms free),
   )
 
--- the name stands behind the namespace
+-- the name comes after the namespace
 abbrev IsBehind : Option Text → Text → Type 0
 IsBehind namespace name = (tail : Text) × (name ≡ prefixed_name namespace tail)
 
@@ -249,7 +249,7 @@ flat_behind namespace f (n ∷ ns) each =
     (all_weaker (IsBehind (Some (prefixed_name namespace n))) (IsBehind namespace) (λ name h. (n ++ (codes "_" ++ h.0), h.1 ∙ behind_below namespace n h.0)) (f n) (each n))
     (flat_behind namespace f ns each)
 
--- different tails behind one namespace
+-- different tails after one namespace
 different-behind : (namespace : Option Text) (ts : List Text) → AllDifferent ts → AllDifferent (map (prefixed_name namespace) ts)
 different-behind namespace [] h = tt
 different-behind namespace (t ∷ ts) h = (each ts h.0, different-behind namespace ts h.1)

@@ -38,7 +38,7 @@ pub enum RegistryError {
     /// The name of a subsystem is not in snake case.
     #[error("InvalidSubsystemName")]
     InvalidSubsystemName { name: String },
-    /// The name of a label is not valid: a letter or an underscore, and then letters, digits and underscores.
+    /// The name of a label is not a letter or an underscore, followed by letters, digits and underscores.
     #[error("InvalidLabelName")]
     InvalidLabelName { name: String },
     /// A label of a root has the name of an earlier one.

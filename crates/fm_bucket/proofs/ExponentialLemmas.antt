@@ -83,12 +83,12 @@ root_between (suc (suc root)) exponent power some above other is =
     (omega arith, omega (arith, least, e, is))
 root_between zero zero power some above other is = absurd (omega arith)
 
--- the number whose power is too small lies below the root
+-- the number whose power is too small is below the root
 pub root_above : (root middle exponent power : ℕ) → root ^ exponent ≡ power → middle ^ exponent < power → middle + 1 ≤ root
 root_above root middle exponent power is small =
     elim (cases_lt middle root) [ inl above ↦ omega arith | inr below ↦ absurd (omega (arith, pow-le-pow_left below exponent, is, small)) ]
 
--- and the number whose power is too great lies above it
+-- and the number whose power is too great is above it
 pub root_below : (root middle exponent power : ℕ) → root ^ exponent ≡ power → power < middle ^ exponent → root < middle
 root_below root middle exponent power is great =
     elim (cases_lt root middle) [ inl below ↦ below | inr above ↦ absurd (omega (arith, pow-le-pow_left above exponent, is, great)) ]

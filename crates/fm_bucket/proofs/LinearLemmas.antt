@@ -9,7 +9,7 @@ use Rattle.std.proofs.lemmas.Int.{ints, to_z-of_z}
 use Rattle.fm_raw.specs.Signed.{IsSigned}
 use Rattle.fm_bucket.specs.Bounds.{linear_bounds, FitLinear}
 
--- a list made by places, from the second place on
+-- a list made by index, from the second index on
 pub map_shifted : (f g : ℕ → ℤ) (a b n : ℕ) → ((i : ℕ) → f (a + i) ≡ g (b + i)) → map f (range_with_len a n) ≡ map g (range_with_len b n)
 map_shifted f g a b zero same = refl
 map_shifted f g a b (suc n) same =
@@ -64,7 +64,7 @@ magnitude_is : (z : ℤ) → pos 0 ≤ℤ z → pos (unsigned_abs z) ≡ z
 magnitude_is (pos n) h = refl
 magnitude_is (negsuc n) h = absurd (omega (arith, ints))
 
--- how far the greatest number lies above the start
+-- how far the greatest number is above the start
 pub room_is : (start next : ℤ) (room : ℕ) → FitsSigned w64 next → next ≡ start → room ≡ unsigned_abs (pos 9223372036854775807 -ℤ to_z w64 (of_z w64 next)) → pos room ≡ pos 9223372036854775807 -ℤ start
 room_is start next room fits same is =
     let e : to_z w64 (of_z w64 next) ≡ start = to_z-of_z w64 next fits ∙ same in

@@ -12,7 +12,7 @@ ghost use Rattle.fm_bucket.specs.contracts.bound.BoundOrd.TheImpl.{ghosts as ord
 use fm_raw::fixed::DEFAULT_BUCKETS;
 use fm_raw::{Fixed, FixedBuffer, FixedSum, MetricError};
 
-/// The name of the label whose value is a bucket's bound.
+/// The name of the label whose value is a bucket's bound (OpenMetrics, Histogram).
 pub const BUCKET_LABEL: &str = "le";
 
 /// A bucket's upper bound: a number, or none (`Inf`). Bounds are ordered as their numbers, and `Inf` is the greatest.

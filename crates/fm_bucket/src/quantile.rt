@@ -3,7 +3,7 @@ ghost use Rattle.std.specs.Prelude.{◌≡◌};
 
 use fm_raw::Fixed;
 
-/// The name of the label whose value is the quantile of a sample.
+/// The name of the label whose value is the quantile of a sample (OpenMetrics, Summary).
 pub const QUANTILE_LABEL: &str = "quantile";
 
 /// A quantile of observed values, mostly from 0 to 1, and its value. Neither is tested.

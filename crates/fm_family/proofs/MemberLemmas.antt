@@ -34,7 +34,7 @@ pub none_from_flags : {A B : Type 0} (a : Option A) (b : Option B) → is_some a
 none_from_flags a None e n = refl
 none_from_flags a (Some x) e n = cc (ap is_some n)
 
--- the place of the last of a list
+-- the index of the last of a list
 pub last_place : {X : Type 0} (xs ys : List X) (x : X) (i : ℕ) → i ≡ length xs → ys ≡ xs ++ x ∷ [] → i < length ys
 last_place {X} xs ys x i h e = omega (arith, simp length-append at (ap length e))
 
@@ -57,7 +57,7 @@ offers_first labels Points all pairs rest is ms offered = (length pairs, rw (is,
 pub first_different : {L M : Type 0} (eq : L → L → Bool) → IsEquivalence eq → (labels : L → List HandedLabel) (Points : M → List Point → Type 0) (pairs : List (L × M)) → IsDistinct eq (keys_of pairs) → (ms : List Member) → OffersFirst labels Points pairs ms → OffersDifferent eq labels Points ms
 first_different eq laws labels Points pairs different ms (n, offered) = (take n pairs, rw keys_of-take (distinct-take laws n (keys_of pairs) different), offered)
 
--- the encoder accepted where it answers `Ok`
+-- the encoder accepted if it returns `Ok`
 pub accepted : (refused : Option EncodeError) (r : Result (Unit {0}) EncodeError) → r ≡ Ok tt → r ≡ answer refused → refused ≡ None
 accepted None r ok is = refl
 accepted (Some k) r ok is = absurd cc
@@ -77,7 +77,7 @@ pub gets_added : {L M A : Type 0} (eq : L → L → Bool) (promises : Result M M
     → lookup (eq labels) old ≡ None → eq labels k ≡ true → promises (Ok m) → new ≡ old ++ (k, m) ∷ [] → tells a m → GetsOrAdds eq promises labels old new tells (Ok a)
 gets_added eq promises labels k old new tells a m gone same kept added told = rw gone (k, m, same, kept, added, told)
 
--- the same look-up, told in another way
+-- the same look-up, in another form
 pub gets_told : {L M A B : Type 0} (eq : L → L → Bool) (promises : Result M MetricError → Type 0) (labels : L) (old new : List (L × M)) (tells : A → M → Type 0) (says : B → M → Type 0) (a : A) (b : B)
     → ((m : M) → tells a m → says b m) → GetsOrAdds eq promises labels old new tells (Ok a) → GetsOrAdds eq promises labels old new says (Ok b)
 gets_told {L} {M} eq promises labels old new tells says a b from h = by (lookup (eq labels) old) h
@@ -87,12 +87,12 @@ gets_told {L} {M} eq promises labels old new tells says a b from h = by (lookup 
     by None h = (h.0, h.1, h.2, h.3, h.4, from h.1 h.5)
     by (Some m) h = (h.0, from m h.1)
 
--- a refusal of a look-up whose answer is of another kind
+-- a refusal of a look-up whose result is of another kind
 pub gets_refused : {L M A B : Type 0} (eq : L → L → Bool) (promises : Result M MetricError → Type 0) (labels : L) (old new : List (L × M)) (tells : A → M → Type 0) (says : B → M → Type 0) (e : MetricError)
     → GetsOrAdds {A = A} eq promises labels old new tells (Err e) → GetsOrAdds {A = B} eq promises labels old new says (Err e)
 gets_refused eq promises labels old new tells says e h = h
 
--- the place of the last pair holds its metric
+-- the index of the last pair has its metric
 pub holds_last : {L M : Type 0} (old new : List (L × M)) (k : L) (m : M) (place : ℕ) → place ≡ length old → new ≡ old ++ (k, m) ∷ [] → HoldsMetric new place m
 holds_last old new k m place at added = rw (at, added) (last_value old k m)
 

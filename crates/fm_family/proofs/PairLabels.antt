@@ -1,4 +1,4 @@
--- For families whose label sets are pairs of texts: clones of such label sets equal them, as `with_or_new` asks.
+-- For families whose label sets are pairs of texts: clones of such label sets equal them, as `with_or_new` requires.
 use Rattle.std.proofs.Common.{◌≡◌, ◌&&◌, Bool, true, List, [], ◌∷◌, refl, sym, Vec, String, Global}
 use Rattle.std.specs.List.{AllZip}
 use Rattle.std.specs.String.{string_bytes, string_eq}
@@ -6,7 +6,7 @@ use Rattle.std.specs.Cmp.Lexicographic.{pointwise}
 use Rattle.std.specs.Cmp.Derive.{both_true}
 use Rattle.std.proofs.lemmas.Slice.Eq.{bytes_eq-Decides}
 
--- lists are equal where their items are, place by place
+-- lists are equal if their items are, index by index
 pointwise_zip : {A : Type 0} (R : A → A → Type 0) (eq : A → A → Bool) → ((x y : A) → R x y → eq x y ≡ true) → (xs ys : List A) → AllZip R xs ys → pointwise eq xs ys ≡ true
 pointwise_zip R eq so [] [] h = refl
 pointwise_zip R eq so [] (y ∷ ys) h = absurd h

@@ -15,7 +15,7 @@ ClonesEqual {L} is_clone eq = (x y : L) → is_clone x y → eq x y ≡ true
 
 -- a look-up of a label set, which adds a pair if it is absent: for a metric that exists the result is as `tells` says,
 -- and the list stays; else a pair with a metric that the factory promises was added at the end and is the result, or
--- the list is as it was, and the error is of memory or one that the factory promises
+-- the list is as it was, and the error is `Memory` or one that the factory promises
 abbrev pub GetsOrAdds : {L M A : Type 0} → (L → L → Bool) → (Result M MetricError → Type 0) → L → List (L × M) → List (L × M) → (A → M → Type 0) → Result A MetricError → Type 0
 GetsOrAdds {L} {M} eq promises labels old new tells answer = MatchOption (lookup (eq labels) old)
     (MatchResult answer

@@ -11,8 +11,8 @@ use std::sync::Wait;
 
 /// Makes the metric of a label set when a family first needs it.
 ///
-/// Each closure without arguments that returns a `Result` of a metric or a `MetricError` is a factory. A family in a
-/// box needs a closure: a function pointer is refused there.
+/// Each closure without arguments that returns `Result<M, MetricError>` is a factory. A boxed family needs a closure: a
+/// function pointer is refused there.
 pub trait MetricFactory<M> {
     /// Holds of a factory that can be called.
     ghost is_ready: { Self → Type 0 };

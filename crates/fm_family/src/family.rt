@@ -24,8 +24,8 @@ struct Shared<LS: Eq + Hash, M, MF, S: BuildHasher> {
     factory: MF,
 }
 
-/// Metrics of one type by label set, behind a lock. The clones of a family share them. The factory `MF` makes a metric
-/// when its label set is first used. The exposition has the members in the order in which they were made.
+/// Metrics of one type by label set, protected by a lock. The clones of a family share them. The factory `MF` makes a
+/// metric when its label set is first used. The exposition has the members in the order in which they were made.
 ///
 /// A call waits while another thread makes a metric, and a call that makes a metric waits for all others. Neither the
 /// factory nor a closure that borrows a metric may call the same family: it would wait for ever. For the hasher `S` see
@@ -43,7 +43,7 @@ impl<
     S: BuildHasher + Default + Drop,
     H: Wait + Drop,
 > Family<LS, M, MF, S, H> {
-    /// A family without members, with this factory and the default hasher. Fails with `Memory` if there is none.
+    /// A family without members, with this factory and the default hasher. Fails with `Memory` if memory runs out.
     pub fn new(wait: H, alloc: Global, factory: MF) -> Result<Self, MetricError>
         ensures kept { IfOk result (λ f. (arc_value f.shared).factory ≡ factory) }
         ensures memory { IfErr result (λ e. e ≡ Memory) }
@@ -59,7 +59,7 @@ impl<LS: Eq + Hash + Drop, M: Drop, MF: Drop, S: BuildHasher + Drop, H: Wait + D
     S,
     H,
 > {
-    /// A family without members, with this factory and this hasher. Fails with `Memory` if there is none.
+    /// A family without members, with this factory and this hasher. Fails with `Memory` if memory runs out.
     pub fn with_hasher(wait: H, alloc: Global, factory: MF, hasher: S) -> Result<Self, MetricError>
         ensures kept { IfOk result (λ f. (arc_value f.shared).factory ≡ factory) }
         ensures memory { IfErr result (λ e. e ≡ Memory) }
@@ -92,9 +92,9 @@ impl<
     /// Calls `f` with the metric of these labels, and returns its result. If there is none, the factory makes one,
     /// which is added as the last member.
     ///
-    /// The factory is called only if there is none. Its error is returned; adding the metric fails with `Memory` if
-    /// there is none. At an error the members stay as they were. A clone of a label set must equal it. If the metric
-    /// exists, the call takes no memory, and locks for reading only.
+    /// The factory is called only if there is none. Its error is returned; if memory runs out, the error is `Memory`.
+    /// At an error the members stay as they were. A clone of a label set must equal it. If the metric exists, the call
+    /// takes no memory, and locks for reading only.
     pub fn with_or_new<R, F: FnOnce(&M) -> R>(&self, labels: &LS, f: F) -> Result<R, MetricError>
         requires ready { MF.is_ready (arc_value self.now.shared).factory }
         requires callable { F.IsAlwaysCallable f }
@@ -127,7 +127,7 @@ impl<
     }
 }
 
-/// Another handle of the same family. Cloning takes memory, and fails if there is none.
+/// Another handle of the same family. Cloning takes memory, and fails if memory runs out.
 impl<LS: Eq + Hash + Drop, M: Drop, MF: Drop, S: BuildHasher + Drop, H: Wait + Clone> Clone
     for Family<LS, M, MF, S, H> {
     ghost is_clone = { λ f g. arc_value g.shared ≡ arc_value f.shared };
@@ -139,7 +139,7 @@ impl<LS: Eq + Hash + Drop, M: Drop, MF: Drop, S: BuildHasher + Drop, H: Wait + C
     }
 }
 
-/// Shows the name of the type only, since the members are behind the lock.
+/// Shows the name of the type only, since the members are protected by the lock.
 impl<LS: Eq + Hash, M, MF, S: BuildHasher, H: Wait> Debug for Family<LS, M, MF, S, H> {
     fn fmt<W: fmt::Write>(&self, f: &mut Formatter<W>) -> fmt::Result {
         f.debug_struct("Family").finish_non_exhaustive()

@@ -106,8 +106,8 @@ impl<LS: Clone + Eq + Hash + Drop, M: Drop, S: BuildHasher> FamilyCore<LS, M, S>
 
     /// The metric of these labels. If there is none, the factory makes one, which is added as the last.
     ///
-    /// The factory is called only if there is none. Its error is returned; adding the metric fails with `Memory` if
-    /// there is none. At an error the metrics stay as they were. A clone of a label set must equal it.
+    /// The factory is called only if there is none. Its error is returned; if memory runs out, the error is `Memory`.
+    /// At an error the metrics stay as they were. A clone of a label set must equal it.
     pub fn get_or_new<MF: MetricFactory<M>>(
         &mut self,
         labels: &LS,
@@ -127,7 +127,7 @@ impl<LS: Clone + Eq + Hash + Drop, M: Drop, S: BuildHasher> FamilyCore<LS, M, S>
 
 impl<LS: EncodeLabelSet + Eq + Hash, M: EncodePoint, S: BuildHasher> FamilyCore<LS, M, S> {
     /// Encodes each metric's points under its labels, in order, up to the first error, which is returned. It waits if a
-    /// metric is behind a lock.
+    /// metric is protected by a lock.
     pub fn encode_members(&self, encoder: &mut MetricEncoder) -> Result<(), EncodeError>
         ensures offered { HandsMembers (OffersFirst LS.labels M.points self.now.members.entries)
             (Any (MayFault LS.may_fault M.may_fault) self.now.members.entries) encoder.old encoder.new result }

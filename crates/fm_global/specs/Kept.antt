@@ -1,4 +1,4 @@
--- What is kept behind the lock: a registry that reads some book.
+-- What the lock protects: a registry that reads some book.
 use Rattle.fm_registry.specs.HasBook.{HasBook}
 use Rattle.fm_global.specs.declared.global.Kept.TheInside.{Inside}
 

@@ -4,7 +4,7 @@ use Rattle.fm_book.specs.Tree.{Tree}
 use Rattle.fm_book.specs.declared.RegistryError.{RegistryError}
 use Rattle.fm_registry.specs.HasBook.{HasBook}
 
--- behind the lock was a registry that reads some book, and this was done there, with this result
+-- the lock protected a registry that reads some book, and this was done there, with this result
 pub record RegistersLocked {M : Type 0} (IsDone : Tree M → Tree M → Result (Unit {0}) RegistryError → Type 0) (result : Result (Unit {0}) RegistryError) : Type 0 where
   pub old : Tree M
   pub new : Tree M

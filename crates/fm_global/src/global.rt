@@ -1,4 +1,4 @@
-//! A registry that the whole program shares, behind a lock.
+//! A registry that the whole program shares, protected by a lock.
 
 ghost use Rattle.std.specs.Prelude.{◌≡◌};
 ghost use Rattle.std.specs.Fn.{FnOnceTakesAt, FnOnceTakesAtMut, FnOnceReturnsAt, FnOnceReturnsAtMut};
@@ -12,12 +12,12 @@ use std::sync::atomic::Ordering::SeqCst;
 use std::sync::{RwLock, Wait};
 use thiserror::Error;
 
-/// A global registry was set, or used, before.
+/// The registry can't be set: one was set or used before.
 #[derive(Clone, Copy, Debug, PartialEq, Eq, Error)]
 #[error("Global registry has already been initialized")]
 pub struct SetRegistryError;
 
-// The registry behind the lock, and whether it was set or used.
+// The registry protected by the lock, and whether it was set or used.
 #[derive(Drop)]
 pub(crate) struct Kept<M> {
     pub(crate) registry: Registry<M>,
@@ -53,8 +53,8 @@ impl<M> Kept<M> {
     }
 }
 
-/// A registry behind a lock, which several threads may read at once. It is empty until one is set. The first use fixes
-/// it: from then on `set_global_registry` fails.
+/// A registry protected by a lock, which several threads may read at once. It is empty until one is set. The first use
+/// fixes it: from then on `set_global_registry` fails.
 #[derive(Drop)]
 pub struct GlobalRegistry<M: Drop = Box<dyn EncodeMetric>> {
     pub(crate) kept: RwLock<Kept<M>>,

@@ -54,7 +54,7 @@ count_states : {T : Type 0} (eq : T → T → Bool) (all : List T) (text : T →
 count_states eq [] text c = refl
 count_states eq (x ∷ xs) text c = ap (λ n. cond (eq x c) (1 + n) n) (count_states eq xs text c)
 
--- where no two states are equal, one is told to be the current one
+-- if no two states are equal, exactly one is listed as the current one
 pub one_told : {T : Type 0} (eq : T → T → Bool) → IsPartialEquivalence eq → (all : List T) (text : T → List ℕ) (c : T) (told : List (Bor (List ℕ) × Bool))
     → IsState eq all c → map state_of told ≡ states_at eq all text c → AreDifferent eq all → count_by (λ p. p.1) told ≡ 1
 one_told {T} eq laws all text c told (i, x, at, equals) is apart =

@@ -35,7 +35,7 @@ pub struct Counter<N: CounterValue = u64> {
 
 impl<N: CounterValue> Counter<N> {
     /// A counter with the total 0, created at this time since the Unix epoch. It is written in whole milliseconds.
-    /// Fails with `Memory` if there is none.
+    /// Fails with `Memory` if memory runs out.
     pub fn with_created(alloc: Global, created: Duration) -> Result<Counter<N>, MetricError>
         ensures created { IfOk result (λ c. created_of c ≡ Some created) }
         ensures memory { IfErr result (λ e. e ≡ Memory) }
@@ -105,7 +105,7 @@ impl<N: CounterValue, H: Wait + Drop> TryDefault<H> for Counter<N> {
     }
 }
 
-/// Another handle of the same counter. Cloning takes memory, and fails if there is none.
+/// Another handle of the same counter. Cloning takes memory, and fails if memory runs out.
 impl<N: CounterValue> Clone for Counter<N> {
     ghost is_clone = { λ c d. arc_value d.count ≡ arc_value c.count };
 

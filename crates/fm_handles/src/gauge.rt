@@ -24,7 +24,7 @@ pub struct Gauge<N: GaugeValue = i64> {
 }
 
 impl<N: GaugeValue> Gauge<N> {
-    /// A gauge with this value. Fails with `Memory` if there is none.
+    /// A gauge with this value. Fails with `Memory` if memory runs out.
     pub fn new(alloc: Global, value: N) -> Result<Gauge<N>, MetricError>
         ensures { IfErr result (λ e. e ≡ Memory) }
     {
@@ -83,7 +83,7 @@ impl<N: GaugeValue, H: Wait + Drop> TryDefault<H> for Gauge<N> {
     }
 }
 
-/// Another handle of the same gauge. Cloning takes memory, and fails if there is none.
+/// Another handle of the same gauge. Cloning takes memory, and fails if memory runs out.
 impl<N: GaugeValue> Clone for Gauge<N> {
     ghost is_clone = { λ g h. arc_value h.value ≡ arc_value g.value };
 

@@ -111,7 +111,7 @@ impl<T: StateSetValue + 'static> CurrentState<T> for StateSet<T> {
 
 impl<T: StateSetValue + 'static> StateSet<T> {
     /// A state set whose current state is `state`. Errors, in this order: there are more than 256 states
-    /// (`TooManyStates`), no state equals `state` (`UnknownState`), there is no memory (`Memory`).
+    /// (`TooManyStates`), no state equals `state` (`UnknownState`), memory runs out (`Memory`).
     pub fn new(alloc: Global, state: T) -> Result<StateSet<T>, MetricError>
         ensures { MatchResult result (λ _. (length T.all ≤ MAX_STATES) × IsState T.eq T.all state) (IsRefusedAs T.eq T.all state) }
     {
@@ -139,7 +139,8 @@ impl<T: StateSetValue + 'static> StateSet<T> {
         self.current()
     }
 
-    /// Each state's text, in order, and whether the state equals the current one. Fails with `Memory` if there is none.
+    /// Each state's text, in order, and whether the state equals the current one. Fails with `Memory` if memory runs
+    /// out.
     pub fn states(&self) -> Result<Vec<(&str, bool)>, MetricError>
         ensures told { IfOk result (λ told. (current : T) × IsVariant T.eq T.all current × (map state_of told.items ≡ states_at T.eq T.all T.text current)) }
         ensures one { IfOk result (λ told. AreDifferent T.eq T.all → count_by (λ p. p.1) told.items ≡ 1) }
@@ -164,7 +165,7 @@ impl<T: StateSetValue + Default + 'static, H: Wait + Drop> TryDefault<H> for Sta
     }
 }
 
-/// Another handle of the same state set. Cloning takes memory, and fails if there is none.
+/// Another handle of the same state set. Cloning takes memory, and fails if memory runs out.
 impl<T: StateSetValue> Clone for StateSet<T> {
     ghost is_clone = { λ s t. arc_value t.place ≡ arc_value s.place };
 
@@ -256,7 +257,7 @@ impl<T: StateSetValue + 'static> ConstStateSet<T> {
         &self.state
     }
 
-    /// Each state's text, in order, and whether the state equals this one. Fails with `Memory` if there is none.
+    /// Each state's text, in order, and whether the state equals this one. Fails with `Memory` if memory runs out.
     pub fn states(&self) -> Result<Vec<(&str, bool)>, MetricError>
         ensures told { IfOk result (λ told. map state_of told.items ≡ states_at T.eq T.all T.text (kept_state self.now)) }
         ensures one { IfOk result (λ told. AreDifferent T.eq T.all → count_by (λ p. p.1) told.items ≡ 1) }
@@ -269,7 +270,7 @@ impl<T: StateSetValue + 'static> ConstStateSet<T> {
 impl<T: StateSetValue + Clone + 'static> ConstStateSet<T> {
     ghost use Rattle.fm_handles.specs.Handles.{kept_state};
 
-    /// A state set with a clone of the state, which must equal the state. Cloning fails if there is no memory.
+    /// A state set with a clone of the state, which must equal the state. Cloning fails if memory runs out.
     pub fn clone(&self) -> Result<ConstStateSet<T>, AllocError>
         requires { (state : T) → T.is_clone (kept_state self.now) state → T.eq (kept_state self.now) state ≡ true }
         ensures { IfOk result (λ s. T.is_clone (kept_state self.now) (kept_state s)) }

@@ -38,7 +38,7 @@ too_many taken f pieces i d bounds s t most h k l over =
 pub same_bounds : (taken : ℤ → Bool) (bounds xs ys : List ℤ) (s t : Histogram) → IsHistogram taken bounds xs s → IsHistogram taken bounds ys t → upper_bounds s.buckets ≡ upper_bounds t.buckets
 same_bounds taken bounds xs ys s t h k = rw (h.is, k.is) (upper_bounds_same None bounds (filter taken xs) (filter taken ys))
 
--- a list with a place has an element
+-- a list with an index has an element
 pub element : {X : Type 0} (xs : List X) (i : ℕ) → i < length xs → X
 element [] i h = absurd (omega arith)
 element (x ∷ xs) i h = x

@@ -1,4 +1,4 @@
--- Each part of an offer is clean, or a fault stands in it.
+-- Each part of an offer is valid, or it contains a fault.
 use Rattle.std.proofs.Common.{◌≡◌, ℕ, suc, ◌<◌, ◌≤◌, ◌⊎◌, ◌++◌, ◌==◌, List, [], ◌∷◌, length, Bool, true, false, inl, inr, refl, sym, true≢false, arith, codes}
 use Rattle.std.specs.Prelude.{Contains, bytes_eq, ◌^◌}
 use Rattle.std.specs.Bool.{Decides}
@@ -20,7 +20,7 @@ use Rattle.fm_bucket.specs.declared.bound.Bucket.{Bucket}
 use Rattle.fm_encoder.specs.Labels.{HandedLabel, NamePiece, ValuePiece, IsReserved, IsMalformed, NameFits, NameFault, LabelClean, LabelFault, LabelsClean, LabelsFault, label_names, all_written, written}
 use Rattle.fm_encoder.specs.Points.{HandedExemplar, Point, UnknownPoint, GaugePoint, CounterPoint, StateSetPoint, InfoPoint, HistogramPoint, GaugeHistogramPoint, SummaryPoint, Member, Setting, Context, NumberClean, NumberFault, ExemplarClean, ExemplarFault, BucketsClean, BucketsFault, PartsClean, PartsFault, PointClean, PointFault, SlotsDiffer, MemberClean, MemberFault, MembersClean, MembersFault, common_handed, common_written, values_in, type_of, point_samples}
 
--- some error names a fault that stands there
+-- some error names a fault that it contains
 abbrev pub SomeFault : (EncodeError → Type 0) → Type 0
 SomeFault Fault = (k : EncodeError) × Fault k
 
@@ -159,7 +159,7 @@ parts_or_fault setting common (HistogramPoint buckets slots count sum created) =
 parts_or_fault setting common (GaugeHistogramPoint buckets slots count sum) = buckets_point_or_fault setting common (GaugeHistogramPoint buckets slots count sum) buckets slots (λ clean. clean) (λ k fault. fault) (λ differ. differ)
 parts_or_fault setting common (SummaryPoint quantiles sum count created) = inl tt
 
--- a point's samples are well formed, where its parts are clean
+-- a point's samples are well formed if its parts are valid
 abbrev pub Forms : Setting → List Label → Point → Type 0
 Forms setting common point = type_of point ≡ setting.metric_type → PartsClean setting common point → AllByRecursion (IsSample setting.metric_type) (point_samples setting common point)
 
@@ -174,7 +174,7 @@ point_or_fault setting common point forms = elim (known _ (type_decides (type_of
 
 -- members
 
--- a member's samples are well formed, where its labels and the parts of its point are clean
+-- a member's samples are well formed if its labels and the parts of its point are valid
 abbrev pub MemberForms : Context → Member → Type 0
 MemberForms context member =
     LabelsClean context.setting.metric_type [] (common_handed context member) → Forms context.setting (common_written context member) member.point

@@ -1,4 +1,4 @@
--- The samples of a point are well formed, where its numbers are in range and its labels and its parts are clean.
+-- The samples of a point are well formed if its numbers are in range and its labels and its parts are valid.
 use Rattle.std.proofs.Common.{◌≡◌, ℕ, ℤ, pos, ◌<◌, ◌+◌, ◌^◌, ◌++◌, List, [], ◌∷◌, map, Bool, true, false, Option, codes, Some, None, IfSome, inl, inr, refl, sym, subst, append_assoc, append-nil, arith}
 use Rattle.std.specs.Prelude.{Contains}
 use Rattle.std.specs.List.{AllByRecursion}

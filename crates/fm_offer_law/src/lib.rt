@@ -1,4 +1,4 @@
-//! The law of what metrics offer: which offers are valid ("clean" in the definitions).
+//! A law of what metrics offer: an offer is valid exactly if it contains no fault.
 #![tactic(auto)]
 
 ghost use Rattle.std.specs.Prelude.{List, ◌⊎◌, ◌↔◌};

@@ -74,7 +74,7 @@ names_with finished family = map-append (λ f. f.name) finished (family ∷ [])
 same_last : (finished : List Family) (a b : Family) → a.name ≡ b.name → names_of (finished ++ (a ∷ [])) ≡ names_of (finished ++ (b ∷ []))
 same_last finished a b e = names_with finished a ∙ ap (λ name. names_of finished ++ (name ∷ [])) e ∙ sym (names_with finished b)
 
--- no type line of a new family may stand there
+-- no type line of a new family may come there
 abbrev NoType : State → Text → Type 0
 NoType (Open finished current) line = FoundNewType (closed finished current) line None
 NoType _ line = Unit {0}

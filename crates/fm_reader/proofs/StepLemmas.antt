@@ -69,7 +69,7 @@ sample_follows finished f lent m found sample line new e same some more h =
     let is : FoundSample line f.name f.metric_type (Some sample) = subst (λ n. FoundSample line n f.metric_type (Some sample)) e (subst (λ k. FoundSample line lent k (Some sample)) same (subst (FoundSample line lent m) some h)) in
     subst (λ g. Follows (Open finished (Some f)) line (Open finished (Some g))) (sym more) (sample_line is.0 is.1)
 
--- where the line is no sample line, and no unit line where one may stand
+-- if the line is no sample line, and no unit line where one may come
 pub within_refuses : (f : Family) (line lent lent' : Text) (m m' : MetricType) (found : Option Text) (found' : Option Sample) → (f.unit ≡ None → f.samples ≡ [] → (lent ≡ f.name) × (m ≡ f.metric_type) × (found ≡ None) × FoundUnit line lent m found)
     → lent' ≡ f.name → m' ≡ f.metric_type → found' ≡ None → FoundSample line lent' m' found' → RefusesWithin f line
 within_refuses f line lent lent' m m' found found' units e same none h = (

@@ -76,7 +76,7 @@ impl Pending {
         }
     }
 
-    // Adds a sample at the end. Fails with `Memory` if there is none.
+    // Adds a sample at the end. Fails with `Memory` if memory runs out.
     fn push(&mut self, sample: ReadSample) -> Result<(), ReadError>
         ensures pushed { OnOk result (self.new ≡ with_sample self.old (read_sample_of sample)) }
         ensures memory { IfErr result (λ e. e ≡ Memory) }
@@ -280,7 +280,7 @@ fn read_new_type<'a>(
     Ok(Some((name, metric_type)))
 }
 
-// Adds a name, and returns whether it is new. Fails with `Memory` if there is none.
+// Adds a name, and returns whether it is new. Fails with `Memory` if memory runs out.
 fn note<'a>(names: &mut BTreeSet<&'a str>, name: &'a str) -> Result<bool, ReadError>
     ensures noted { IfOk result (λ new. IsNoted names.old name.now new names.new) }
     ensures memory { IfErr result (λ e. e ≡ Memory) }

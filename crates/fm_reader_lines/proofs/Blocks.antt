@@ -9,7 +9,7 @@ use Rattle.fm_grammar.proofs.Labels.{braces_then, one_braces, one_block}
 use Rattle.fm_reader_parts.specs.Fronts.{AreNamed, IsLabelsFront}
 use Rattle.fm_reader_lines.specs.Parts.{IsBracesFront, IsBlockFront}
 
--- one list of labels stands in front of a closing brace
+-- one list of labels is before a closing brace
 pub one_list : (ks ls : List Label) (s t : Text) → AreNamed ks → AreNamed ls → label_list_text ks ++ (125 ∷ s) ≡ label_list_text ls ++ (125 ∷ t) → (ks ≡ ls) × (s ≡ t)
 one_list ks ls s t p q e = one_braces ks ls s t p q (braces_then ks s ∙ ap (λ z. 123 ∷ z) e ∙ sym (braces_then ls t))
 
@@ -32,7 +32,7 @@ pub braces_found : (text : Text) (ks : List Label) (behind rest : Text) → IsLa
 braces_found text ks behind rest found different space =
     (record { names = found.0; different = different }, found.1 ∙ ap (λ z. label_list_text ks ++ (125 ∷ z)) space)
 
--- one list of labels stands in braces in front of a space
+-- one list of labels is in braces before a space
 pub one_braces_front : (text : Text) (ks ls : List Label) (s t : Text) → IsBracesFront text (Some (ks, s)) → AreLabels ls → text ≡ label_list_text ls ++ (125 ∷ 32 ∷ t) → (ks ≡ ls) × (s ≡ t)
 one_braces_front text ks ls s t found are e =
     let h = one_list ks ls (32 ∷ s) (32 ∷ t) found.0.names are.names (sym found.1 ∙ e) in
@@ -68,7 +68,7 @@ pub block_found : (text inner : Text) (ks : List Label) (s : Text) → text ≡ 
 block_found text inner [] s brace found some = absurd (some refl)
 block_found text inner (k ∷ ks) s brace found some = (found.0, brace ∙ ap (λ z. 123 ∷ z) found.1 ∙ sym (block_first k ks s))
 
--- one block stands in front of a space
+-- one block is before a space
 pub one_block_front : (text : Text) (ks ls : List Label) (s t : Text) → IsBlockFront text (Some (ks, s)) → AreLabels ls → text ≡ label_block_text ls ++ (32 ∷ t) → (ks ≡ ls) × (s ≡ t)
 one_block_front text ks ls s t found are e = one_block ks ls s t found.0.names are.names (sym found.1 ∙ e)
 

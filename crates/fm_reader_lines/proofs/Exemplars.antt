@@ -1,4 +1,4 @@
--- Exemplars, and what stands behind a sample's labels.
+-- Exemplars, and what comes after a sample's labels.
 use Rattle.std.proofs.Common.{◌≡◌, ◌≢◌, ℕ, ◌≤◌, true, false, inl, ℤ, List, [], ◌∷◌, ◌++◌, refl, sym, ap, subst, ◌∙◌, append-nil, codes, Option, Some, None, Bor}
 use Rattle.std.specs.Option.{is_some}
 use Rattle.std.proofs.lemmas.Bool.{true≢false}
@@ -13,7 +13,7 @@ use Rattle.fm_reader_lines.specs.Parts.{tail_text, IsToken, IsBracesFront, IsTim
 use Rattle.fm_reader_lines.proofs.Tokens.{one_token, small_unspaced, value_unspaced, time_spaced, exemplar_ends, ends_spaced, one_time_front}
 use Rattle.fm_reader_lines.proofs.Blocks.{one_braces_front}
 
--- exemplars behind their opening brace
+-- exemplars after their opening brace
 
 pub body_no_braces : (text : Text) → IsBracesFront text None → FoundBody text None
 body_no_braces text none = λ x is e. none x.labels _ is.labels e
@@ -99,7 +99,7 @@ no_body kind text body cut none (Some x) a is e =
 pub exemplar_found : (kind : SampleKind) (text body : Text) (x : Exemplar) → takes_exemplar kind ≡ true → text ≡ codes "# {" ++ body → FoundBody body (Some x) → FoundExemplar kind (32 ∷ text) (Some (Some x))
 exemplar_found kind text body x takes cut found = (allowed kind x takes, found.0, ap (λ z. 32 ∷ z) (cut ∙ ap (λ z. codes "# {" ++ z) found.1) ∙ sym (exemplar_is x))
 
--- what stands behind the labels
+-- what comes after the labels
 
 shown_tail : (kind : SampleKind) (text token : Text) (tail : Option (Bor Text)) (shown : Shown) → IsToken text token (tail_text tail) → MayShow kind shown → text ≡ shown_text shown → (token ≡ value_text shown.value) × (tail_text tail ≡ time_text shown.time ++ exemplar_text shown.exemplar)
 shown_tail kind text token tail shown cut may e =

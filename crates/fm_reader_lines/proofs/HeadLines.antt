@@ -21,11 +21,11 @@ use Rattle.fm_reader_lines.specs.Lines.{FoundType, FoundWord, FoundUnit, all_typ
 type_behind : (line behind name : Text) (m : MetricType) → line ≡ codes "# TYPE " ++ behind → IsTypeLine line name m → behind ≡ name ++ (32 ∷ type_word m)
 type_behind line behind name m cut e = append_cancel_left (codes "# TYPE ") behind (name ++ (32 ∷ type_word m)) (sym cut ∙ e)
 
--- no space stands in a name
+-- no space is in a name
 name_unspaced : (name : Text) → IsSnakeCase name → AllByRecursion (λ b. b ≢ 32) name
 name_unspaced name h = all_weaker IsNameByte (λ b. b ≢ 32) (λ b k e. omega arith) name (snake_case_bytes name h)
 
--- no space stands at any place
+-- no space is at any index
 abbrev pub LacksSpace : Text → Type 0
 LacksSpace text = (i : ℕ) → i < length text → get_or text i 0 ≢ 32
 

@@ -16,7 +16,7 @@ pub strip_prefix_text : (n s : Text) (r : Option (Bor Text)) → MatchOption r (
 strip_prefix_text n s None h = λ rest e. h rest e
 strip_prefix_text n s (Some x) h = h.1.1 ∙ ap (λ l. n ++ l) (sym h.2)
 
--- what stands behind the words of a help line
+-- what comes after the words of a help line
 help_is : (line name help : Text) → IsHelpLine line name help → line ≡ codes "# HELP " ++ (name ++ (32 ∷ escaped help))
 help_is line name help (text, p, e) = e ∙ ap (λ z. codes "# HELP " ++ (name ++ (32 ∷ z))) (escaped_text p)
 

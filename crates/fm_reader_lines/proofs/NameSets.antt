@@ -106,7 +106,7 @@ not_true : (b : Bool) → not b ≡ true → b ≡ false
 not_true true e = absurd (true≢false (sym e))
 not_true false e = refl
 
--- a name that the set has stands twice,
+-- a name that the set has comes twice,
 pub name_twice : (names : BTreeSet (Bor Text)) (key : Bor Text) (texts : List Text) (i : ℕ) (d : Text) (b : Bool) → b ≡ not (has names key.now) → b ≡ false → Holds names (take i texts) → i < length texts → get_or texts i d ≡ key.now → AllDifferent texts → ⊥
 name_twice names key texts i d b added e holds within same all =
     (holds key.now).1 (not_false (has names key.now) (sym added ∙ e)) (subst (λ q. IsFresh q (take i texts)) same (different_at texts i d within all))

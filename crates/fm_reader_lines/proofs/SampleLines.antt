@@ -55,7 +55,7 @@ one_kind metric_type text kind other rest behind found ends e =
     let r = one_run IsWordByte (suffix_of kind) (suffix_of other) rest behind (suffix_bytes kind) (suffix_bytes other) (ends_stop rest found.1) (ends_stop behind ends) (sym found.2 ∙ e) in
     (one_suffix kind other r.0, r.1)
 
--- what stands in a line behind the name
+-- what comes in a line after the name
 
 shown_part : Sample → Shown
 shown_part sample = record { value = sample.value; time = sample.time; exemplar = sample.exemplar }

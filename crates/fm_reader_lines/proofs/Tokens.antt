@@ -17,7 +17,7 @@ use Rattle.fm_reader_parts.specs.Numbers.{FoundWhole, FoundMillis, FoundFixed}
 use Rattle.fm_reader_parts.proofs.LabelNames.{all_from}
 use Rattle.fm_reader_lines.specs.Parts.{tail_text, IsToken, FoundValue, FoundNumber, IsNumber, EndsTime, IsTimeFront, FoundSmall}
 
--- no space stands in the text
+-- no space is in the text
 abbrev pub IsUnspaced : Text → Type 0
 IsUnspaced text = AllByRecursion (λ byte. byte ≢ 32) text
 
@@ -119,7 +119,7 @@ no_time t text rest h (inr (behind, e)) f =
     let d = first_of_millis t 35 rest behind (omega arith) (sym k) in
     grind arith
 
--- one timestamp, or none, stands in front
+-- one timestamp, or none, is at the start
 pub one_time_front : (text : Text) (t u : Option ℕ) (tail : Option (Bor Text)) (r : Text) → IsTimeFront text (Some (t, tail)) → IfSome u AreMillis → EndsTime r → text ≡ time_text u ++ r → (t ≡ u) × (tail_text tail ≡ r)
 one_time_front text None None tail r h q ends e = (refl, sym h.2 ∙ e)
 one_time_front text None (Some u) tail r h q ends e = absurd (no_time u (tail_text tail) r q h.1 (sym h.2 ∙ e))
@@ -133,7 +133,7 @@ first_is : (text : Text) (byte : ℕ) → byte ≢ 0 → get_or text 0 0 ≡ byt
 first_is [] byte some e = absurd (some (sym e))
 first_is (x ∷ text) byte some e = (text, ap (λ b. b ∷ text) e)
 
--- a hash stands in place of a timestamp
+-- a hash instead of a timestamp
 pub hash_front : (rest : Bor Text) → get_or rest.now 0 0 ≡ 35 → IsTimeFront (32 ∷ rest.now) (Some (None, Some rest))
 hash_front rest e = let k = first_is rest.now 35 (λ z. omega arith) e in (tt, inr (k.0, ap (λ t. 32 ∷ t) k.1), refl)
 

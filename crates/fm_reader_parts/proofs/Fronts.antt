@@ -16,7 +16,7 @@ pub escaped_append : (v w : Text) → escaped (v ++ w) ≡ escaped v ++ escaped 
 escaped_append [] w = refl
 escaped_append (x ∷ v) w = ap (λ z. escape x ++ z) (escaped_append v w) ∙ sym (append_assoc (escape x) (escaped v) (escaped w))
 
--- no escape begins what may stand behind an escaped text
+-- no escape begins what may come after an escaped text
 escape_not_end : (byte : ℕ) (s r : Text) → EndsEscaped r → escape byte ++ s ≡ r → ⊥
 escape_not_end byte s [] h e = by (writing byte)
   where
@@ -41,7 +41,7 @@ read_so_far (x ∷ v) (y ∷ w) u r h e =
     let k = one_escape x y (escaped v ++ u) (escaped w ++ r) (sym (append_assoc (escape x) (escaped v) u) ∙ e ∙ append_assoc (escape y) (escaped w) r) in
     read_so_far v w u r h k.1
 
--- behind a backslash stands an n, a quote or a backslash
+-- after a backslash comes an n, a quote or a backslash
 pub behind_backslash : (s w r : Text) → EndsEscaped r → 92 ∷ s ≡ escaped w ++ r → (byte : ℕ) × (t : Text) × ((byte ≡ 110) ⊎ ((byte ≡ 34) ⊎ (byte ≡ 92))) × (s ≡ byte ∷ t)
 behind_backslash s [] [] h e = absurd (cc)
 behind_backslash s [] (x ∷ r) h e = let k : 92 ≡ x = cc in absurd (grind arith)
@@ -56,7 +56,7 @@ behind_backslash s (y ∷ w) r h e = by (writing y)
     by (doubled p) = (92, escaped w ++ r, inr (inr refl), let k = spelled in cc (ap (λ z. z ++ (escaped w ++ r)) (escape-doubled y p)))
     by (plain f q d) = let k = spelled in let n : y ≡ 92 = cc (ap (λ z. z ++ (escaped w ++ r)) (escape-plain y f q d)) in absurd (d n)
 
--- bytes that stand for themselves
+-- bytes that are written as they are
 IsPlain : ℕ → Type 0
 IsPlain byte = (byte ≢ 10) × (byte ≢ 34) × (byte ≢ 92)
 
@@ -100,7 +100,7 @@ pub read_more : (text v rest e behind w new : Text) → text ≡ escaped v ++ re
 read_more text v rest e behind w new h r s n =
     h ∙ ap (λ z. escaped v ++ z) (r ∙ ap (λ z. z ++ behind) s) ∙ sym (append_assoc (escaped v) (escaped w) behind) ∙ ap (λ z. z ++ behind) (sym (escaped_append v w) ∙ ap escaped (sym n))
 
--- the escape of a character behind a backslash
+-- the escape of a character after a backslash
 abbrev pub IsEscapeOf : ℕ → ℕ → Type 0
 IsEscapeOf e n = ((e ≡ 110) × (n ≡ 10)) ⊎ (((e ≡ 34) ⊎ (e ≡ 92)) × (n ≡ e))
 
@@ -120,7 +120,7 @@ pub read_single : (text v rest first one behind new : Text) (c : ℕ) → text �
 read_single text v rest first one behind new c h f a p q r d m =
     read_more text v rest (encode c) behind (encode c) new h (sym f ∙ a ∙ ap (λ z. encode c ++ z) (sym d)) (sym (escaped_character c p q r)) m
 
--- a backslash with nothing that belongs to it behind it
+-- a backslash with nothing that belongs to it after it
 pub no_escape : (text v rest first one : Text) (c : ℕ) → text ≡ escaped v ++ rest → first ≡ rest → first ≡ encode c ++ one → c ≡ 92 → ((byte : ℕ) (t : Text) → (byte ≡ 110) ⊎ ((byte ≡ 34) ⊎ (byte ≡ 92)) → one ≡ byte ∷ t → ⊥)
     → (w r : Text) → EndsEscaped r → text ≡ escaped w ++ r → ⊥
 no_escape text v rest first one c h f a b never w r ends e =

@@ -19,7 +19,7 @@ no_equals : (name : Text) → IsLabelName name → AllByRecursion IsNameByte nam
 unfolding IsNameByte
 no_equals name h = all_weaker IsLabelByte IsNameByte (λ b k e. grind arith) name (name_bytes name h)
 
--- where an equals sign cuts the text, it cuts a label behind its name
+-- if an equals sign cuts the text, it cuts a label after its name
 pub label_cut : (text name behind : Text) (label : Label) (rest : Text) → text ≡ name ++ (61 ∷ behind) → AllByRecursion (λ b. b ≢ 61) name → IsLabelName label.name → text ≡ label_text label ++ rest
     → (name ≡ label.name) × (behind ≡ 34 ∷ (escaped label.value ++ (34 ∷ rest)))
 unfolding IsNameByte
@@ -38,17 +38,17 @@ bad_name text name behind cut bad label rest named e =
     let h = label_cut text name behind label rest cut.0 (all_from (λ b. b ≢ 61) name cut.1) named e in
     bad (subst IsLabelName (sym h.0) named)
 
--- if no quote is behind it,
+-- if no quote comes after it,
 pub no_quote : (text name behind : Text) → (text ≡ name ++ (61 ∷ behind)) × ((i : ℕ) → i < length name → get_or name i 0 ≢ 61) → ((quoted : Text) → behind ≢ 34 ∷ quoted) → (label : Label) (rest : Text) → IsLabelName label.name → text ≡ label_text label ++ rest → ⊥
 no_quote text name behind cut none label rest named e = none _ (label_cut text name behind label rest cut.0 (all_from (λ b. b ≢ 61) name cut.1) named e).1
 
--- what a label has behind the quote
+-- what a label has after the quote
 behind_quote : (text name behind quoted : Text) → (text ≡ name ++ (61 ∷ behind)) × ((i : ℕ) → i < length name → get_or name i 0 ≢ 61) → behind ≡ 34 ∷ quoted → (label : Label) (rest : Text) → IsLabelName label.name → text ≡ label_text label ++ rest → quoted ≡ escaped label.value ++ (34 ∷ rest)
 behind_quote text name behind quoted cut q label rest named e =
     let h = (label_cut text name behind label rest cut.0 (all_from (λ b. b ≢ 61) name cut.1) named e).1 in
     cc
 
--- if no escaped text is behind that,
+-- if no escaped text comes after that,
 pub no_value : (text name behind quoted : Text) → (text ≡ name ++ (61 ∷ behind)) × ((i : ℕ) → i < length name → get_or name i 0 ≢ 61) → behind ≡ 34 ∷ quoted → ((value rest : Text) → EndsEscaped rest → quoted ≢ escaped value ++ rest)
     → (label : Label) (rest : Text) → IsLabelName label.name → text ≡ label_text label ++ rest → ⊥
 no_value text name behind quoted cut q none label rest named e = none label.value (34 ∷ rest) (inr refl) (behind_quote text name behind quoted cut q label rest named e)

@@ -7,7 +7,7 @@ use Rattle.fm_grammar.proofs.Labels.{IsNamed, one_label, label_then}
 use Rattle.fm_grammar.proofs.Runs.{all_append}
 use Rattle.fm_reader_parts.specs.Fronts.{AreNamed, IsLabelFront, IsLabelsFront}
 
--- labels with a comma behind each
+-- labels with a comma after each
 abbrev pub with_commas : List Label → Text
 with_commas [] = []
 with_commas (label ∷ labels) = label_text label ++ (44 ∷ with_commas labels)
@@ -20,7 +20,7 @@ commas_append [] label s = commas_then label [] s
 commas_append (l ∷ ls) label s =
     commas_then l (ls ++ (label ∷ [])) s ∙ ap (λ z. label_text l ++ (44 ∷ z)) (commas_append ls label s) ∙ sym (commas_then l ls (label_text label ++ (44 ∷ s)))
 
--- a last label has no comma behind it
+-- a last label has no comma after it
 list_last : (ls : List Label) (label : Label) (s : Text) → label_list_text (ls ++ (label ∷ [])) ++ s ≡ with_commas ls ++ (label_text label ++ s)
 list_last [] label s = refl
 list_last (l ∷ []) label s = append_assoc (label_text l) (44 ∷ label_text label) s ∙ sym (commas_then l [] (label_text label ++ s))
@@ -62,12 +62,12 @@ left (r ∷ read) rest (l ∷ m ∷ ls) behind p q e =
     by same (inl z) = absurd (let q = z.1 in cc)
     by same (inr z) = inr (z.0, z.1, z.2, (let tail = z.3 in cc), z.4)
 
--- the first label of a list, and what is behind it
+-- the first label of a list, and the text after it
 first_of_list : (l : Label) (more : List Label) (s : Text) → (after : Text) × (label_list_text (l ∷ more) ++ (125 ∷ s) ≡ label_text l ++ after) × ((after ≡ 125 ∷ s) ⊎ ((t : Text) × (after ≡ 44 ∷ t)))
 first_of_list l [] s = (125 ∷ s, refl, inl refl)
 first_of_list l (m ∷ more) s = (44 ∷ (label_list_text (m ∷ more) ++ (125 ∷ s)), list_then l m more (125 ∷ s), inr (label_list_text (m ∷ more) ++ (125 ∷ s), refl))
 
--- where no label stands in front of what is left
+-- if no label is at the start of what is left
 abbrev pub SomeLeft : List Label → Text → List Label → Text → Type 0
 SomeLeft read rest ls behind = (l : Label) × (more : List Label) × AreNamed (l ∷ more) × (ls ≡ read ++ (l ∷ more)) × (rest ≡ label_list_text (l ∷ more) ++ (125 ∷ behind))
 
@@ -83,7 +83,7 @@ no_label text rest read p so_far some none = λ ls behind q e.
     let f = first_of_list z.0 z.1 behind in
     none z.0 f.0 z.2.0 (z.4 ∙ f.1)
 
--- where neither a brace nor a comma stands behind a label
+-- if neither a brace nor a comma comes after a label
 pub no_end : (text rest : Text) (read : List Label) (label : Label) (after : Text) → AreNamed read → text ≡ with_commas read ++ rest → ((r : Text) → text ≢ 125 ∷ r) → IsLabelFront rest (Some (label, after)) → ((r : Text) → after ≢ 125 ∷ r) → ((r : Text) → after ≢ 44 ∷ r) → IsLabelsFront text None
 no_end text rest read label after p so_far some found brace comma = λ ls behind q e.
     let z = some_left text rest read ls behind p so_far some q e in

@@ -11,14 +11,14 @@ use Rattle.fm_book.specs.declared.RegistryError.{RegistryError}
 use Rattle.fm_registry.specs.HasBook.{HasBook, Grows}
 
 module _ {M : Type 0} where
-  -- a book with calls behind, twice
+  -- a book with more calls after it, twice
   with_more-twice : (b : Book M) (xs ys : List (Call M)) → with_more (with_more b xs) ys ≡ with_more b (xs ++ ys)
   with_more-twice b xs ys = ap (λ calls. record b { calls = calls }) (append_assoc b.calls xs ys)
 
   with_more-none : (b : Book M) → with_more b [] ≡ b
   with_more-none b = ap (λ calls. record b { calls = calls }) (append-nil b.calls)
 
-  -- what an answer adds to a book
+  -- what a reply adds to a book
   abbrev pub added : Option Refusal → Book M → Call M → List (Call M)
   added None b call = gained b call
   added (Some why) b call = []
@@ -77,7 +77,8 @@ module _ {M : Type 0} where
   pub Grows-run : (s t : Tree M) (calls : List (Call M)) (replies : List (Option Refusal)) → ((b : Book M) → Reads s b → Runs b calls replies t) → Grows s t
   Grows-run s t calls replies runs = record { calls = λ b reads. run_calls b calls replies; reads = λ b reads. Runs-calls b calls replies t (runs b reads) }
 
-  -- What is done to a subsystem that is lent is done to the registry: where the subsystem grows while it is lent, so does the registry.
+  -- What is done to a borrowed subsystem is done to the registry: if the subsystem grows while it is borrowed, so does
+  -- the registry.
   pub Grows-lent : (s : Tree M) (name : Text) (labels : Labels) (child w t : Tree M) (kept : Text)
       → ((b : Book M) → Reads s b → LoanReads (with_subsystem s name labels) name child (after b (Subsystem [] name labels)))
       → kept ≡ name → t ≡ record (with_subsystem s name labels) { children = with_named (with_subsystem s name labels).children name kept w } → Grows child w → Grows s t

@@ -20,14 +20,14 @@ use Rattle.fm_registry.proofs.SoundLemmas.{new_root}
 abbrev pub names_of : Labels → List Text
 names_of labels = map (λ l. l.name) labels
 
--- a name is there where it has a place
+-- a name is among the labels if it has an index there
 pub found-has_name : (ls : List (String Global × String Global)) (name : Text) (k : ℕ) → is_some (position_from (λ l. bytes_eq (label_of l).name name) k ls) ≡ has_name (names_of (labels_of ls)) name
 found-has_name [] name k = refl
 found-has_name (l ∷ ls) name k =
     elim (bytes_eq (label_of l).name name) as (λ c. is_some (if c then Some k else position_from (λ x. bytes_eq (label_of x).name name) (k + 1) ls) ≡ (if c then true else has_name (names_of (labels_of ls)) name))
     [ true ↦ refl | false ↦ found-has_name ls name (k + 1) ]
 
--- behind labels that passed, a label decides
+-- after labels that passed, a label decides
 decides : (done rest : Labels) (label : Label) → labels_refusal_behind [] done ≡ None
     → labels_refusal_behind [] (done ++ label ∷ rest) ≡ or_then (label_refusal_behind (names_of done) label.name) (labels_refusal_behind (names_of done ++ label.name ∷ []) rest)
 decides done rest label none = labels_refusal_behind-++ [] done (label ∷ rest) none
@@ -36,7 +36,7 @@ decides done rest label none = labels_refusal_behind-++ [] done (label ∷ rest)
 pub refused-invalid : (before : List Text) (name : Text) → is_label_name name ≡ false → label_refusal_behind before name ≡ Some (label_fault name)
 refused-invalid before name invalid = rw invalid refl
 
--- a label that is refused where it stands before, and else passes
+-- a label that is refused if its name came before, and else passes
 pub refused-duplicate : (before : List Text) (name : Text) (r : Bool) → is_label_name name ≡ true → r ≡ has_name before name
     → MatchBool r (label_refusal_behind before name ≡ Some (label_fault name)) (label_refusal_behind before name ≡ None)
 refused-duplicate before name true valid e = rw (valid, ← e) refl

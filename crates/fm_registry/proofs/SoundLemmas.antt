@@ -33,7 +33,7 @@ module _ {M : Type 0} where
   Registers-sound Types asked old new (Ok x) registers sound = record { book = after sound.book (Register [] (asked registers.metric_type)); reads = registers.ok sound.book sound.reads }
   Registers-sound Types asked old new (Err e) registers sound = subst HasBook (sym registers.err) sound
 
-  -- a subsystem that is lent
+  -- a borrowed subsystem
   pub LoanReads-sound : (t c : Tree M) (name : Text) (b : Book M) → LoanReads t name c b → HasBook c
   LoanReads-sound t c name b loan = record { book = book_below b name; reads = loan.lent }
 

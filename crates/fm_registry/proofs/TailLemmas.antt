@@ -72,7 +72,7 @@ module _ {M : Type 0} where
       key_of (Some p) = Some p.0
   entry_at (x ∷ es) (suc i) e at = entry_at es i e at
 
-  -- the metadata that stand under the tail of others decide whether these are there
+  -- the metadata that others have under this tail decide whether these exist
   pub under_tail : (es : List (Tailed × M)) (k : Tailed) (i : ℕ) (e : Tailed × M) → IsDistinct key.ghosts.eq (keys_of es) → position (key.ghosts.eq k) (keys_of es) ≡ Some i → slice_get es i ≡ Some e
       → (x : M) → has_metric (seen_metrics es) (seen_metric k.metadata x) ≡ is_same_metric (seen_metric k.metadata x) (seen_metric e.0.metadata x)
   under_tail es k i e distinct place at x =
@@ -80,7 +80,7 @@ module _ {M : Type 0} where
       let found : key.ghosts.eq k e.0 ≡ true = ap (λ t. key.ghosts.eq k t) (sym (get_or_from_slice_get (keys_of es) i e.0 e.0 ats.1)) ∙ (position-Some (key.ghosts.eq k) (keys_of es) i e.0 place).1 in
       one_under_tail (seen_metrics es) (seen_metric k.metadata x) (seen_metric e.0.metadata e.1) i (different es distinct) ats.0 (sym e.0.fits ∙ sym ((tails_decide k e.0).0 found) ∙ k.fits)
 
-  -- where nothing stands under the tail
+  -- if nothing has the tail
   pub beside_none : (es : List (Tailed × M)) (k : Tailed) (x : M) (below : Bool) → lookup (key.ghosts.eq k) es ≡ None
       → refusal_beside (seen_metrics es) below (seen_metric k.metadata x) ≡ first_of ((below, NameTaken (string_bytes k.metadata.name)) ∷ [])
   beside_none es k x below none =
@@ -94,7 +94,7 @@ module _ {M : Type 0} where
   beside_one es k x below same some is =
       λ j. first_of ((is j, AlreadyExists (string_bytes k.metadata.name)) ∷ ((has_own_tail es k x ∙ some) j || below, NameTaken (string_bytes k.metadata.name)) ∷ [])
 
-  -- what stands in a registry refuses what its metrics and the names of its subsystems do
+  -- what is in a registry refuses what its metrics and the names of its subsystems refuse
   pub beside_standing : (there : List (Registration M)) (children : List Text) (k : Tailed) (metadata : Metadata) (x : M) (tail : Text) (below : Bool) → k.metadata ≡ metadata → tail ≡ string_bytes k.tail → below ≡ list_any (λ child. is_below child tail) children
       → refusal_beside there below (seen_metric k.metadata x) ≡ standing_refusal there children (seen_metric metadata x)
   beside_standing there children k metadata x tail below named is lies =

@@ -19,7 +19,7 @@ pub use subsystem_builder::RegistrySubsystemBuilder;
 
 /// A registry of metrics, with its subsystems. Contracts see it as a `Tree`.
 ///
-/// An empty registry holds no memory.
+/// An empty registry takes no memory.
 #[derive(Drop)]
 #[cycle(tree)]
 pub struct Registry<M = Box<dyn EncodeMetric>> {

@@ -19,7 +19,7 @@ pub replies_more : (start : ℕ) (before : List Accepted) (es : List Event) (e :
 replies_more start before [] e = refl
 replies_more start before (x ∷ es) e = ap (λ rs. reply start before x ∷ rs) (replies_more start (accept start before x) es e)
 
--- the reply at a place is that to the event there, after the events before it
+-- the reply at an index is that to the event there, after the events before it
 pub reply_at : (start : ℕ) (before : List Accepted) (es : List Event) (k : ℕ) (d : Reply) (e : Event) → k < length es
     → get_or (replies_after start before es) k d ≡ reply start (accepted_after start before (take k es)) (get_or es k e)
 reply_at start before [] k d e h = absurd (omega arith)

@@ -14,7 +14,7 @@ pub trait TallyKey: Ledger {}
 
 impl TallyKey for Brand {}
 
-// What is behind the lock. Its type says that whenever the lock is free, the book's sum is the sum of the amounts of
+// What the lock protects. Its type says that whenever the lock is free, the book's sum is the sum of the amounts of
 // all shares of this tally: a ledger's total is the sum of its tokens, each share has one, and the one kept here is 0.
 #[derive(Drop)]
 struct Kept<K: TallyKey> {
@@ -110,7 +110,7 @@ impl<K: TallyKey> Model for Tally<K> {
 
 impl<K: TallyKey> Tally<K> {
     /// A tally with the sum 0, and its `n` shares, which have the amount 0 and were told no total. The blank has one
-    /// part for each share and one for the tally. Fails with `Memory` if there is none.
+    /// part for each share and one for the tally. Fails with `Memory` if memory runs out.
     pub fn new(
         alloc: Global,
         blank: Blank,

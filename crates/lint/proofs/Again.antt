@@ -1,4 +1,4 @@
--- A document that was read is written as it stood.
+-- A document that was read is written as it was.
 use Rattle.std.proofs.Common.{Option, sym, subst, ◌∙◌}
 use Rattle.std.specs.Io.KnownBytes.{Appends}
 use Rattle.fm_grammar.specs.Exposition.{Text, Exposition}

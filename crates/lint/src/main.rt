@@ -1,5 +1,7 @@
-//! `lint` reads a document from standard input. It prints the document again, with status 0, or `line N` on standard error,
-//! with status 1: the first line with which what was read so far begins no document.
+//! `lint` reads a document from standard input, prints it again and ends with status 0. If the bytes are not a
+//! document, it prints `line N` on standard error and ends with status 1: N is the first line for which the text up to
+//! it begins no document, or the last line of a text that is cut short. If memory runs out, it prints `memory` there,
+//! with status 1 too.
 #![tactic(auto)]
 
 #[cfg(test)]

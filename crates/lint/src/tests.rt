@@ -1,9 +1,9 @@
-//! What the program prints of a document, and what it says of bytes that are none.
+//! What the program prints for a document, and for bytes that are not one.
 use crate::verdict::lint;
 use std::alloc::Global;
 use std::test::Fail;
 
-// The status, what is printed, and what is said on the second writer.
+// The status, the output, and the text for standard error.
 fn answer_to(alloc: Global, bytes: &[u8]) -> Result<(u8, String, String), Fail> {
     let (mut out, mut errors): (Vec<u8>, Vec<u8>) = (Vec::new(alloc), Vec::new(alloc));
     let status = lint(alloc, bytes, &mut out, &mut errors);

@@ -1,4 +1,4 @@
-//! What `lint` says of what it read.
+//! What `lint` prints about the bytes that it read.
 ghost use Rattle.std.specs.Prelude.{◌≡◌, ◌≤◌};
 ghost use Rattle.lint.specs.Documents.{PrintsAgain};
 
@@ -8,7 +8,7 @@ use std::alloc::Global;
 use std::io::Write;
 use std::str;
 
-/// Writes a document again, and answers 0; or says on the second writer why it doesn't, and answers 1.
+/// Writes a document again and returns 0, or writes to `errors` why it doesn't and returns 1.
 pub fn lint<W: Write, E: Write>(alloc: Global, bytes: &[u8], out: &mut W, errors: &mut E) -> u8
     ensures small { result ≤ 1 }
     ensures printed { result ≡ 0 → PrintsAgain (W.contents out.old) (W.contents out.new) bytes.now }
@@ -25,8 +25,8 @@ pub fn lint<W: Write, E: Write>(alloc: Global, bytes: &[u8], out: &mut W, errors
     }
 }
 
-// Says which line of bytes that are no text is at fault. That is the line of the first byte that belongs to no
-// character, or one in front of it.
+// Writes which line of bytes that are no UTF-8 text has the fault. That is the line of the first byte that belongs to
+// no character, or one before it.
 fn refuse_bytes<E: Write>(alloc: Global, bytes: &[u8], errors: &mut E) -> u8
     ensures { result ≡ 1 }
 {
@@ -42,7 +42,7 @@ fn refuse_bytes<E: Write>(alloc: Global, bytes: &[u8], errors: &mut E) -> u8
     }
 }
 
-// The bytes in front of the first that belongs to no character.
+// The bytes before the first one that belongs to no character.
 fn front_text(bytes: &[u8]) -> &str {
     match str::from_utf8(bytes) {
         Ok(text) => text,
@@ -53,7 +53,7 @@ fn front_text(bytes: &[u8]) -> &str {
     }
 }
 
-// Says why nothing was read. A writer that fails doesn't change the answer.
+// Writes why nothing was read. A writer that fails doesn't change the result.
 fn refuse<E: Write>(errors: &mut E, error: ReadError) -> u8
     ensures { result ≡ 1 }
 {

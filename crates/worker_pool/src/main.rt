@@ -1,4 +1,5 @@
-//! A pool of workers that counts exactly: how many bytes four workers received together, as the document of one counter.
+//! A pool of workers that counts exactly: four workers add up the bytes that they received, and the program writes the
+//! sum as a counter.
 #![tactic(auto)]
 
 mod pool;

@@ -1,4 +1,4 @@
-//! A pool of workers, which count under one tally.
+//! A pool of workers that add to one tally.
 ghost use Rattle.std.specs.Prelude.{◌≡◌, ℕ, ◌+◌, ◌<◌, ◌≤◌, All, IfOk, Ok, map, sum, sum_by, length, vec_len, slice_index_or};
 
 use fastmetrics::metrics::tally::{Share, Tally, TallyError, TallyKey};
@@ -13,23 +13,23 @@ use std::thread::{Promise, PromisedHandle, Scope, Threads};
 pub struct Received {
     /// The sum of all batches.
     pub total: u64,
-    /// What the tally told while the workers were under way.
+    /// The total that the tally told the watch while the workers ran.
     pub so_far: u64,
 }
 
-// What one worker has to do: it adds the values of its batch to the tally.
+// The task of one worker: to add the values of its batch to the tally.
 #[derive(Drop)]
 struct Work<'a, K: TallyKey> {
     tally: &'a Tally<K>,
     batch: &'a [u64],
 }
 
-// What the worker gives back: its share, to which the whole batch was added.
+// The result of the worker: its share, with the whole batch added.
 impl<'a, K: TallyKey> Promise<Result<Share<K>, TallyError>> for Work<'a, K> {
     ghost kept_by = { λ w r. IfOk r (λ share. share.amount ≡ sum w.batch.now) };
 }
 
-// One worker's part.
+// Does one worker's task.
 fn add_batch<K: TallyKey, R: Wait>(
     rt: &R,
     tally: &Tally<K>,
@@ -45,7 +45,7 @@ fn add_batch<K: TallyKey, R: Wait>(
     Ok(share)
 }
 
-// Starts a worker for each batch, and gives each a share.
+// Starts a worker for each batch, each with a share.
 fn start_all<'s, E, K: TallyKey + Send + Sync, R: Wait + Sync>(
     scope: &Scope<'s, E>,
     rt: &'s R,
@@ -76,7 +76,7 @@ fn start_all<'s, E, K: TallyKey + Send + Sync, R: Wait + Sync>(
     Ok(workers)
 }
 
-// What the workers of a scope give back, and the watch's share, which was told a total while they were under way.
+// The results of the workers of a scope, and the watch's share, which was told a total while they ran.
 fn join_all<'s, E, K: TallyKey + Send + Sync, R: Threads + Wait + Sync>(
     scope: &Scope<'s, E>,
     rt: &'s R,
@@ -99,7 +99,7 @@ fn join_all<'s, E, K: TallyKey + Send + Sync, R: Threads + Wait + Sync>(
     }
 }
 
-// Runs the workers at once.
+// Runs all workers at the same time.
 fn run_all<'a, K: TallyKey + Send + Sync, R: Threads + Wait + Sync>(
     rt: &'a R,
     alloc: Global,
@@ -123,7 +123,7 @@ fn run_all<'a, K: TallyKey + Send + Sync, R: Threads + Wait + Sync>(
     )
 }
 
-// The shares that the workers gave back, all of them, or the first refusal.
+// The shares that the workers returned, or the first error.
 fn gather<K: TallyKey>(
     alloc: Global,
     done: Vec<Result<Share<K>, TallyError>>,
@@ -137,10 +137,10 @@ fn gather<K: TallyKey>(
     Ok(shares)
 }
 
-/// Adds up all batches, each with a worker of its own, and watches the sum while they are under way.
+/// Adds up all batches, each in a worker, and reads the sum once while they run.
 ///
-/// The blank has one part for each batch, one for the watch, and one for the tally. It returns `Full` where the sum passes
-/// 2^64 - 1, `Memory` where there is none, and `SpawnFailed` where a worker can't be started.
+/// The blank has one part for each batch, one for the watch, and one for the tally. Fails with `Full` if the sum passes
+/// 2^64 - 1, with `Memory` if memory runs out, and with `SpawnFailed` if a worker can't be started.
 pub fn count_all<K: TallyKey + Send + Sync, R: Threads + Wait + Sync>(
     rt: &R,
     alloc: Global,

@@ -51,7 +51,7 @@ fn are_related(name: &str, other: &str) -> bool
     is_below(name, other) || is_below(other, name)
 }
 
-// Whether this holds of the name and that of one of the subsystems.
+// Whether `are_related` is true of the name and the name of one of the subsystems.
 fn is_related_to_any<M>(subsystems: &[Subsystem<M>], name: &str) -> bool
     ensures { result ≡ list_any (λ s. below_test (string_bytes s.name) name.now || below_test name.now (string_bytes s.name)) subsystems.now }
 {
@@ -104,7 +104,7 @@ impl<M: Drop> Registry<M> {
         }
     }
 
-    // Whether the name of a subsystem here and this one begin with one another and an underscore.
+    // Whether the name of a subsystem here begins with this name and an underscore, or the other way round.
     fn is_beside_child(&self, name: &str) -> bool
         ensures { result ≡ list_any (λ child. below_test child name.now || below_test name.now child) (names_in self.now.children) }
     {
