@@ -15,4 +15,6 @@ mod limits;
 #[cfg(test)]
 mod overflows;
 #[cfg(test)]
+mod points;
+#[cfg(test)]
 mod texts;

@@ -25,7 +25,9 @@ macro_rules! patiently {
     };
 }
 
+mod exemplars;
 mod families;
+mod gauge_histograms;
 mod handles;
 mod histograms;
 mod observations;

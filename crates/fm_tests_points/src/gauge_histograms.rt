@@ -6,9 +6,10 @@ use fastmetrics::metrics::gauge_histogram::{
     Bound, Bucket, GaugeHistogram, GaugeHistogramSnapshot,
 };
 use fastmetrics::raw::{Fixed, FixedSum, MetricError, MetricType, TryDefault, TypedMetric};
+use fastmetrics::registry::Registry;
 use fm_test_support::members::OneMember;
-use fm_test_support::support::{document_alone, refusal};
-use fm_test_support::trees::labels;
+use fm_test_support::support::{document_alone, document_of, refusal};
+use fm_test_support::trees::{build_below, labels, register_below};
 use std::alloc::{AllocError, Global};
 use std::sync::Wait;
 use std::test::Fail;
@@ -180,6 +181,25 @@ fn exemplar_of_a_gauge_bucket(rt: HostRuntime) -> Result<(), Fail> {
         document_alone(alloc, "t", None, Box::new(alloc, metric)?)?.as_str(),
         "# TYPE t gaugehistogram\n# HELP t H\nt_bucket{le=\"-1.0\"} 3 # {trace_id=\"a\"} -3.0\n\
         t_bucket{le=\"+Inf\"} 5\nt_gcount 7\nt_gsum -12.5\n# EOF\n"
+    );
+    Ok(())
+}
+
+#[test]
+fn beneath_a_subsystem(rt: HostRuntime) -> Result<(), Fail> {
+    let alloc = rt.alloc();
+    let current = GaugeHistogram::new(rt, alloc, [whole(1), whole(-1)].iter().copied())?;
+    for value in [-3, 0, 2, 2] {
+        current.observe(whole(value))?;
+    }
+    let mut registry = Registry::default();
+    build_below(alloc, &mut registry, "sub", &[("k", "v")])?;
+    register_below(alloc, &mut registry, "sub", "t", Box::new(alloc, current)?)?;
+    assert_eq!(rt;
+        document_of(alloc, &registry)?.as_str(),
+        "# TYPE sub_t gaugehistogram\n# HELP sub_t H\nsub_t_bucket{k=\"v\",le=\"-1.0\"} 1\n\
+        sub_t_bucket{k=\"v\",le=\"1.0\"} 2\nsub_t_bucket{k=\"v\",le=\"+Inf\"} 4\n\
+        sub_t_gcount{k=\"v\"} 4\nsub_t_gsum{k=\"v\"} 1.0\n# EOF\n"
     );
     Ok(())
 }

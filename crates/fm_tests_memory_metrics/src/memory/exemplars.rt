@@ -1,0 +1,73 @@
+//! A counter with an exemplar under refused memory.
+ghost use Rattle.std.specs.Prelude.{[], ◌∷◌, ◌≡◌, None};
+ghost use Rattle.fastmetrics.specs.Points.{CounterPoint};
+
+use super::{bear, expect_document};
+use fastmetrics::encoder::{
+    EncodeCounterValue, EncodeError, EncodeExemplar, EncodePoint, LabeledExemplar, PointEncoder,
+};
+use fastmetrics::raw::{Fixed, MetricError, MetricType};
+use fm_test_support::members::OneMember;
+use fm_test_support::parts::Word;
+use fm_test_support::support::Patience;
+use std::alloc::{AllocError, Global};
+use std::test::Fail;
+use std::time::Duration;
+
+// A counter's point with an exemplar.
+#[derive(Drop)]
+struct CounterWith<V, E> {
+    total: V,
+    exemplar: E,
+}
+
+impl<V: EncodeCounterValue, E: EncodeExemplar> EncodePoint for CounterWith<V, E> {
+    ghost points = { λ p ps. ps ≡ CounterPoint (V.numbers p.total) (E.exemplars p.exemplar) None ∷ [] };
+
+    ghost may_fault = { λ _. Unit {0} };
+
+    fn encode(&self, encoder: &mut PointEncoder) -> Result<(), EncodeError> {
+        encoder.encode_counter(&self.total, Some(&self.exemplar), None)
+    }
+}
+
+type Traced = OneMember<(), CounterWith<u64, LabeledExemplar<[(Word, i32); 1]>>>;
+
+// A counter of the total 5 with an exemplar.
+fn traced(alloc: Global) -> Result<Box<Traced>, AllocError> {
+    let exemplar = LabeledExemplar {
+        labels: [(Word("trace_id"), 7)],
+        value: Fixed::from_millionths(500_000),
+        timestamp: Some(Duration::from_millis(1005)),
+    };
+    let metric = OneMember {
+        metric_type: MetricType::Counter,
+        time: None,
+        labels: (),
+        point: CounterWith {
+            total: 5u64,
+            exemplar,
+        },
+    };
+    Ok(Box::new(alloc, metric)?)
+}
+
+// Encodes a counter with an exemplar.
+fn encode_traced(alloc: Global, refusals: u32) -> Result<(), Fail> {
+    let mut patience = Patience::new(refusals);
+    let metric = patiently!(patience, traced(alloc));
+    let spare = patiently!(patience, traced(alloc));
+    let document =
+        b"before\n# TYPE m counter\n# HELP m H\nm_total 5 # {trace_id=\"7\"} 0.5 1.005\n# EOF\n";
+    expect_document(alloc, &mut patience, metric, spare, document)
+}
+
+#[test]
+fn exemplars_without_refusals(rt: HostRuntime) -> Result<(), Fail> {
+    encode_traced(rt.alloc(), 0)
+}
+
+#[test]
+fn exemplars_after_a_refusal(rt: HostRuntime) -> Result<(), Fail> {
+    encode_traced(rt.alloc(), 1)
+}

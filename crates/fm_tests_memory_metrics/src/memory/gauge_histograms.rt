@@ -1,0 +1,70 @@
+//! Gauge histograms under refused memory.
+use super::{bear, boxed, expect_document};
+use fastmetrics::metrics::gauge_histogram::{GaugeHistogram, GaugeHistogramSnapshot};
+use fastmetrics::raw::{Fixed, MetricError, TryDefault};
+use fm_test_support::support::Patience;
+use std::alloc::Global;
+use std::sync::Wait;
+use std::test::Fail;
+
+const OBSERVED: &[u8] = b"before\n# TYPE m gaugehistogram\n# HELP m H\n\
+    m_bucket{le=\"-1.0\"} 1\nm_bucket{le=\"1.0\"} 1\nm_bucket{le=\"+Inf\"} 2\nm_gcount 2\nm_gsum -1.0\n# EOF\n";
+
+fn whole(n: i8) -> Fixed {
+    Fixed::from_millionths(i64::from(n) * 1_000_000)
+}
+
+// Two clones of a gauge histogram that observed -3 and 2.
+fn observed_twice<H: Wait + Copy + Drop>(
+    wait: H,
+    alloc: Global,
+    patience: &mut Patience,
+) -> Result<(Box<GaugeHistogram<H>>, Box<GaugeHistogram<H>>), Fail> {
+    let bounds = [whole(-1), whole(1)];
+    let current = patiently!(
+        *patience,
+        GaugeHistogram::new(wait, alloc, bounds.iter().copied())
+    );
+    for value in [whole(-3), whole(2)] {
+        current.observe(value)?;
+    }
+    let first = patiently!(*patience, boxed(alloc, &current));
+    let second = patiently!(*patience, boxed(alloc, &current));
+    Ok((first, second))
+}
+
+#[test]
+fn gauge_histograms_without_refusals(rt: HostRuntime) -> Result<(), Fail> {
+    let mut patience = Patience::new(0);
+    let (metric, spare) = observed_twice(rt, rt.alloc(), &mut patience)?;
+    expect_document(rt.alloc(), &mut patience, metric, spare, OBSERVED)
+}
+
+#[test]
+fn gauge_histograms_after_a_refusal(rt: HostRuntime) -> Result<(), Fail> {
+    let mut patience = Patience::new(1);
+    let (metric, spare) = observed_twice(rt, rt.alloc(), &mut patience)?;
+    expect_document(rt.alloc(), &mut patience, metric, spare, OBSERVED)
+}
+
+// Makes a gauge histogram and a snapshot with the default bounds.
+fn make_defaults<H: Wait + Copy + Drop>(wait: H, alloc: Global, refusals: u32) -> Result<(), Fail> {
+    let mut patience = Patience::new(refusals);
+    let current = patiently!(patience, GaugeHistogram::<H>::try_default(wait, alloc));
+    let snapshot = patiently!(patience, GaugeHistogramSnapshot::try_default(wait, alloc));
+    let buckets = current.with_snapshot(|all| all.buckets().len());
+    if buckets != 12 || snapshot.buckets().len() != 12 {
+        return Err(Fail::new("other bounds"));
+    }
+    Ok(())
+}
+
+#[test]
+fn defaults_without_refusals(rt: HostRuntime) -> Result<(), Fail> {
+    make_defaults(rt, rt.alloc(), 0)
+}
+
+#[test]
+fn defaults_after_a_refusal(rt: HostRuntime) -> Result<(), Fail> {
+    make_defaults(rt, rt.alloc(), 1)
+}
