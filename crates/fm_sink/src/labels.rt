@@ -1,14 +1,14 @@
 // The labels of a sample's line, appended to an output.
-ghost use Rattle.std.specs.Prelude.{◌≡◌, ◌++◌, List, length, map, OnOk};
+ghost use Rattle.std.specs.Prelude.{◌≡◌, ◌++◌, List, length, map, codes, OnOk};
 ghost use Rattle.fm_grammar.specs.Exposition.{Label};
-ghost use Rattle.fm_grammar.specs.Spelling.{label_text, label_list_text, in_braces};
+ghost use Rattle.fm_grammar.specs.Spelling.{escaped, label_text, label_list_text, in_braces};
 ghost use Rattle.fm_text.specs.Rows.{further_label, further_labels};
 ghost use Rattle.fm_text.specs.Samples.{label_of, labels_of, shown_label};
 ghost use Rattle.fm_sink.specs.Grown.{Grows};
 
 use crate::label_text::LabelText;
 use crate::output::Output;
-use crate::rendering::append_escaped;
+use crate::rendering::{append_escaped, is_plain};
 use std::alloc::AllocError;
 
 // A label as two texts, owned or lent.
@@ -98,6 +98,18 @@ impl<O: Output> Front<O> for Rendered<'_, O> {
     }
 }
 
+// Appends the value of a label, and the quote behind it.
+#[tactic(auto, using(crate::proofs::GrownLemmas::grown))]
+fn append_quoted<O: Output>(text: &mut O, value: &[u8]) -> Result<(), AllocError>
+    ensures { OnOk result (Grows (O.stands_for text.old) (O.stands_for text.new) (escaped value.now ++ codes "\"")) }
+{
+    if is_plain(value) {
+        return text.put_three(value, b"\"", b"");
+    }
+    append_escaped(text, value)?;
+    text.put(b"\"")
+}
+
 // Appends a label behind a separator.
 #[tactic(auto, using(crate::proofs::RowLemmas::line), unfolding(fm_grammar::specs::Spelling::label_text))]
 fn append_separated<O: Output>(
@@ -109,8 +121,7 @@ fn append_separated<O: Output>(
     ensures { OnOk result (Grows (O.stands_for text.old) (O.stands_for text.new) (separator.now ++ label_text (record { name = name.now; value = value.now }))) }
 {
     text.put_three(separator, name, b"=\"")?;
-    append_escaped(text, value)?;
-    text.put(b"\"")
+    append_quoted(text, value)
 }
 
 // Appends a label.
