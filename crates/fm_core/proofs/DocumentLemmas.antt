@@ -1,44 +1,73 @@
 -- One metric more in the text of a document.
-use Rattle.std.proofs.Common.{◌≡◌, ℕ, ◌<◌, ◌+◌, List, [], ◌∷◌, ◌++◌, map, Option, Some, None, length, get_or, take, inl, inr, refl, sym, ap, subst, ◌∙◌, append_assoc, append-nil}
+use Rattle.std.proofs.Common.{◌≡◌, ℕ, ◌<◌, ◌+◌, List, [], ◌∷◌, ◌++◌, map, Option, Some, None, Result, Ok, Err, MatchResult, ◌⊎◌, length, get_or, take, inl, inr, refl, sym, ap, subst, ◌∙◌, append_assoc, append-nil}
 use Rattle.std.proofs.lemmas.Grind.{flat_map-append}
-use Rattle.fm_grammar.specs.Exposition.{Text, Label, Family}
+use Rattle.fm_grammar.specs.Exposition.{Text, Sample, Family}
 use Rattle.fm_grammar.specs.Names.{AllDifferent}
 use Rattle.fm_grammar.specs.Reading.{IsNewName}
 use Rattle.fm_grammar.proofs.States.{exposition_push}
 use Rattle.fm_book.specs.Listing.{listed_name}
 use Rattle.fm_text.specs.Rows.{sample_rows, family_rows, families_rows}
-use Rattle.fm_sink.specs.Grown.{Grown}
-use Rattle.fm_sink.specs.Output.{Output, OutputText, LinesState, lines_in}
+use Rattle.fm_text.specs.declared.error.EncodeError.{EncodeError}
+use Rattle.fm_text.specs.declared.error.EncodeError.TheVariants.{Memory}
+use Rattle.fm_sink.specs.Output.{Output, OutputText, appended, with_lines}
 use Rattle.fm_encoder.specs.Points.{Member}
+use Rattle.fm_encoder.specs.Offers.{context_at}
+use Rattle.fm_encoder.specs.Gathered.{GatheredMembers, own_refusal}
+use Rattle.fm_encoder.specs.Hands.{HandsMembers}
 use Rattle.fm_registry.specs.Seen.{seen_list, seen_listed}
 use Rattle.fm_registry.specs.declared.listing.ListedMetric.{ListedMetric}
 use Rattle.fm_core.specs.Heading.{Heading, IsHeading}
 use Rattle.fm_core.specs.Offered.{Offered}
-use Rattle.fm_core.specs.Documents.{heading_rows, AddsRows, AddsNextRows, IsTextOf}
+use Rattle.fm_core.specs.Documents.{heading_rows, text_in, HasLines, AddsRows, AddsNextRows, IsTextOf}
+use Rattle.fm_core.specs.Admits.{FaultUnder}
+use Rattle.fm_core.proofs.OfferedLemmas.{Ends, Makes, offered_made}
 use Rattle.fm_core.proofs.CollectLemmas.{Admits-next, next_new}
 
-abbrev text_or : Option LinesState → Text
-text_or None = []
-text_or (Some lines) = lines.text
-
--- the lines that a sink gives back have the text that it got
-lines_text : (output : Output) (lines : LinesState) (text : Text) → output ≡ OutputText text → lines_in output ≡ Some lines → lines.text ≡ text
-lines_text output lines text is some =
-    let both : Some (record { text = text }) ≡ Some lines = rw is at some in
-    sym (ap text_or both)
-
 -- a heading's lines, and then those of the samples that the metric offered, are the lines of its family
-pub AddsRows-family : (Offers : List Member → Type 0) (Stamps : Option ℕ → Type 0) (MayBeEmpty : Type 0) (heading : Heading) (old headed : Text) (output : Output) (lines : LinesState) → IsHeading heading → Grown old headed (heading_rows heading) → Offered Offers Stamps heading.name heading.metric_type heading.labels (OutputText headed) output → lines_in output ≡ Some lines → AddsRows Offers Stamps MayBeEmpty heading old lines.text
-AddsRows-family Offers Stamps MayBeEmpty heading old headed output lines heads grown offered some =
+AddsRows-family : (Offers : List Member → Type 0) (Stamps : Option ℕ → Type 0) (MayBeEmpty : Type 0) (heading : Heading) (old : Text) (output : Output) → IsHeading heading → Offered Offers Stamps heading.name heading.metric_type heading.labels (OutputText (old ++ heading_rows heading)) output → AddsRows Offers Stamps MayBeEmpty heading old (text_in output)
+AddsRows-family Offers Stamps MayBeEmpty heading old output heads offered =
     let rows = sample_rows heading.name offered.samples in
     let family : Family = record { name = heading.name; metric_type = heading.metric_type; help = heading.help; unit = heading.unit; samples = offered.samples } in
-    let text : lines.text ≡ headed ++ rows = lines_text output lines (headed ++ rows) offered.is some in
     inr (
       family,
       record { name = refl; metric_type = refl; help = refl; unit = refl; samples = offered.admitted },
       record { name = heads.name; unit = heads.unit; allowed = heads.allowed; samples = offered.formed },
-      text ∙ ap (λ (t : Text). t ++ rows) grown.bytes ∙ append_assoc old (heading_rows heading) rows,
+      ap text_in offered.is ∙ append_assoc old (heading_rows heading) rows,
     )
+
+-- an output with samples more is a text where it was one
+still_text : (name : Text) (old new : Output) (text : Text) (samples : List Sample) → old ≡ OutputText text → new ≡ appended name old samples → new ≡ OutputText (text_in new)
+still_text name old new text samples was is =
+    let now : new ≡ OutputText (text ++ sample_rows name samples) = is ∙ ap (λ (o : Output). appended name o samples) was in
+    now ∙ ap OutputText (sym (ap text_in now))
+
+-- what an encoder makes of a metric whose family it has begun
+pub family_added : (Offers : List Member → Type 0) (Stamps : Option ℕ → Type 0) (MayBeEmpty MayFault : Type 0) (heading : Heading) (stamp : Option ℕ) (old begun new : GatheredMembers) (visited made : Result (Unit {0}) EncodeError)
+    → IsHeading heading → HasLines old → Stamps stamp
+    → begun ≡ record { context = context_at heading.name heading.metric_type heading.labels stamp; output = with_lines old.output (heading_rows heading); refused = old.refused }
+    → HandsMembers Offers MayFault begun new visited
+    → MatchResult made (λ _. (new.refused ≡ None) × (visited ≡ Ok tt)) (λ k. (new.refused ≡ Some k) ⊎ ((e : EncodeError) × (new.refused ≡ None) × (visited ≡ Err e) × (k ≡ own_refusal e)))
+    → MatchResult made (λ _. HasLines new × AddsRows Offers Stamps MayBeEmpty heading (text_in old.output) (text_in new.output)) (λ k. (k ≡ Memory) ⊎ FaultUnder Offers Stamps k MayFault heading)
+family_added Offers Stamps MayBeEmpty MayFault heading stamp old begun new visited made heads lines stamped is hands ends =
+    let text = text_in old.output in
+    let headed = OutputText (text ++ heading_rows heading) in
+    let same : begun ≡ record { context = context_at heading.name heading.metric_type heading.labels stamp; output = headed; refused = None } =
+    is ∙ (λ i. record { context = context_at heading.name heading.metric_type heading.labels stamp; output = with_lines (lines.text i) (heading_rows heading); refused = lines.accepting i }) in
+    added made ends (offered_made Offers Stamps MayFault heading.name heading.metric_type heading.labels stamp headed (λ _. new.context.setting.name) (λ _. new.output) begun new visited made same stamped hands (ended made ends))
+  where
+    headed_output : Output
+    headed_output = OutputText (text_in old.output ++ heading_rows heading)
+
+    ended : (r : Result (Unit {0}) EncodeError) → MatchResult r (λ _. (new.refused ≡ None) × (visited ≡ Ok tt)) (λ k. (new.refused ≡ Some k) ⊎ ((e : EncodeError) × (new.refused ≡ None) × (visited ≡ Err e) × (k ≡ own_refusal e)))
+        → Ends Offers Stamps MayFault heading.name heading.metric_type heading.labels stamp headed_output (λ _. new.context.setting.name) (λ _. new.output) new visited r
+    ended (Ok x) h = (h.0, h.1, refl, refl)
+    ended (Err k) h = h
+
+    added : (r : Result (Unit {0}) EncodeError) → MatchResult r (λ _. (new.refused ≡ None) × (visited ≡ Ok tt)) (λ k. (new.refused ≡ Some k) ⊎ ((e : EncodeError) × (new.refused ≡ None) × (visited ≡ Err e) × (k ≡ own_refusal e)))
+        → Makes Offers Stamps MayFault heading.name heading.metric_type heading.labels stamp headed_output (λ _. new.context.setting.name) (λ _. new.output) r
+        → MatchResult r (λ _. HasLines new × AddsRows Offers Stamps MayBeEmpty heading (text_in old.output) (text_in new.output)) (λ k. (k ≡ Memory) ⊎ FaultUnder Offers Stamps k MayFault heading)
+    added (Ok x) h m = (record { text = still_text heading.name headed_output new.output _ m.1.samples refl m.1.is; accepting = h.0 }, AddsRows-family Offers Stamps MayBeEmpty heading (text_in old.output) new.output heads m.1)
+    added (Err k) h m = m
 
 module _ {M : Type 0} (Offers : M → List Member → Type 0) (Stamps : M → Option ℕ → Type 0) (Empty : M → Type 0) where
   pub IsTextOf-none : IsTextOf Offers Stamps Empty [] []

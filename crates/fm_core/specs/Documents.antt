@@ -1,17 +1,29 @@
 -- The text of a document, as it grows metric by metric.
-use Rattle.std.specs.Prelude.{◌≡◌, ℕ, List, [], ◌++◌, Option, ◌⊎◌}
+use Rattle.std.specs.Prelude.{◌≡◌, ℕ, List, [], ◌++◌, Option, None, ◌⊎◌}
 use Rattle.fm_grammar.specs.Exposition.{Text, Family, Exposition}
 use Rattle.fm_grammar.specs.WellFormed.{IsFamily}
 use Rattle.fm_grammar.specs.Reading.{IsExposition}
 use Rattle.fm_text.specs.Rows.{head_rows, family_rows, families_rows}
 use Rattle.fm_book.specs.Listing.{Listed}
+use Rattle.fm_sink.specs.Output.{Output, OutputSamples, OutputText}
 use Rattle.fm_encoder.specs.Points.{Member}
+use Rattle.fm_encoder.specs.Gathered.{GatheredMembers}
 use Rattle.fm_core.specs.Heading.{Heading, heading_of}
 use Rattle.fm_core.specs.Admits.{IsFamilyUnder, Admits}
 
 -- the lines under a heading that stand before its samples
 abbrev pub heading_rows : Heading → Text
 heading_rows heading = head_rows (record { name = heading.name; metric_type = heading.metric_type; help = heading.help; unit = heading.unit; samples = [] })
+
+-- the text of an output that has one
+abbrev pub text_in : Output → Text
+text_in (OutputSamples samples) = []
+text_in (OutputText text) = text
+
+-- the encoder has a text, and has refused nothing
+pub record HasLines (encoder : GatheredMembers) : Type 0 where
+  pub text : encoder.output ≡ OutputText (text_in encoder.output)
+  pub accepting : encoder.refused ≡ None
 
 -- one metric more: it may be empty and adds nothing, or adds the lines of its family, which is well formed
 abbrev pub AddsRows : (List Member → Type 0) → (Option ℕ → Type 0) → Type 0 → Heading → Text → Text → Type 0

@@ -1,9 +1,10 @@
 // The text of a registry's document, which is rendered while its metrics are visited.
-ghost use Rattle.std.specs.Prelude.{◌≡◌, ◌⊎◌, [], MatchResult, IfOk, IfErr, OnOk, string_bytes};
+ghost use Rattle.std.specs.Prelude.{◌≡◌, ◌⊎◌, ◌++◌, codes, MatchResult, IfOk, IfErr, IfSome, OnOk};
 ghost use Rattle.std.specs.Option.{option_copied};
 ghost use Rattle.std.specs.Io.KnownBytes.{Keeps};
 ghost use Rattle.fm_grammar.specs.Exposition.{Exposition};
 ghost use Rattle.fm_grammar.specs.Reading.{IsExposition};
+ghost use Rattle.fm_grammar.specs.WellFormed.{AreMillis};
 ghost use Rattle.fm_text.specs.declared.error.EncodeError.{EncodeError};
 ghost use Rattle.fm_text.specs.Rows.{document_rows};
 ghost use Rattle.fm_text.specs.Samples.{labels_of};
@@ -12,88 +13,118 @@ ghost use Rattle.fm_book.specs.Listing.{order, IsListable};
 ghost use Rattle.fm_book.specs.Tree.{Shows};
 ghost use Rattle.fm_registry.specs.Seen.{seen_list, seen_listed};
 ghost use Rattle.fm_registry.specs.HasBook.{HasBook};
-ghost use Rattle.fm_sink.specs.Grown.{Grown};
+ghost use Rattle.fm_sink.specs.Output.{with_lines};
+ghost use Rattle.fm_encoder.specs.Offers.{context_at};
 ghost use Rattle.fm_core.specs.Heading.{IsHeading};
 ghost use Rattle.fm_core.specs.Families.{heading_in};
 ghost use Rattle.fm_core.specs.Admits.{Admits, FaultOf, Fault, FaultUnder};
-ghost use Rattle.fm_core.specs.Documents.{heading_rows, AddsRows, AddsNextRows};
+ghost use Rattle.fm_core.specs.Documents.{heading_rows, text_in, HasLines, AddsRows, AddsNextRows};
 
-use crate::family::{joined_name, offered_by, text_of};
+use crate::family::{join_name, text_of, whole_millis};
 use crate::format::text::constants_of;
-use fm_encoder::EncodeMetric;
+use fm_encoder::{EncodeMetric, MetricEncoder};
 use fm_raw::Metadata;
 use fm_registry::{ListedMetric, Registry};
-use fm_sink::{Lines, Sink};
+use fm_sink::Lines;
 use fm_text::{EncodeError, write_text};
 use std::alloc::{AllocError, Global};
 use std::io::Write;
 
-// Appends the lines that stand before a metric's samples, and answers its printed name.
-fn append_heading(
+// Goes on to the family of a metric with this metadata, and appends the lines that stand before its samples.
+fn begin_family(
     alloc: Global,
-    lines: &mut Lines,
+    encoder: &mut MetricEncoder,
+    name: &mut String,
     namespace: Option<&str>,
+    constants: &[(String, String)],
     metadata: &Metadata,
-) -> Result<String, AllocError>
-    ensures name { IfOk result (λ name. string_bytes name ≡ (heading_in (option_copied namespace.entry) [] metadata.now).name) }
-    ensures grown { OnOk result (Grown lines.old.text lines.new.text (heading_rows (heading_in (option_copied namespace.entry) [] metadata.now))) }
+    time: Option<u128>,
+) -> Result<(), EncodeError>
+    requires heading { IsHeading (heading_in (option_copied namespace) (labels_of constants.now) metadata.now) }
+    requires time { IfSome time AreMillis }
+    ensures begun { let heading = heading_in (option_copied namespace.entry) (labels_of constants.now) metadata.now in
+        OnOk result (encoder.new ≡ record {
+          context = context_at heading.name heading.metric_type heading.labels time;
+          output = with_lines encoder.old.output (heading_rows heading);
+          refused = encoder.old.refused;
+        }) }
+    ensures memory { IfErr result (λ k. k ≡ EncodeError.Memory) }
 {
     let unit = text_of(metadata.unit());
-    let name = joined_name(alloc, namespace, metadata.name(), unit)?;
-    lines.append_heads(name.as_str(), metadata.metric_type(), metadata.help(), unit)?;
-    Ok(name)
+    join_name(name, namespace, metadata.name(), unit)?;
+    encoder.begin_family(
+        alloc,
+        name,
+        metadata.metric_type(),
+        metadata.help(),
+        unit,
+        constants,
+        time,
+    )
 }
 
-// The lines with those of a metric's family more, unless the metric is empty, or the first refusal.
-fn with_family(
+// Appends the lines of a metric's family, unless the metric is empty, or answers the first refusal.
+fn add_family(
     alloc: Global,
-    lines: Lines,
+    encoder: &mut MetricEncoder,
+    name: &mut String,
     namespace: Option<&str>,
     constants: &[(String, String)],
     metadata: &Metadata,
     metric: &dyn EncodeMetric,
-) -> Result<Lines, EncodeError>
-    requires { IsHeading (heading_in (option_copied namespace) (labels_of constants.now) metadata.now) }
+) -> Result<(), EncodeError>
+    requires heading { IsHeading (heading_in (option_copied namespace) (labels_of constants.now) metadata.now) }
+    requires lines { HasLines encoder.old }
     ensures { MatchResult result
-        (λ more. AddsRows (offers metric.now) (stamps metric.now) (may_be_empty metric.now) (heading_in (option_copied namespace.entry) (labels_of constants.now) metadata.now) lines.text more.text)
+        (λ _. HasLines encoder.new × AddsRows (offers metric.now) (stamps metric.now) (may_be_empty metric.now) (heading_in (option_copied namespace.entry) (labels_of constants.now) metadata.now) (text_in encoder.old.output) (text_in encoder.new.output))
         (λ k. (k ≡ EncodeError.Memory) ⊎ FaultUnder (offers metric.now) (stamps metric.now) k (may_fault metric.now) (heading_in (option_copied namespace.entry) (labels_of constants.now) metadata.now)) }
 {
     if metric.is_empty() {
-        return Ok(lines);
+        return Ok(());
     }
-    let mut lines = lines;
-    let Ok(name) = append_heading(alloc, &mut lines, namespace, metadata) else {
-        return Err(EncodeError::Memory);
-    };
-    let sink = Sink::lines(alloc, lines);
-    match offered_by(alloc, name, metadata.metric_type(), constants, metric, sink) {
-        Ok((_, sink)) => match sink.into_lines() {
-            Some(lines) => Ok(lines),
-            None => unreachable!(),
-        },
-        Err(error) => Err(error),
-    }
+    let time = whole_millis(metric.timestamp());
+    begin_family(alloc, encoder, name, namespace, constants, metadata, time)?;
+    let visited = metric.encode(encoder);
+    encoder.outcome(visited)
 }
 
-// The lines with those of a listed metric's family more, unless the metric is empty, or the first refusal.
-fn with_listed(
+// Appends the lines of a listed metric's family, unless the metric is empty, or answers the first refusal.
+fn add_listed(
     alloc: Global,
-    lines: Lines,
+    encoder: &mut MetricEncoder,
+    name: &mut String,
     listed: &ListedMetric<'_, Box<dyn EncodeMetric>>,
-) -> Result<Lines, EncodeError>
-    requires { IsListable (seen_listed listed.now) }
+) -> Result<(), EncodeError>
+    requires listable { IsListable (seen_listed listed.now) }
+    requires lines { HasLines encoder.old }
     ensures { MatchResult result
-        (λ more. AddsNextRows (λ m. offers m) (λ m. stamps m) (λ m. may_be_empty m) (seen_listed listed.now) lines.text more.text)
+        (λ _. HasLines encoder.new × AddsNextRows (λ m. offers m) (λ m. stamps m) (λ m. may_be_empty m) (seen_listed listed.now) (text_in encoder.old.output) (text_in encoder.new.output))
         (λ k. (k ≡ EncodeError.Memory) ⊎ FaultOf k (λ m. offers m) (λ m. stamps m) (λ m. may_fault m) (seen_listed listed.now)) }
 {
-    with_family(
+    add_family(
         alloc,
-        lines,
+        encoder,
+        name,
         listed.namespace.as_deref(),
         constants_of(listed.const_labels),
         listed.metadata,
         &**listed.metric,
     )
+}
+
+// The lines of an encoder, with the last one of a document.
+fn ended_lines(encoder: MetricEncoder) -> Result<Lines, AllocError>
+    requires { HasLines encoder }
+    ensures { IfOk result (λ lines. lines.text ≡ text_in encoder.output ++ codes "# EOF\n") }
+{
+    let (_, sink) = encoder.into_parts();
+    match sink.into_lines() {
+        Some(mut lines) => {
+            lines.append(b"# EOF\n")?;
+            Ok(lines)
+        }
+        None => unreachable!(),
+    }
 }
 
 // The lines of the document of a registry and all below it, or the first refusal. It may wait where a metric waits for a lock.
@@ -108,12 +139,13 @@ pub(crate) fn document_lines(alloc: Global, registry: &Registry) -> Result<Lines
     let Ok(list) = registry.listing(alloc) else {
         return Err(EncodeError::Memory);
     };
-    let mut lines = Lines::new(alloc);
+    let mut encoder = MetricEncoder::for_lines(alloc)?;
+    let mut name = String::new(alloc);
     for listed in &list {
-        lines = with_listed(alloc, lines, listed)?;
+        add_listed(alloc, &mut encoder, &mut name, listed)?;
     }
-    match lines.append(b"# EOF\n") {
-        Ok(()) => Ok(lines),
+    match ended_lines(encoder) {
+        Ok(lines) => Ok(lines),
         Err(_) => Err(EncodeError::Memory),
     }
 }

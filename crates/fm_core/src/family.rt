@@ -1,5 +1,5 @@
 //! The encoder of families, one for a whole collection.
-ghost use Rattle.std.specs.Prelude.{◌≡◌, ◌⊎◌, [], Some, None, MatchResult, IfOk, IfSome, string_bytes};
+ghost use Rattle.std.specs.Prelude.{◌≡◌, ◌⊎◌, [], Some, None, MatchResult, OnOk, IfOk, IfSome, string_bytes};
 ghost use Rattle.std.specs.Option.{option_map, option_copied};
 ghost use Rattle.std.specs.List.{AllByRecursion};
 ghost use Rattle.fm_grammar.specs.Names.{IsSnakeCase};
@@ -27,7 +27,7 @@ use std::marker::Model;
 use std::time::Duration;
 
 // The whole milliseconds of a timestamp.
-fn whole_millis(time: Option<Duration>) -> Option<u128>
+pub(crate) fn whole_millis(time: Option<Duration>) -> Option<u128>
     ensures value { result ≡ option_map millis time }
     ensures range { IfSome result AreMillis }
 {
@@ -45,8 +45,30 @@ fn room_of(text: Option<&str>) -> usize {
     }
 }
 
+// Puts namespace, name and unit, those that are there, joined by underscores, in place of a text.
+pub(crate) fn join_name(
+    text: &mut String,
+    namespace: Option<&str>,
+    name: &str,
+    unit: Option<&str>,
+) -> Result<(), AllocError>
+    ensures { OnOk result (string_bytes text.new ≡ printed_name (option_copied namespace.entry) name.now (option_copied unit.entry)) }
+{
+    text.clear();
+    if let Some(namespace) = namespace {
+        text.push_str(namespace)?;
+        text.push_str("_")?;
+    }
+    text.push_str(name)?;
+    if let Some(unit) = unit {
+        text.push_str("_")?;
+        text.push_str(unit)?;
+    }
+    Ok(())
+}
+
 // Namespace, name and unit, those that are there, joined by underscores.
-pub(crate) fn joined_name(
+fn joined_name(
     alloc: Global,
     namespace: Option<&str>,
     name: &str,
@@ -58,15 +80,7 @@ pub(crate) fn joined_name(
         .saturating_add(name.len())
         .saturating_add(room_of(unit));
     let mut text = String::with_capacity(alloc, room)?;
-    if let Some(namespace) = namespace {
-        text.push_str(namespace)?;
-        text.push_str("_")?;
-    }
-    text.push_str(name)?;
-    if let Some(unit) = unit {
-        text.push_str("_")?;
-        text.push_str(unit)?;
-    }
+    join_name(&mut text, namespace, name, unit)?;
     Ok(text)
 }
 
@@ -92,7 +106,7 @@ pub(crate) fn text_of(unit: Option<&Unit>) -> Option<&str>
 
 // Puts what a metric offers under its printed name, type and constant labels into a sink, or answers the first refusal. The name
 // comes back with the sink.
-pub(crate) fn offered_by(
+fn offered_by(
     alloc: Global,
     name: String,
     metric_type: MetricType,
@@ -108,12 +122,12 @@ pub(crate) fn offered_by(
         (λ k. (k ≡ EncodeError.Memory) ⊎ MetricHasFault k (offers metric.now) (stamps metric.now) (may_fault metric.now) (string_bytes name) metric_type (labels_of constants.now)) }
 {
     let time = whole_millis(metric.timestamp());
-    let mut encoder = match MetricEncoder::new(alloc, name, metric_type, constants, time, sink) {
-        Ok(encoder) => encoder,
-        Err(error) => return Err(error),
-    };
+    let mut encoder = MetricEncoder::new(alloc, name, metric_type, constants, time, sink)?;
     let visited = metric.encode(&mut encoder);
-    encoder.end(visited)
+    match encoder.outcome(visited) {
+        Ok(()) => Ok(encoder.into_parts()),
+        Err(error) => Err(error),
+    }
 }
 
 // What a metric offers under its printed name, type and constant labels, as samples, or the first refusal. The name comes

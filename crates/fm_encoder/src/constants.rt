@@ -1,5 +1,5 @@
 // The constant labels of a family.
-ghost use Rattle.std.specs.Prelude.{◌≡◌, ◌⊎◌, ◌++◌, [], ◌∷◌, None, OnOk, IfOk, IfErr, MatchResult};
+ghost use Rattle.std.specs.Prelude.{◌≡◌, ◌⊎◌, ◌++◌, [], ◌∷◌, None, OnOk, OnErr, IfOk, IfErr, MatchResult};
 ghost use Rattle.fm_text.specs.declared.error.EncodeError.{EncodeError};
 ghost use Rattle.fm_text.specs.Samples.{label_of, labels_of};
 ghost use Rattle.fm_encoder.specs.Labels.{LabelsClean, LabelsFault, all_written, handed_again};
@@ -99,6 +99,24 @@ impl ConstantLabels {
                 Err(_) => Err(EncodeError::Memory),
             },
         }
+    }
+
+    // Goes on to a family of this type under these labels, which are tested unless they are those of the family before and its type is the
+    // same. It may find no memory; then nothing changes.
+    pub(crate) fn begin(
+        &mut self,
+        alloc: Global,
+        metric_type: MetricType,
+        labels: &[(String, String)],
+    ) -> Result<(), EncodeError>
+        ensures begun { OnOk result (self.new ≡ record { metric_type = metric_type; labels = labels_of labels.now }) }
+        ensures kept { OnErr result (self.new ≡ self.old) }
+        ensures memory { IfErr result (λ e. e ≡ EncodeError.Memory) }
+    {
+        if metric_type != self.metric_type || !self.labels.are(labels) {
+            *self = ConstantLabels::new(alloc, metric_type, labels)?;
+        }
+        Ok(())
     }
 
     // Puts the constant labels and these behind them in place of the encoder's own, each of them clean.

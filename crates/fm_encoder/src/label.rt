@@ -99,10 +99,11 @@ impl LabelEncoder {
         self.labels.assign(before)
     }
 
-    // Removes all labels, as if nothing had been refused.
-    fn clear(&mut self)
-        ensures { self.new ≡ record { metric_type = self.old.metric_type; labels = []; pieces = []; refused = None } }
+    // Removes all labels, as if nothing had been refused, for a family of this type.
+    fn begin(&mut self, metric_type: MetricType)
+        ensures { self.new ≡ record { metric_type = metric_type; labels = []; pieces = []; refused = None } }
     {
+        self.metric_type = metric_type;
         self.refused = None;
         self.labels.clear();
     }
@@ -252,11 +253,11 @@ impl LabelSetEncoder {
         self.label.restart(before)
     }
 
-    // Removes all labels, as if nothing had been refused.
-    pub(crate) fn clear(&mut self)
-        ensures { self.new ≡ record self.old { labels = []; refused = None } }
+    // Removes all labels, as if nothing had been refused, for a family of this type.
+    pub(crate) fn begin(&mut self, metric_type: MetricType)
+        ensures { self.new ≡ record { metric_type = metric_type; labels = []; refused = None } }
     {
-        self.label.clear();
+        self.label.begin(metric_type);
     }
 
     /// Takes one more label. Beside the refusals of its name, a name without a value is refused as `MalformedLabel`,

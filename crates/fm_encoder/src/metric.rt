@@ -1,12 +1,13 @@
 //! Metrics: what offers members, and the encoder that puts a family's samples into a sink.
-ghost use Rattle.std.specs.Prelude.{◌≡◌, ◌++◌, ℕ, List, [], ◌∷◌, ◌⊎◌, MatchResult, MatchOption, Option, None, Some, IsTrue, IfSome, IfOk, IfErr, Ok, Err, map, string_bytes};
-ghost use Rattle.std.specs.Option.{option_map, option_map_or};
+ghost use Rattle.std.specs.Prelude.{◌≡◌, ◌++◌, ℕ, List, [], ◌∷◌, ◌⊎◌, MatchResult, MatchOption, Option, None, Some, IsTrue, IfSome, OnOk, IfOk, IfErr, Ok, Err, map, string_bytes};
+ghost use Rattle.std.specs.Option.{option_map, option_map_or, option_copied};
 ghost use Rattle.fm_grammar.specs.declared.MetricType.{MetricType};
 ghost use Rattle.fm_grammar.specs.Names.{IsSnakeCase};
 ghost use Rattle.fm_grammar.specs.WellFormed.{AreMillis};
 ghost use Rattle.fm_text.specs.declared.error.EncodeError.{EncodeError};
+ghost use Rattle.fm_text.specs.Rows.{head_rows};
 ghost use Rattle.fm_text.specs.Samples.{labels_of};
-ghost use Rattle.fm_sink.specs.Output.{AreShared};
+ghost use Rattle.fm_sink.specs.Output.{AreShared, OutputText, with_lines};
 ghost use Rattle.fm_encoder.specs.Labels.{LabelsClean, LabelsFault, all_written, handed_again};
 ghost use Rattle.fm_encoder.specs.Points.{Member, UnknownPoint, GaugePoint, CounterPoint, StateSetPoint, InfoPoint, millis};
 ghost use Rattle.fm_encoder.specs.States.{state_of};
@@ -20,7 +21,7 @@ use crate::own::own_refusal;
 use crate::point::{EncodePoint, PointEncoder};
 use crate::value::{EncodeCounterValue, EncodeGaugeValue, EncodeUnknownValue};
 use fm_grammar::MetricType;
-use fm_sink::Sink;
+use fm_sink::{Lines, Sink};
 use fm_text::EncodeError;
 use std::alloc::Global;
 use std::marker::Model;
@@ -194,6 +195,58 @@ impl MetricEncoder {
         })
     }
 
+    /// An encoder that appends the lines of families, of which `begin_family` begins each. It is for the collector. It may find no
+    /// memory.
+    pub fn for_lines(alloc: Global) -> Result<MetricEncoder, EncodeError>
+        ensures made { IfOk result (λ encoder. (encoder.output ≡ OutputText []) × (encoder.refused ≡ None)) }
+        ensures memory { IfErr result (λ e. e ≡ EncodeError.Memory) }
+    {
+        let name = String::from_str(alloc, "unnamed")?;
+        let sink = Sink::lines(alloc, Lines::new(alloc));
+        MetricEncoder::new(alloc, name, MetricType::Unknown, &[], None, sink)
+    }
+
+    /// Goes on to the family of this printed name and type, under these constant labels, appends the lines that stand before its
+    /// samples, and writes the timestamp, in milliseconds, on each sample. The name is exchanged for that of the family before. It
+    /// is for the collector. It may find no memory; then part of these lines may stand at the end.
+    pub fn begin_family(
+        &mut self,
+        alloc: Global,
+        name: &mut String,
+        metric_type: MetricType,
+        help: &str,
+        unit: Option<&str>,
+        constants: &[(String, String)],
+        time: Option<u128>,
+    ) -> Result<(), EncodeError>
+        requires name { IsSnakeCase (string_bytes name.old) }
+        requires time { IfSome time AreMillis }
+        ensures begun { OnOk result (self.new ≡ record {
+          context = record {
+            setting = record { name = string_bytes name.old; metric_type = metric_type; time = time };
+            constants = labels_of constants.now;
+          };
+          output = with_lines self.old.output (head_rows (record {
+            name = string_bytes name.old;
+            metric_type = metric_type;
+            help = help.now;
+            unit = option_copied unit.entry;
+            samples = [];
+          }));
+          refused = self.old.refused;
+        }) }
+        ensures memory { IfErr result (λ e. e ≡ EncodeError.Memory) }
+    {
+        self.constants.begin(alloc, metric_type, constants)?;
+        match self
+            .points
+            .begin_family(name, metric_type, help, unit, time)
+        {
+            Ok(()) => Ok(()),
+            Err(_) => Err(EncodeError::Memory),
+        }
+    }
+
     /// Takes a member: its labels, which are read once, and its point. It is refused first as the point's type, then as
     /// its labels, then as its values are; an own error of either becomes `Memory` or `MetricFault`.
     pub fn encode<LS: EncodeLabelSet, P: EncodePoint>(
@@ -277,24 +330,26 @@ impl MetricEncoder {
         self.encode(&(), &InfoLabels(labels))
     }
 
-    /// The family's name and the sink, where nothing was refused and the metric answered `visited`; else the first refusal. It is
-    /// for the collector.
-    pub fn end(self, visited: Result<(), EncodeError>) -> Result<(String, Sink), EncodeError>
+    /// The first refusal, where the metric returned `visited`. It is for the collector.
+    pub fn outcome(&self, visited: Result<(), EncodeError>) -> Result<(), EncodeError>
         ensures { MatchResult result
-            (λ made. (self.refused ≡ None) × (visited ≡ Ok tt) × (string_bytes made.0 ≡ self.context.setting.name)
-            × (made.1.output ≡ self.output))
-            (λ k. (self.refused ≡ Some k) ⊎ ((e : EncodeError) × (self.refused ≡ None) × (visited ≡ Err e) × (k ≡ own_refusal e))) }
+            (λ _. (self.now.refused ≡ None) × (visited ≡ Ok tt))
+            (λ k. (self.now.refused ≡ Some k) ⊎ ((e : EncodeError) × (self.now.refused ≡ None) × (visited ≡ Err e) × (k ≡ own_refusal e))) }
     {
-        let MetricEncoder {
-            constants: _,
-            points,
-        } = self;
-        if let Some(error) = points.refused() {
+        if let Some(error) = self.points.refused() {
             return Err(error);
         }
         match visited {
-            Ok(()) => Ok(points.into_parts()),
+            Ok(()) => Ok(()),
             Err(error) => Err(own_refusal(error)),
         }
+    }
+
+    /// The name of the last family, and the sink. It is for the collector.
+    pub fn into_parts(self) -> (String, Sink)
+        ensures name { string_bytes result.0 ≡ self.context.setting.name }
+        ensures output { result.1.output ≡ self.output }
+    {
+        self.points.into_parts()
     }
 }

@@ -1,13 +1,14 @@
 //! Points: what hands them over, and the encoder that puts their samples into a sink.
 ghost use Rattle.std.specs.Prelude.{◌≡◌, ◌⊎◌, ◌++◌, List, [], ◌∷◌, MatchResult, MatchOption, None, Some, OnOk, IfOk, IfErr, IfSome, Contains, map, string_bytes};
-ghost use Rattle.std.specs.Option.{option_map, option_map_or};
+ghost use Rattle.std.specs.Option.{option_map, option_map_or, option_copied};
 ghost use Rattle.fm_grammar.specs.Names.{IsSnakeCase};
 ghost use Rattle.fm_grammar.specs.declared.MetricType.{MetricType};
 ghost use Rattle.fm_grammar.specs.WellFormed.{AreLabels, AreMillis, IsSample, kinds_of};
 ghost use Rattle.fm_grammar.specs.declared.SampleKind.TheVariants.{Total as TotalKind, Created as CreatedKind};
 ghost use Rattle.fm_text.specs.declared.error.EncodeError.{EncodeError};
+ghost use Rattle.fm_text.specs.Rows.{head_rows};
 ghost use Rattle.fm_text.specs.Samples.{shown_label, value_of, exemplar_of};
-ghost use Rattle.fm_sink.specs.Output.{AreShared, appended};
+ghost use Rattle.fm_sink.specs.Output.{AreShared, appended, with_lines};
 ghost use Rattle.fm_encoder.specs.Points.{Point, UnknownPoint, GaugePoint, CounterPoint, StateSetPoint, InfoPoint, plain_sample, state_sample, created_samples, millis};
 ghost use Rattle.fm_encoder.specs.Labels.{LabelsClean, LabelsFault, AreFree, all_written, handed_again, label_names};
 ghost use Rattle.fm_encoder.specs.States.{state_of};
@@ -28,8 +29,9 @@ use crate::value::{
 use fm_grammar::{MetricType, SampleKind};
 use fm_sink::{LabelText, Sink};
 use fm_text::{EncodeError, Exemplar, Value};
-use std::alloc::Global;
+use std::alloc::{AllocError, Global};
 use std::marker::Model;
+use std::mem;
 use std::time::Duration;
 
 pub(crate) mod histogram;
@@ -168,6 +170,37 @@ impl PointEncoder {
             sink,
             refused: None,
         }
+    }
+
+    // Goes on to a family of this name, which is exchanged for that of the family before, this type and this timestamp, and appends the
+    // lines that stand before its samples. It may find no memory; then part of these lines may stand at the end.
+    pub(crate) fn begin_family(
+        &mut self,
+        name: &mut String,
+        metric_type: MetricType,
+        help: &str,
+        unit: Option<&str>,
+        time: Option<u128>,
+    ) -> Result<(), AllocError>
+        requires name { IsSnakeCase (string_bytes name.old) }
+        requires time { IfSome time AreMillis }
+        ensures setting { self.new.setting ≡ record { name = string_bytes name.old; metric_type = metric_type; time = time } }
+        ensures refused { self.new.refused ≡ self.old.refused }
+        ensures output { OnOk result (self.new.output ≡ with_lines self.old.output (head_rows (record {
+          name = string_bytes name.old;
+          metric_type = metric_type;
+          help = help.now;
+          unit = option_copied unit.entry;
+          samples = [];
+        }))) }
+    {
+        mem::swap(&mut self.name, name);
+        self.time = time;
+        self.labels.begin(metric_type);
+        self.sink.unshare();
+        self.deferred = None;
+        self.sink
+            .append_heads(self.name.as_str(), metric_type, help, unit)
     }
 
     fn refuse(&mut self, error: EncodeError) -> Result<(), EncodeError>
@@ -445,7 +478,7 @@ impl PointEncoder {
         match read_labels(&mut self.labels, &mut self.sink, constants, labels) {
             Ok(()) => self.deferred = None,
             Err(error) => {
-                self.labels.clear();
+                self.labels.begin(self.labels.metric_type());
                 self.sink.unshare();
                 self.deferred = Some(error);
             }

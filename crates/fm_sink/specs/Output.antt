@@ -13,6 +13,11 @@ abbrev pub appended : Text → Output → List Sample → Output
 appended name (OutputSamples before) samples = OutputSamples (before ++ samples)
 appended name (OutputText before) samples = OutputText (before ++ sample_rows name samples)
 
+-- with these lines more, where it has a text
+abbrev pub with_lines : Output → Text → Output
+with_lines (OutputSamples before) lines = OutputSamples before
+with_lines (OutputText before) lines = OutputText (before ++ lines)
+
 -- What contracts see of a sink: the labels that the next samples share, where it keeps samples and can take them, and the output so
 -- far.
 pub record SinkState : Type 0 where

@@ -3,7 +3,7 @@ ghost use Rattle.std.specs.Prelude.{◌≡◌, ◌++◌, ◌≤◌, ◌↔◌, I
 ghost use Rattle.std.specs.Option.{option_map};
 ghost use Rattle.std.specs.List.{AllByRecursion};
 ghost use Rattle.fm_grammar.specs.Spelling.{label_list_text, escaped};
-ghost use Rattle.fm_text.specs.Samples.{shown_label};
+ghost use Rattle.fm_text.specs.Samples.{label_of, labels_of, shown_label};
 ghost use Rattle.fm_sink.specs.Grown.{Grown, Grows};
 ghost use Rattle.fm_sink.specs.LabelTexts.{part_in, label_in, labels_in, IsPart, IsPlace, names_in, name_in_list, whole_label, whole_place};
 
@@ -96,6 +96,31 @@ fn has_name(text: &[u8], places: &[Place], name: &[u8]) -> bool
         }
     }
     false
+}
+
+// Whether this label stands there.
+fn is_label(text: &[u8], place: &Place, label: &(String, String)) -> bool
+    requires { IsPlace text.now place.now }
+    ensures { IsTrue result → label_in text.now place.now ≡ label_of label.now }
+{
+    part_at(text, place.name) == label.0.as_bytes()
+        && part_at(text, place.value) == label.1.as_bytes()
+}
+
+// Whether the labels that stand there are these.
+fn are_labels(text: &[u8], places: &[Place], labels: &[(String, String)]) -> bool
+    requires { AllByRecursion (IsPlace text.now) places.now }
+    ensures { IsTrue result → labels_in text.now places.now ≡ labels_of labels.now }
+{
+    if places.len() != labels.len() {
+        return false;
+    }
+    for i in 0..places.len() {
+        if !is_label(text, &places[i], &labels[i]) {
+            return false;
+        }
+    }
+    true
 }
 
 // Adds the place of a label that has a name and a value.
@@ -239,6 +264,13 @@ impl LabelText {
         ensures { IsTrue result ↔ Contains (map (λ label. label.name) self.now.labels) name.now }
     {
         has_name(self.text.as_slice(), &self.places, name.as_bytes())
+    }
+
+    /// Whether its labels are these, in this order.
+    pub fn are(&self, labels: &[(String, String)]) -> bool
+        ensures { IsTrue result → self.now.labels ≡ labels_of labels.now }
+    {
+        are_labels(self.text.as_slice(), &self.places, labels)
     }
 
     /// Removes all labels, and keeps the memory for further ones.

@@ -1,13 +1,14 @@
 //! Where encoders put the samples of a family.
 ghost use Rattle.std.specs.Prelude.{◌≡◌, ◌++◌, None, Some, [], ◌∷◌, map, OnOk, OnErr, IfOk, IfErr};
-ghost use Rattle.std.specs.Option.{option_map};
+ghost use Rattle.std.specs.Option.{option_map, option_copied};
 ghost use Rattle.fm_text.specs.declared.error.EncodeError.{EncodeError};
+ghost use Rattle.fm_text.specs.Rows.{head_rows};
 ghost use Rattle.fm_text.specs.Samples.{labels_of, shared_labels, shown_label, value_of, exemplar_of};
-ghost use Rattle.fm_sink.specs.Output.{OutputSamples, OutputText, AreShared, appended, samples_in, lines_in};
+ghost use Rattle.fm_sink.specs.Output.{OutputSamples, OutputText, AreShared, appended, with_lines, samples_in, lines_in};
 
 use crate::label_text::LabelText;
 use crate::lines::Lines;
-use fm_grammar::SampleKind;
+use fm_grammar::{MetricType, SampleKind};
 use fm_text::{CommonLabels, EncodeError, Exemplar, SampleStore, Value};
 use std::alloc::{AllocError, Global};
 use std::marker::Model;
@@ -81,6 +82,29 @@ impl Sink {
         Sink {
             alloc,
             form: Form::Lines(lines),
+        }
+    }
+
+    /// Appends the lines of a family that stand before its samples; a sink that keeps samples has none. It may find no memory.
+    pub fn append_heads(
+        &mut self,
+        name: &str,
+        metric_type: MetricType,
+        help: &str,
+        unit: Option<&str>,
+    ) -> Result<(), AllocError>
+        ensures shared { self.new.shared ≡ self.old.shared }
+        ensures grown { OnOk result (self.new.output ≡ with_lines self.old.output (head_rows (record {
+          name = name.now;
+          metric_type = metric_type;
+          help = help.now;
+          unit = option_copied unit.entry;
+          samples = [];
+        }))) }
+    {
+        match &mut self.form {
+            Form::Samples(_, _) => Ok(()),
+            Form::Lines(lines) => lines.append_heads(name, metric_type, help, unit),
         }
     }
 

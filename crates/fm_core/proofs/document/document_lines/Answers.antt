@@ -1,47 +1,72 @@
-use Rattle.std.proofs.Common.{◌<◌, List, length, arith, inl, inr, subst, ap, sym, ◌∙◌}
+use Rattle.std.proofs.Common.{◌<◌, ◌++◌, codes, List, length, arith, inl, inr, subst, ap, sym, ◌∙◌}
 use Rattle.std.specs.List.{AllByRecursion}
+use Rattle.std.proofs.lemmas.List.{take_all}
 use Rattle.std.proofs.lemmas.Result.{err_from_is_err_and}
 use Rattle.fm_book.specs.Listing.{Listed, IsListable}
 use Rattle.fm_book.proofs.OrderLemmas.{listed_tree-fits}
 use Rattle.fm_registry.specs.Seen.{seen_list, seen_listed}
-use Rattle.fm_core.specs.Admits.{Fault}
+use Rattle.fm_grammar.specs.Exposition.{Text}
+use Rattle.fm_sink.specs.Output.{OutputText}
+use Rattle.fm_core.specs.Admits.{Admits, Fault}
+use Rattle.fm_core.specs.Documents.{text_in}
 use Rattle.fm_core.proofs.CollectLemmas.{names_differ, Fault-at, IsListable-at, refusal-not_writing}
 use Rattle.fm_core.proofs.DocumentLemmas.{IsTextOf-none, IsTextOf-next}
 use Rattle.fm_core.proofs.document.document_lines.Goals as goal
 
-pub with_listed-requires : goal.with_listed-requires
-with_listed-requires g c =
+pub add_listed-requires-clause-listable : goal.add_listed-requires-clause-listable
+add_listed-requires-clause-listable g c =
     let within : c.loop-listed.listed-index < length c.deref-listed-items.result.now = omega arith in
     let whole = ap seen_list c.deref-listed-items.ensures.value ∙ c.in-Ok.ensures.tree in
     IsListable-at c.deref-listed-items.result.now c.loop-listed.listed-index c.listed-item.result within c.listed-item.is
     (subst (λ (ls : List (Listed _)). AllByRecursion IsListable ls) (sym whole) (listed_tree-fits c.args.registry.now c.requires.book c.requires.reads))
 
 pub loop-listed-init : goal.loop-listed-init
-loop-listed-init g c = rw c.new-lines.ensures (IsTextOf-none _ _ _)
+loop-listed-init g c =
+    let made = rw c.in_ok-encoder.was at c.for_lines.ensures.made in
+    let output = made.0 in
+    record {
+      lines = record { text = output ∙ ap OutputText (sym (ap text_in output)); accepting = made.1 };
+      text = rw output (IsTextOf-none _ _ _);
+    }
 
 pub loop-listed-preserved : goal.loop-listed-preserved
 loop-listed-preserved g c =
     let within : c.loop-listed.listed-index < length c.deref-listed-items.result.now = omega arith in
-    IsTextOf-next _ _ _ c.deref-listed-items.result.now c.loop-listed.listed-index c.listed-item.result c.loop-listed.lines.text c.in_ok-lines.lines.text
-    within c.listed-item.is
-    (names_differ c.args.registry.now c.requires.book (seen_list c.deref-listed-items.result.now) c.requires.reads (ap seen_list c.deref-listed-items.ensures.value ∙ c.in-Ok.ensures.book c.requires c.requires.book c.requires.reads.shows))
-    c.loop-listed.invariant (rw c.in_ok-lines.was at c.with_listed.ensures)
+    let added = rw c.in_ok-add_listed.was at c.add_listed.ensures in
+    record {
+      lines = added.0;
+      text = IsTextOf-next _ _ _ c.deref-listed-items.result.now c.loop-listed.listed-index c.listed-item.result (text_in c.loop-listed.encoder.output) (text_in c.add_listed.new.encoder.output)
+          within c.listed-item.is
+          (names_differ c.args.registry.now c.requires.book (seen_list c.deref-listed-items.result.now) c.requires.reads (ap seen_list c.deref-listed-items.ensures.value ∙ c.in-Ok.ensures.book c.requires c.requires.book c.requires.reads.shows))
+          c.loop-listed.invariant.text added.1;
+    }
 
-pub returns-in_err-lines-clause-fault : goal.returns-in_err-lines-clause-fault
-returns-in_err-lines-clause-fault g c =
+pub returns-in_err-add_listed-clause-fault : goal.returns-in_err-add_listed-clause-fault
+returns-in_err-add_listed-clause-fault g c =
     let within : c.loop-listed.listed-index < length c.deref-listed-items.result.now = omega arith in
-    let exit = err_from_is_err_and c.from_residual.result c.from_residual.ensures.1 in
-    let refusal = rw c.in_err-lines.was at c.with_listed.ensures in
-    let k = c.in_err-lines.field-0.0 in
+    let exit = err_from_is_err_and c.from_residual-in_err-add_listed.result c.from_residual-in_err-add_listed.ensures.1 in
+    let refusal = rw c.in_err-add_listed.was at c.add_listed.ensures in
+    let k = c.in_err-add_listed.field-0.0 in
     rw (exit.1, exit.2) (elim refusal [
       | inl memory ↦ inl memory
       | inr fault ↦ inr (λ b shows. subst (λ ls. Fault k (λ m. (goal.EncodeMetric-dyn g (m.vtable, m.value)).offers m.value) (λ m. (goal.EncodeMetric-dyn g (m.vtable, m.value)).stamps m.value) (λ m. (goal.EncodeMetric-dyn g (m.vtable, m.value)).may_fault m.value) ls) (ap seen_list c.deref-listed-items.ensures.value ∙ c.in-Ok.ensures.book c.requires b shows)
           (Fault-at k (λ m. (goal.EncodeMetric-dyn g (m.vtable, m.value)).offers m.value) (λ m. (goal.EncodeMetric-dyn g (m.vtable, m.value)).stamps m.value) (λ m. (goal.EncodeMetric-dyn g (m.vtable, m.value)).may_fault m.value) c.deref-listed-items.result.now c.loop-listed.listed-index c.listed-item.result within c.listed-item.is fault))
     ])
 
-pub returns-in_err-lines-clause-not_writing : goal.returns-in_err-lines-clause-not_writing
-returns-in_err-lines-clause-not_writing g c =
-    let exit = err_from_is_err_and c.from_residual.result c.from_residual.ensures.1 in
-    let refusal = rw c.in_err-lines.was at c.with_listed.ensures in
-    let k = c.in_err-lines.field-0.0 in
+pub returns-in_err-add_listed-clause-not_writing : goal.returns-in_err-add_listed-clause-not_writing
+returns-in_err-add_listed-clause-not_writing g c =
+    let exit = err_from_is_err_and c.from_residual-in_err-add_listed.result c.from_residual-in_err-add_listed.ensures.1 in
+    let refusal = rw c.in_err-add_listed.was at c.add_listed.ensures in
+    let k = c.in_err-add_listed.field-0.0 in
     rw (exit.1, exit.2) (refusal-not_writing k (λ m. (goal.EncodeMetric-dyn g (m.vtable, m.value)).offers m.value) (λ m. (goal.EncodeMetric-dyn g (m.vtable, m.value)).stamps m.value) (λ m. (goal.EncodeMetric-dyn g (m.vtable, m.value)).may_fault m.value) (seen_listed c.listed-item.result) refusal)
+
+pub returns-in-Ok-ended_lines-clause-text : goal.returns-in-Ok-ended_lines-clause-text
+returns-in-Ok-ended_lines-clause-text g c =
+    let whole = take_all c.loop-listed.listed-index c.deref-listed-items.result.now c.loop-listed-test.false in
+    let text = rw whole at c.loop-listed.invariant.text in (
+      text.exposition,
+      (λ b shows. subst (λ ls. Admits (λ m. (goal.EncodeMetric-dyn g (m.vtable, m.value)).offers m.value) (λ m. (goal.EncodeMetric-dyn g (m.vtable, m.value)).stamps m.value) (λ m. (goal.EncodeMetric-dyn g (m.vtable, m.value)).may_be_empty m.value) ls text.exposition) (ap seen_list c.deref-listed-items.ensures.value ∙ c.in-Ok.ensures.book c.requires b shows)
+          text.admitted),
+      text.is_exposition,
+      c.in-Ok-ended_lines.ensures ∙ ap (λ (t : Text). t ++ codes "# EOF\n") text.rows,
+    )
