@@ -29,6 +29,7 @@ pub use Rattle.fm_registry.specs.View
 pub use Rattle.fm_metrics.specs.Constants
 pub use Rattle.fm_tally.specs.Events
 pub use Rattle.fm_tally.specs.Shares
+pub use Rattle.fm_own.specs.Named
 pub use Rattle.fm_core.specs.Admits
 pub use Rattle.fm_core.specs.Encoded
 pub use Rattle.fm_encoder.specs.States

@@ -9,7 +9,18 @@
 //! - [`raw`]: numbers, units and metadata.
 #![tactic(auto)]
 
-pub use fm_core::encoder;
+pub mod encoder {
+    //! How metrics emit labels, values and points to the encoders, and labels for label sets of your own.
+    pub use fm_core::encoder::{
+        CounterValueEncoder, EncodeCounterValue, EncodeError, EncodeExemplar, EncodeGaugeValue,
+        EncodeLabel, EncodeLabelName, EncodeLabelSet, EncodeLabelValue, EncodeMetric, EncodePoint,
+        EncodeUnknownValue, ExemplarEncoder, GaugeValueEncoder, LabelEncoder, LabelSetEncoder,
+        LabelSlice, LabelStr, LabeledExemplar, MetricEncoder, MetricFamilyEncoder, PointEncoder,
+        StaticStr, UnknownValueEncoder, exemplar, label, label_set, label_value, metric, point,
+        value,
+    };
+    pub use fm_own::{LabelValue, encode_labels};
+}
 
 pub mod format {
     //! The formats that expositions are written in and read from.
@@ -44,6 +55,12 @@ pub mod metrics {
     pub mod family {
         //! Families: metrics of one type by label set.
         pub use fm_family::{DefaultFactory, Family, FamilyCore, MetricFactory};
+        pub use fm_own::{DefaultFamily, TextFamily, with_texts};
+    }
+
+    pub mod labeled {
+        //! A metric of one label set and one value.
+        pub use fm_own::Labeled;
     }
 
     pub mod tally {
@@ -95,6 +112,7 @@ pub mod registry {
         GlobalRegistry, Register, SetRegistryError, register, register_global, register_metric,
         register_with_unit, set_global_registry, with_global_registry, with_global_registry_mut,
     };
+    pub use fm_own::{add, add_with_unit};
     pub use fm_registry::{
         ListedMetric, MetricType, Registry, RegistryBuilder, RegistryCall, RegistryError,
         RegistrySubsystemBuilder, Subsystem, Unit,

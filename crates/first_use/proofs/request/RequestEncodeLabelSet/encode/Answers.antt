@@ -1,5 +1,0 @@
-use Rattle.fastmetrics.proofs.OwnLabels.{next_label, last_label}
-use Rattle.first_use.proofs.request.RequestEncodeLabelSet.encode.Goals as goal
-
-pub returns : goal.returns
-returns c = next_label _ _ _ _ _ c.encode.ensures.handed c.in_ok-encode.was (last_label _ _ _ c.encode-2.ensures.handed)

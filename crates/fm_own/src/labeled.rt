@@ -1,0 +1,40 @@
+//! A metric of one label set and one value.
+ghost use Rattle.std.specs.Prelude.{◌≡◌, ◌⊎◌};
+ghost use Rattle.fm_encoder.specs.Hands.{MembersOf};
+
+use fm_encoder::{EncodeError, EncodeLabelSet, EncodeMetric, EncodePoint, MetricEncoder};
+use fm_raw::{MetricType, TypedMetric};
+use std::time::Duration;
+
+/// A metric of a program's own, of which nothing but its labels and its point is written: its type is that of the point. The point
+/// is a constant metric, such as `ConstGauge`, a shared one, such as `Counter`, or a type of the program's own.
+#[derive(Clone, Debug, Drop)]
+pub struct Labeled<LS, P> {
+    /// Its labels.
+    pub labels: LS,
+    /// Its point.
+    pub point: P,
+}
+
+impl<
+    LS: EncodeLabelSet + Send + Sync + Drop,
+    P: EncodePoint + TypedMetric + Send + Sync + Drop,
+> EncodeMetric for Labeled<LS, P> {
+    ghost types = { λ _ t. t ≡ P.TYPE };
+
+    ghost offers = { λ m. MembersOf (LS.labels m.labels) (P.points m.point) };
+
+    ghost may_fault = { λ m. LS.may_fault m.labels ⊎ P.may_fault m.point };
+
+    fn encode(&self, encoder: &mut MetricEncoder) -> Result<(), EncodeError> {
+        encoder.encode(&self.labels, &self.point)
+    }
+
+    fn metric_type(&self) -> MetricType {
+        P::TYPE
+    }
+
+    fn timestamp(&self) -> Option<Duration> {
+        None
+    }
+}

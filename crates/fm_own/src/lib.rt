@@ -1,0 +1,12 @@
+//! What a program's own labels and metrics are made of, and how it registers metrics by texts.
+#![tactic(auto)]
+
+pub mod label;
+pub mod labeled;
+pub mod registering;
+pub mod texts;
+
+pub use label::{LabelValue, encode_labels};
+pub use labeled::Labeled;
+pub use registering::{add, add_with_unit};
+pub use texts::{DefaultFamily, TextFamily, with_texts};

@@ -1,0 +1,98 @@
+//! Registering metrics by texts.
+ghost use Rattle.std.specs.Prelude.{◌≡◌, None, Some, IfOk, IfErr, string_bytes};
+ghost use Rattle.fm_book.specs.declared.RegistryError.TheVariants.{Memory};
+ghost use Rattle.fm_registry.specs.HasBook.{HasBook, Grows};
+ghost use Rattle.fm_own.specs.Named.{named_metric, Adds};
+
+use fm_encoder::EncodeMetric;
+use fm_raw::{MetricType, Unit};
+use fm_registry::{Registry, RegistryError};
+use std::alloc::Global;
+
+// Both texts, in memory of their own.
+fn owned(alloc: Global, name: &str, help: &str) -> Result<(String, String), RegistryError>
+    ensures name { IfOk result (λ texts. string_bytes texts.0 ≡ name.now) }
+    ensures help { IfOk result (λ texts. string_bytes texts.1 ≡ help.now) }
+    ensures memory { IfErr result (λ e. e ≡ Memory) }
+{
+    let name = String::from_str(alloc, name)?;
+    let help = String::from_str(alloc, help)?;
+    Ok((name, help))
+}
+
+// Registers a metric of this type by its name and its help.
+fn add_typed<M: Drop>(
+    alloc: Global,
+    registry: &mut Registry<M>,
+    name: &str,
+    help: &str,
+    metric_type: MetricType,
+    unit: Option<Unit>,
+    metric: M,
+) -> Result<(), RegistryError>
+    ensures registers { Adds (λ t. t ≡ metric_type) (named_metric name.now help.now unit metric) registry.old registry.new result }
+    ensures grows { Grows registry.old registry.new }
+    ensures sound { HasBook registry.old → HasBook registry.new }
+{
+    let (name, help) = owned(alloc, name, help)?;
+    registry.add_metric(alloc, name, help, metric_type, unit, metric)
+}
+
+// The type that a metric says it is of.
+fn type_of(metric: &Box<dyn EncodeMetric>) -> MetricType
+    ensures { types metric.now result }
+{
+    metric.metric_type()
+}
+
+// Registers a metric by its name and its help, with a unit or without.
+fn add_metric(
+    alloc: Global,
+    registry: &mut Registry,
+    name: &str,
+    help: &str,
+    unit: Option<Unit>,
+    metric: Box<dyn EncodeMetric>,
+) -> Result<(), RegistryError>
+    ensures registers { Adds (λ t. types metric t) (named_metric name.now help.now unit metric) registry.old registry.new result }
+    ensures grows { Grows registry.old registry.new }
+    ensures sound { HasBook registry.old → HasBook registry.new }
+{
+    let metric_type = type_of(&metric);
+    add_typed(alloc, registry, name, help, metric_type, unit, metric)
+}
+
+/// Registers a metric by its name and its help, as `Registry::register` does with texts of one's own: the same refusals, in the
+/// same order.
+///
+/// It takes memory for both texts first: where there is none it returns `Memory`. A refused metric is dropped, and the registry
+/// stays as it was.
+pub fn add(
+    alloc: Global,
+    registry: &mut Registry,
+    name: &str,
+    help: &str,
+    metric: Box<dyn EncodeMetric>,
+) -> Result<(), RegistryError>
+    ensures registers { Adds (λ t. types metric t) (named_metric name.now help.now None metric) registry.old registry.new result }
+    ensures grows { Grows registry.old registry.new }
+    ensures sound { HasBook registry.old → HasBook registry.new }
+{
+    add_metric(alloc, registry, name, help, None, metric)
+}
+
+/// The same with a unit.
+pub fn add_with_unit(
+    alloc: Global,
+    registry: &mut Registry,
+    name: &str,
+    help: &str,
+    unit: Unit,
+    metric: Box<dyn EncodeMetric>,
+) -> Result<(), RegistryError>
+    ensures registers { Adds (λ t. types metric t) (named_metric name.now help.now (Some unit) metric) registry.old registry.new result }
+    ensures grows { Grows registry.old registry.new }
+    ensures sound { HasBook registry.old → HasBook registry.new }
+{
+    add_metric(alloc, registry, name, help, Some(unit), metric)
+}

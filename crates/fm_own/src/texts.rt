@@ -1,0 +1,66 @@
+//! Families by their usual hasher and factory, and those whose labels are pairs of texts.
+ghost use Rattle.std.specs.Prelude.{◌≡◌, ◌⊎◌, IfOk, IfErr};
+ghost use Rattle.std.specs.Fn.{FnOnceReturnsAt};
+ghost use Rattle.fm_raw.specs.declared.error.MetricError.TheVariants.{Memory};
+
+use fm_atomic::TryDefault;
+use fm_family::{DefaultFactory, Family};
+use fm_raw::MetricError;
+use std::alloc::{AllocError, Global};
+use std::hash::{BuildHasherDefault, FoldHasher};
+use std::sync::Wait;
+
+/// Metrics by label set, each of which begins as `try_default` makes it.
+///
+/// Its hasher starts from a fixed state: where strangers choose the labels, take a `Family` with `RandomState`.
+pub type DefaultFamily<LS, M, H> = Family<
+    LS,
+    M,
+    DefaultFactory<M, H>,
+    BuildHasherDefault<FoldHasher>,
+    H,
+>;
+
+/// The same by labels that are pairs of texts.
+pub type TextFamily<M, H> = Family<
+    Vec<(String, String)>,
+    M,
+    DefaultFactory<M, H>,
+    BuildHasherDefault<FoldHasher>,
+    H,
+>;
+
+// The same labels in memory of their own.
+fn owned_labels(
+    alloc: Global,
+    labels: &[(&str, &str)],
+) -> Result<Vec<(String, String)>, AllocError> {
+    let mut owned = Vec::with_capacity(alloc, labels.len())?;
+    for label in labels {
+        let name = String::from_str(alloc, label.0)?;
+        let value = String::from_str(alloc, label.1)?;
+        owned.push((name, value))?;
+    }
+    Ok(owned)
+}
+
+/// Lends the metric of these labels to `f`, and returns what `f` does. Where there is none, it is made by `try_default` and comes
+/// after the others.
+///
+/// It takes memory for the labels, and for a new metric; where there is none it returns `Memory`, and the members are as they were. It
+/// waits as `Family::with_or_new` does.
+pub fn with_texts<M: TryDefault<H> + Drop, H: Wait + Clone + Drop, R, F: FnOnce(&M) -> R>(
+    alloc: Global,
+    family: &TextFamily<M, H>,
+    labels: &[(&str, &str)],
+    f: F,
+) -> Result<R, MetricError>
+    requires callable { F.IsAlwaysCallable f }
+    ensures called { IfOk result (λ r. (metric : M) × FnOnceReturnsAt F.FnOnce f metric r) }
+    ensures refused { IfErr result (λ e. (e ≡ Memory) ⊎ M.may_refuse e) }
+{
+    let Ok(labels) = owned_labels(alloc, labels) else {
+        return Err(MetricError::Memory);
+    };
+    family.with_or_new(&labels, f)
+}

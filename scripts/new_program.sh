@@ -1,0 +1,46 @@
+#!/usr/bin/env bash
+# Starts a program of your own: copies crates/first_use as crates/NAME, and adds its line to crates.txt.
+#
+#   scripts/new_program.sh NAME            in this repository
+#   scripts/new_program.sh NAME FOLDER     in a repository of its own in FOLDER, beside copies of the library's crates
+set -eu
+top=$(cd "$(dirname "$0")/.." && pwd)
+name=${1:-}
+if [[ ! $name =~ ^[a-z][a-z0-9_]*$ || $# -gt 2 ]]; then
+    echo "usage: scripts/new_program.sh NAME [FOLDER], where NAME is of lower-case letters, digits and underscores" >&2
+    exit 2
+fi
+folder=${2:-$top}
+if [[ -e $folder/crates/$name ]]; then
+    echo "$folder/crates/$name is there already" >&2
+    exit 1
+fi
+
+# The library's crates with what is proved of them, and their lines of crates.txt.
+copy_library() {
+    local line crate
+    mkdir -p "$folder/crates"
+    cp "$top/HANDLES" "$folder/"
+    printf 'out/\n' >"$folder/.gitignore"
+    grep -E '^(fm_|fastmetrics)' "$top/crates.txt" | grep -v '^fm_test' >"$folder/crates.txt"
+    while read -r line; do
+        crate=${line%%[: ]*}
+        cp -a "$top/crates/$crate" "$folder/crates/"
+    done <"$folder/crates.txt"
+    [[ -e $folder/.git ]] || git -C "$folder" init -q
+}
+
+[[ -f $folder/crates.txt ]] || copy_library
+mkdir -p "$folder/crates/$name"
+cp -r "$top/crates/first_use/src" "$folder/crates/$name/"
+cp "$top/crates/first_use/stdout" "$folder/crates/$name/"
+[[ -z $(tail -c 1 "$folder/crates.txt") ]] || echo >>"$folder/crates.txt"
+grep '^first_use' "$top/crates.txt" | sed "s/^first_use/$name/" >>"$folder/crates.txt"
+
+cat <<END
+$folder/crates/$name/src/main.rt is a copy of crates/first_use. Next:
+
+  cd $folder/crates/$name
+  rt try      runs it with run-time checks; nothing is proved
+  rt run      proves it, and what of the library isn't proved yet, and runs it
+END
