@@ -9,6 +9,7 @@ use std::marker::Model;
 const FIRST_ROOM: usize = 64;
 
 // Lengthens a list of bytes to so many, or to twice as many as there are where that is more.
+#[cold]
 fn lengthen(bytes: &mut Vec<u8>, at_least: usize) -> Result<(), AllocError>
     requires { length bytes.old.items ≤ at_least }
     ensures kept { take (length bytes.old.items) bytes.new.items ≡ bytes.old.items }
@@ -20,6 +21,7 @@ fn lengthen(bytes: &mut Vec<u8>, at_least: usize) -> Result<(), AllocError>
 }
 
 // Where three pieces end that stand behind so many bytes.
+#[inline(always)]
 fn end_of_three(start: usize, first: usize, second: usize, third: usize) -> Option<usize>
     ensures { IfSome result (λ end. end ≡ start + first + second + third) }
 {
@@ -30,6 +32,7 @@ fn end_of_three(start: usize, first: usize, second: usize, third: usize) -> Opti
 }
 
 // Writes a piece behind the first `at` bytes, and answers where it ends.
+#[inline(always)]
 fn write_piece(bytes: &mut [u8], at: usize, piece: &[u8]) -> usize
     requires { at + length piece.now ≤ length bytes.old }
     ensures end { result ≡ at + length piece.now }
@@ -41,6 +44,7 @@ fn write_piece(bytes: &mut [u8], at: usize, piece: &[u8]) -> usize
 }
 
 // Writes three pieces behind the first `at` bytes, and answers where they end.
+#[inline(always)]
 fn write_three(bytes: &mut [u8], at: usize, first: &[u8], second: &[u8], third: &[u8]) -> usize
     requires { at + length first.now + length second.now + length third.now ≤ length bytes.old }
     ensures end { result ≡ at + length first.now + length second.now + length third.now }
@@ -122,6 +126,7 @@ impl GrowingText {
     }
 
     /// Appends three pieces, all or none. It may find no memory; then the text stays.
+    #[inline(always)]
     pub fn append_three(
         &mut self,
         first: &[u8],

@@ -112,6 +112,7 @@ fn append_quoted<O: Output>(text: &mut O, value: &[u8]) -> Result<(), AllocError
 
 // Appends a label behind a separator.
 #[tactic(auto, using(crate::proofs::RowLemmas::line), unfolding(fm_grammar::specs::Spelling::label_text))]
+#[inline(always)]
 fn append_separated<O: Output>(
     text: &mut O,
     separator: &[u8],

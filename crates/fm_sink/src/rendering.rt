@@ -75,27 +75,14 @@ pub(crate) fn append_escaped<O: Output>(text: &mut O, raw: &[u8]) -> Result<(), 
     }
 }
 
-// Appends a value between two texts.
-fn append_value<O: Output>(
-    text: &mut O,
-    before: &[u8],
-    value: &Value,
-    after: &[u8],
-) -> Result<(), AllocError>
-    ensures { OnOk result (Grows (O.stands_for text.old) (O.stands_for text.new) (before.now ++ (value_text (value_of value.now) ++ after.now))) }
+// Appends a value.
+fn append_value<O: Output>(text: &mut O, value: &Value) -> Result<(), AllocError>
+    ensures { OnOk result (Grows (O.stands_for text.old) (O.stands_for text.new) (value_text (value_of value.now))) }
 {
     match value {
-        Value::Whole(whole) => {
-            text.put_three(before, Buffer::new().format(*whole).as_bytes(), after)
-        }
-        Value::Fixed(sum) => {
-            text.put_three(before, FixedBuffer::new().format(*sum).as_bytes(), after)
-        }
-        Value::Millis(millis) => text.put_three(
-            before,
-            FixedBuffer::new().format_millis(*millis).as_bytes(),
-            after,
-        ),
+        Value::Whole(whole) => text.put(Buffer::new().format(*whole).as_bytes()),
+        Value::Fixed(sum) => text.put(FixedBuffer::new().format(*sum).as_bytes()),
+        Value::Millis(millis) => text.put(FixedBuffer::new().format_millis(*millis).as_bytes()),
     }
 }
 
@@ -132,37 +119,20 @@ fn append_exemplar<O: Output>(text: &mut O, exemplar: Option<&Exemplar>) -> Resu
     }
 }
 
-// Appends a value behind a text, and behind it a timestamp, an exemplar and a line feed.
+// Appends a value, a timestamp, an exemplar and a line feed.
 #[tactic(auto, using(crate::proofs::GrownLemmas::grown))]
-fn append_stamped<O: Output>(
+fn append_reading<O: Output>(
     text: &mut O,
-    before: &[u8],
     value: &Value,
     time: Option<u128>,
     exemplar: Option<&Exemplar>,
 ) -> Result<(), AllocError>
-    ensures { OnOk result (Grows (O.stands_for text.old) (O.stands_for text.new) ((before.now ++ (value_text (value_of value.now) ++ [])) ++ (time_text time ++ (exemplar_text (option_map exemplar_at exemplar.entry) ++ codes "\n")))) }
+    ensures { OnOk result (Grows (O.stands_for text.old) (O.stands_for text.new) (value_text (value_of value.now) ++ (time_text time ++ (exemplar_text (option_map exemplar_at exemplar.entry) ++ codes "\n")))) }
 {
-    append_value(text, before, value, b"")?;
+    append_value(text, value)?;
     append_time(text, time)?;
     append_exemplar(text, exemplar)?;
     text.put(b"\n")
-}
-
-// Appends the end of a sample's line behind a text.
-fn append_reading<O: Output>(
-    text: &mut O,
-    before: &[u8],
-    value: &Value,
-    time: Option<u128>,
-    exemplar: Option<&Exemplar>,
-) -> Result<(), AllocError>
-    ensures { OnOk result (Grows (O.stands_for text.old) (O.stands_for text.new) (before.now ++ (value_text (value_of value.now) ++ (time_text time ++ (exemplar_text (option_map exemplar_at exemplar.entry) ++ codes "\n"))))) }
-{
-    match (time, exemplar) {
-        (None, None) => append_value(text, before, value, b"\n"),
-        _ => append_stamped(text, before, value, time, exemplar),
-    }
 }
 
 // Appends a sample's line.
@@ -188,9 +158,10 @@ pub(crate) fn append_sample_row<O: Output, F: Front<O>, L: Pair>(
     let (name, suffix) = (name.as_bytes(), kind.suffix().as_bytes());
     if common.len() == 0 && own.is_empty() {
         text.put_three(name, suffix, b" ")?;
-        return append_reading(text, b"", value, time, exemplar);
+        return append_reading(text, value, time, exemplar);
     }
     text.put_three(name, suffix, b"{")?;
     append_joined_list(text, common, own)?;
-    append_reading(text, b"} ", value, time, exemplar)
+    text.put(b"} ")?;
+    append_reading(text, value, time, exemplar)
 }

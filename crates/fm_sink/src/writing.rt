@@ -132,19 +132,6 @@ fn append_families<O: Output>(
     Ok(())
 }
 
-// Appends the lines of families and the last line.
-#[tactic(auto, using(crate::proofs::GrownLemmas::grown))]
-fn append_document<O: Output>(
-    text: &mut O,
-    common_text: &mut O,
-    families: &[FamilySamples],
-) -> Result<(), AllocError>
-    ensures { OnOk result (Grows (O.stands_for text.old) (O.stands_for text.new) (document_rows families.now)) }
-{
-    append_families(text, common_text, families)?;
-    text.put(b"# EOF\n")
-}
-
 // Makes an output the document of families. The common labels of each point are rendered to the second output.
 fn render_document<O: Output>(
     text: &mut O,
@@ -154,7 +141,8 @@ fn render_document<O: Output>(
     ensures { OnOk result (O.stands_for text.new (document_rows families.now)) }
 {
     text.reset();
-    append_document(text, common_text, families)
+    append_families(text, common_text, families)?;
+    text.put(b"# EOF\n")
 }
 
 // The size of a document, and that of the common labels of its points.

@@ -24,4 +24,4 @@ returns g c =
       | else-len-eq0-via-then-len-eq0+else-is_empty w ↦ (let some : 0 < length c.args.own.now = search rules in block_back front own (rw (length-map c.args.own.now label) some))
       | else-len-eq0-via-else-len-eq0 w ↦ block_front front own (omega (arith, c.len.ensures, w.if-len-eq0.false))
     ] in
-    on_ok_more c.append_reading-2.result _ _ (λ end. row_braced _ _ _ _ c.args.name.now _ block (rw (c.in_ok-put_three-2.was, c.as_bytes-name.ensures.value, c.as_bytes-suffix.ensures.value, c.suffix.ensures) at c.put_three-2.ensures) (rw c.in_ok-append_joined_list.was at c.append_joined_list.ensures) end) c.append_reading-2.ensures
+    on_ok_more c.append_reading-2.result _ _ (λ end. row_braced _ _ _ _ _ c.args.name.now _ block (rw (c.in_ok-put_three-2.was, c.as_bytes-name.ensures.value, c.as_bytes-suffix.ensures.value, c.suffix.ensures) at c.put_three-2.ensures) (rw c.in_ok-append_joined_list.was at c.append_joined_list.ensures) (rw c.in_ok-put.was at c.put.ensures) end) c.append_reading-2.ensures
