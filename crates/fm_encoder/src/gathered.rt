@@ -19,7 +19,9 @@ pub(crate) fn labels_behind<LS: EncodeLabelSet>(
         (λ _. LabelsClean encoder.old.metric_type before.now.labels (LS.labels labels.now) × (encoder.new.labels ≡ before.now.labels ++ all_written (LS.labels labels.now)))
         (λ k. OwnRefusal (LS.may_fault labels.now) k ⊎ LabelsFault k encoder.old.metric_type before.now.labels (LS.labels labels.now)) }
 {
-    if let Err(_) = encoder.restart(before) {
+    if before.len() == 0 {
+        encoder.begin(encoder.metric_type());
+    } else if let Err(_) = encoder.restart(before) {
         return Err(EncodeError::Memory);
     }
     if labels.is_empty() {
