@@ -8,8 +8,8 @@ use fastmetrics::encoder::{
 };
 use fastmetrics::raw::{Fixed, MetricError, MetricType};
 use fm_test_support::members::OneMember;
-use fm_test_support::parts::Word;
 use fm_test_support::support::Patience;
+use fm_test_support::trees::labels;
 use std::alloc::{AllocError, Global};
 use std::test::Fail;
 use std::time::Duration;
@@ -31,12 +31,12 @@ impl<V: EncodeCounterValue, E: EncodeExemplar> EncodePoint for CounterWith<V, E>
     }
 }
 
-type Traced = OneMember<(), CounterWith<u64, LabeledExemplar<[(Word, i32); 1]>>>;
+type Traced = OneMember<(), CounterWith<u64, LabeledExemplar<Vec<(String, String)>>>>;
 
 // A counter of the total 5 with an exemplar.
 fn traced(alloc: Global) -> Result<Box<Traced>, AllocError> {
     let exemplar = LabeledExemplar {
-        labels: [(Word("trace_id"), 7)],
+        labels: labels(alloc, &[("trace_id", "7")])?,
         value: Fixed::from_millionths(500_000),
         timestamp: Some(Duration::from_millis(1005)),
     };
