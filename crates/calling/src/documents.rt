@@ -17,6 +17,14 @@ pub fn body(alloc: Global, registry: &Registry) -> Result<Vec<u8>, EncodeError>
     Ok(body)
 }
 
+/// The document as a text.
+pub fn text(alloc: Global, registry: &Registry) -> anyhow::Result<String>
+    requires { HasBook registry.now }
+{
+    let body = body(alloc, registry)?;
+    Ok(String::from_utf8(body)?)
+}
+
 /// Sends the document to a socket or another writer that likes large pieces.
 pub fn send<W: Write + Drop>(alloc: Global, socket: W, registry: &Registry) -> anyhow::Result<()>
     requires { HasBook registry.now }

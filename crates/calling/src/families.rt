@@ -1,36 +1,44 @@
-//! Counters by label set, where labels are pairs of texts.
+//! Counters by labels.
+ghost use Rattle.std.specs.Prelude.{[], ◌∷◌, codes, decimal};
+ghost use Rattle.fastmetrics.specs.Named.{label};
+
+use fastmetrics::encoder::{
+    EncodeError, EncodeLabelSet, LabelSetEncoder, LabelValue, encode_labels,
+};
 use fastmetrics::metrics::counter::Counter;
-use fastmetrics::metrics::family::{DefaultFactory, Family};
+use fastmetrics::metrics::family::{DefaultFamily, TextFamily, with_texts};
 use fastmetrics::raw::MetricError;
-use std::alloc::{AllocError, Global};
-use std::hash::{BuildHasherDefault, FoldHasher};
+use std::alloc::Global;
 use std::sync::Wait;
-
-/// A family of counters. A hasher that starts from a fixed state serves where the program alone chooses label values; take
-/// `RandomState` where strangers do.
-pub type Requests<H> = Family<
-    Vec<(String, String)>,
-    Counter,
-    DefaultFactory<Counter, H>,
-    BuildHasherDefault<FoldHasher>,
-    H,
->;
-
-// The labels of one request.
-fn labels(alloc: Global, method: &str) -> Result<Vec<(String, String)>, AllocError> {
-    let method = (
-        String::from_str(alloc, "method")?,
-        String::from_str(alloc, method)?,
-    );
-    Ok(vec![in alloc; method]?)
-}
 
 /// Counts a request in the member of its labels, which is made where it isn't there, and returns how many there were before.
 pub fn count_request<H: Wait + Clone + Drop>(
     alloc: Global,
-    requests: &Requests<H>,
+    requests: &TextFamily<Counter, H>,
     method: &str,
 ) -> Result<u64, MetricError> {
-    let labels = labels(alloc, method)?;
-    requests.with_or_new(&labels, |count| count.inc())
+    with_texts(alloc, requests, &[("method", method)], |count| count.inc())
+}
+
+/// The labels of an answer: its status.
+#[derive(Clone, Copy, PartialEq, Eq, Hash)]
+pub struct Answer {
+    /// The number of its status.
+    pub status: u64,
+}
+
+impl EncodeLabelSet for Answer {
+    ghost labels = { λ answer. label (codes "status") (decimal answer.status) ∷ [] };
+
+    fn encode(&self, encoder: &mut LabelSetEncoder) -> Result<(), EncodeError> {
+        encode_labels(encoder, &[("status", LabelValue::Whole(self.status))])
+    }
+}
+
+/// Counts an answer by its labels, which takes no memory where its member is there.
+pub fn count_answer<H: Wait + Clone + Drop>(
+    answers: &DefaultFamily<Answer, Counter, H>,
+    answer: &Answer,
+) -> Result<u64, MetricError> {
+    answers.with_or_new(answer, |count| count.inc())
 }

@@ -5,6 +5,7 @@ pub mod counters;
 pub mod documents;
 pub mod families;
 pub mod gauges;
+pub mod globals;
 pub mod histograms;
 pub mod infos;
 pub mod registries;

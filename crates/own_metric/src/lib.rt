@@ -1,16 +1,20 @@
-//! A metric of a user's own: how many requests wait in a queue, which its labels name.
+//! Labels and metrics of a program's own: requests, and how many of them wait in a queue.
 #![tactic(auto)]
 
-ghost use Rattle.std.specs.Prelude.{◌≡◌, [], ◌∷◌, pos};
+ghost use Rattle.std.specs.Prelude.{◌≡◌, [], ◌∷◌, pos, codes, decimal, string_bytes};
 ghost use Rattle.fastmetrics.specs.Exposition.{Whole};
 ghost use Rattle.fastmetrics.specs.Points.{GaugePoint};
 ghost use Rattle.fm_grammar.specs.declared.MetricType.TheVariants.{Gauge};
-ghost use Rattle.own_metric.specs.Queues.{labels_of_queue};
+ghost use Rattle.fastmetrics.specs.Named.{label};
+
+pub mod request;
 
 use fastmetrics::encoder::{
-    EncodeError, EncodeLabelSet, EncodeMetric, LabelSetEncoder, LabelStr, MetricEncoder,
+    EncodeError, EncodeLabelSet, EncodeMetric, LabelSetEncoder, LabelValue, MetricEncoder,
+    encode_labels,
 };
 use fastmetrics::metrics::gauge::ConstGauge;
+use fastmetrics::metrics::labeled::Labeled;
 use fastmetrics::raw::MetricType;
 use std::time::Duration;
 
@@ -24,15 +28,24 @@ pub struct Queue {
 }
 
 impl EncodeLabelSet for Queue {
-    ghost labels = { labels_of_queue };
+    ghost labels = { λ q. label (codes "queue") (string_bytes q.name) ∷ label (codes "priority") (decimal q.priority) ∷ [] };
 
     fn encode(&self, encoder: &mut LabelSetEncoder) -> Result<(), EncodeError> {
-        encoder.encode(&(LabelStr("queue"), &self.name))?;
-        encoder.encode(&(LabelStr("priority"), self.priority))
+        let name = LabelValue::Text(self.name.as_str());
+        let priority = LabelValue::Whole(u64::from(self.priority));
+        encode_labels(encoder, &[("queue", name), ("priority", priority)])
     }
 }
 
-/// How many requests wait in a queue.
+/// How many requests wait in a queue: nothing but labels and a value.
+pub fn waiting_now(queue: Queue, requests: u64) -> Labeled<Queue, ConstGauge<u64>> {
+    Labeled {
+        labels: queue,
+        point: ConstGauge::new(requests),
+    }
+}
+
+/// The same by a type whose `impl` says what it offers.
 #[derive(Drop)]
 pub struct Waiting {
     /// Which queue.
@@ -44,7 +57,7 @@ pub struct Waiting {
 impl EncodeMetric for Waiting {
     ghost types = { λ _ t. t ≡ Gauge };
 
-    ghost offers = { λ w ms. ms ≡ record { labels = labels_of_queue w.queue; point = GaugePoint (Whole (pos w.requests) ∷ []) } ∷ [] };
+    ghost offers = { λ w ms. ms ≡ record { labels = ⟦<Queue as EncodeLabelSet>⟧.labels w.queue; point = GaugePoint (Whole (pos w.requests) ∷ []) } ∷ [] };
 
     fn encode(&self, encoder: &mut MetricEncoder) -> Result<(), EncodeError> {
         encoder.encode(&self.queue, &ConstGauge::new(self.requests))
