@@ -4,7 +4,7 @@ use fastmetrics::encoder::EncodeMetric;
 use fastmetrics::metrics::counter::ConstCounter;
 use fastmetrics::metrics::gauge::ConstGauge;
 use fastmetrics::raw::{Fixed, MetricType, TypedMetric, Unit};
-use fm_test_support::support::{document_alone, lines_of};
+use fm_test_support::support::{document_alone, expect_document, lines_of};
 use std::alloc::{AllocError, Global};
 use std::test::Fail;
 use std::time::Duration;
@@ -27,7 +27,7 @@ fn times_of_creation(rt: HostRuntime) -> Result<(), Fail> {
         ),
     ] {
         let counter = Box::new(alloc, ConstCounter::with_created(1u64, created))?;
-        assert_eq!(rt; document_alone(alloc, "c", None, counter)?.as_str(), want);
+        expect_document(alloc, "c", None, counter, want)?;
     }
     Ok(())
 }
@@ -49,7 +49,7 @@ fn gauges_of_millionths(rt: HostRuntime) -> Result<(), Fail> {
         ),
     ] {
         let gauge = Box::new(alloc, ConstGauge::new(Fixed::from_millionths(millionths)))?;
-        assert_eq!(rt; document_alone(alloc, "g", None, gauge)?.as_str(), want);
+        expect_document(alloc, "g", None, gauge, want)?;
     }
     Ok(())
 }
@@ -58,11 +58,13 @@ fn gauges_of_millionths(rt: HostRuntime) -> Result<(), Fail> {
 fn least_gauge_with_a_unit(rt: HostRuntime) -> Result<(), Fail> {
     let alloc = rt.alloc();
     let least = Box::new(alloc, ConstGauge::new(i64::MIN))?;
-    assert_eq!(rt;
-        document_alone(alloc, "g", Some(Unit::Bytes), least)?.as_str(),
-        "# TYPE g_bytes gauge\n# HELP g_bytes H\n# UNIT g_bytes bytes\ng_bytes -9223372036854775808\n# EOF\n"
-    );
-    Ok(())
+    expect_document(
+        alloc,
+        "g",
+        Some(Unit::Bytes),
+        least,
+        "# TYPE g_bytes gauge\n# HELP g_bytes H\n# UNIT g_bytes bytes\ng_bytes -9223372036854775808\n# EOF\n",
+    )
 }
 
 // The total of a counter.

@@ -1,23 +1,32 @@
 //! Documents of counters, from a registration to the text, and of a name that is given twice.
 
-use fastmetrics::encoder::EncodeMetric;
 use fastmetrics::metrics::counter::ConstCounter;
-use fastmetrics::metrics::gauge::ConstGauge;
 use fastmetrics::metrics::tally::{Book, TallyError};
 use fastmetrics::raw::Unit;
-use fastmetrics::registry::{Registry, RegistryError};
-use fm_test_support::support::{document_alone, document_of};
-use fm_test_support::trees::register_with;
+use fastmetrics::registry::Registry;
+use fm_test_support::support::{expect_document, expect_document_of};
+use fm_test_support::trees::{expect_refused, gauge, register, register_with};
 use own_metric::{Queue, Waiting};
-use std::alloc::Global;
+use std::alloc::{AllocError, Global};
 use std::test::Fail;
 
-// The document of a counter alone.
-fn document_of_counter(alloc: Global, name: &str, help: &str, total: u64) -> Result<String, Fail> {
+// A counter with this total.
+fn counter(alloc: Global, total: u64) -> Result<Box<ConstCounter>, AllocError> {
+    Ok(Box::new(alloc, ConstCounter::new(total))?)
+}
+
+// Fails where this is not the document of a counter alone.
+fn expect_counter(
+    alloc: Global,
+    name: &str,
+    help: &str,
+    total: u64,
+    want: &str,
+) -> Result<(), Fail> {
+    let counter = counter(alloc, total)?;
     let mut registry = Registry::default();
-    let counter = Box::new(alloc, ConstCounter::new(total))?;
     register_with(alloc, &mut registry, name, help, None, counter)?;
-    document_of(alloc, &registry)
+    expect_document_of(alloc, &registry, want)
 }
 
 // The sum of the numbers from 1 to 100, which two workers add.
@@ -34,15 +43,9 @@ fn counted_jobs() -> Result<u64, TallyError> {
 #[test]
 fn counted_sum(rt: HostRuntime) -> Result<(), Fail> {
     let alloc = rt.alloc();
-    assert_eq!(rt;
-        document_of_counter(alloc, "jobs", "Jobs done", counted_jobs()?)?.as_str(),
-        "# TYPE jobs counter\n# HELP jobs Jobs done\njobs_total 10100\n# EOF\n"
-    );
-    assert_eq!(rt;
-        document_of(alloc, &Registry::default())?.as_str(),
-        "# EOF\n"
-    );
-    Ok(())
+    let want = "# TYPE jobs counter\n# HELP jobs Jobs done\njobs_total 10100\n# EOF\n";
+    expect_counter(alloc, "jobs", "Jobs done", counted_jobs()?, want)?;
+    expect_document_of(alloc, &Registry::default(), "# EOF\n")
 }
 
 #[test]
@@ -80,92 +83,47 @@ fn names_and_helps(rt: HostRuntime) -> Result<(), Fail> {
             "# TYPE x counter\n# HELP x \\\\n # EOF\r\t\u{2028}é\nx_total 1\n# EOF\n",
         ),
     ] {
-        assert_eq!(rt;
-            document_of_counter(alloc, name, help, total)?.as_str(),
-            want
-        );
+        expect_counter(alloc, name, help, total, want)?;
     }
     Ok(())
-}
-
-// What registering a second metric under the name of a first one returns, and the document after it.
-fn registered_twice(
-    alloc: Global,
-    name: &str,
-    helps: (&str, &str),
-    first: (Option<Unit>, Box<dyn EncodeMetric>),
-    second: (Option<Unit>, Box<dyn EncodeMetric>),
-) -> Result<(Result<(), RegistryError>, String), Fail> {
-    let mut registry = Registry::default();
-    let (unit, metric) = first;
-    register_with(alloc, &mut registry, name, helps.0, unit, metric)?;
-    let (unit, metric) = second;
-    let again = register_with(alloc, &mut registry, name, helps.1, unit, metric);
-    Ok((again, document_of(alloc, &registry)?))
 }
 
 #[test]
 fn repeated_registration(rt: HostRuntime) -> Result<(), Fail> {
     let alloc = rt.alloc();
-    let first = Box::new(alloc, ConstCounter::new(1u64))?;
-    let second = Box::new(alloc, ConstCounter::new(2u64))?;
-    let (again, document) = registered_twice(
-        alloc,
-        "a",
-        ("first", "second"),
-        (None, first),
-        (None, second),
-    )?;
-    let name = String::from_str(alloc, "a")?;
-    assert_eq!(rt; again, Err(RegistryError::AlreadyExists { name }));
-    assert_eq!(rt;
-        document.as_str(),
-        "# TYPE a counter\n# HELP a first\na_total 1\n# EOF\n"
-    );
-    Ok(())
+    let (first, second) = (counter(alloc, 1)?, counter(alloc, 2)?);
+    let mut registry = Registry::default();
+    register_with(alloc, &mut registry, "a", "first", None, first)?;
+    let again = register_with(alloc, &mut registry, "a", "second", None, second);
+    expect_refused(again, 4, "a")?;
+    let want = "# TYPE a counter\n# HELP a first\na_total 1\n# EOF\n";
+    expect_document_of(alloc, &registry, want)
 }
 
 #[test]
 fn one_name_of_two_types(rt: HostRuntime) -> Result<(), Fail> {
     let alloc = rt.alloc();
-    let first = Box::new(alloc, ConstCounter::new(1u64))?;
-    let second = Box::new(alloc, ConstGauge::new(3i64))?;
-    let (again, document) = registered_twice(
-        alloc,
-        "a",
-        ("H", "H"),
-        (None, first),
-        (None, second),
-    )?;
-    let name = String::from_str(alloc, "a")?;
-    assert_eq!(rt; again, Err(RegistryError::NameTaken { name }));
-    assert_eq!(rt;
-        document.as_str(),
-        "# TYPE a counter\n# HELP a H\na_total 1\n# EOF\n"
-    );
-    Ok(())
+    let (first, second) = (counter(alloc, 1)?, gauge(alloc, 3)?);
+    let mut registry = Registry::default();
+    register(alloc, &mut registry, "a", first)?;
+    let again = register(alloc, &mut registry, "a", second);
+    expect_refused(again, 12, "a")?;
+    let want = "# TYPE a counter\n# HELP a H\na_total 1\n# EOF\n";
+    expect_document_of(alloc, &registry, want)
 }
 
 #[test]
 fn one_name_with_two_units(rt: HostRuntime) -> Result<(), Fail> {
     let alloc = rt.alloc();
-    let first = Box::new(alloc, ConstGauge::new(1i64))?;
-    let second = Box::new(alloc, ConstGauge::new(2i64))?;
     let own = Unit::from(String::from_str(alloc, "seconds")?);
-    let (again, document) = registered_twice(
-        alloc,
-        "g",
-        ("H", "H"),
-        (Some(Unit::Seconds), first),
-        (Some(own), second),
-    )?;
-    let name = String::from_str(alloc, "g")?;
-    assert_eq!(rt; again, Err(RegistryError::NameTaken { name }));
-    assert_eq!(rt;
-        document.as_str(),
-        "# TYPE g_seconds gauge\n# HELP g_seconds H\n# UNIT g_seconds seconds\ng_seconds 1\n# EOF\n"
-    );
-    Ok(())
+    let (first, second) = (gauge(alloc, 1)?, gauge(alloc, 2)?);
+    let mut registry = Registry::default();
+    register_with(alloc, &mut registry, "g", "H", Some(Unit::Seconds), first)?;
+    let again = register_with(alloc, &mut registry, "g", "H", Some(own), second);
+    expect_refused(again, 12, "g")?;
+    let want =
+        "# TYPE g_seconds gauge\n# HELP g_seconds H\n# UNIT g_seconds seconds\ng_seconds 1\n# EOF\n";
+    expect_document_of(alloc, &registry, want)
 }
 
 #[test]
@@ -182,9 +140,11 @@ fn waiting_requests(rt: HostRuntime) -> Result<(), Fail> {
             requests: 12,
         },
     )?;
-    assert_eq!(rt;
-        document_alone(alloc, "waiting_requests", None, waiting)?.as_str(),
-        "# TYPE waiting_requests gauge\n# HELP waiting_requests H\nwaiting_requests{queue=\"mail \\\"out\\\"\",priority=\"3\"} 12\n# EOF\n"
-    );
-    Ok(())
+    expect_document(
+        alloc,
+        "waiting_requests",
+        None,
+        waiting,
+        "# TYPE waiting_requests gauge\n# HELP waiting_requests H\nwaiting_requests{queue=\"mail \\\"out\\\"\",priority=\"3\"} 12\n# EOF\n",
+    )
 }

@@ -8,6 +8,7 @@ use fastmetrics::raw::{MetricType, Unit};
 use fastmetrics::registry::Registry;
 use fm_test_support::members::OneMember;
 use fm_test_support::parts::Word;
+use fm_test_support::trees::register_with;
 use std::alloc::Global;
 use std::test::Fail;
 use std::time::Duration;
@@ -21,9 +22,7 @@ fn collected(
     metric: Box<dyn EncodeMetric>,
 ) -> Result<Exposition, Fail> {
     let mut registry = Registry::default();
-    let name = String::from_str(alloc, name)?;
-    let help = String::from_str(alloc, help)?;
-    registry.register_metric(alloc, name, help, unit, metric)?;
+    register_with(alloc, &mut registry, name, help, unit, metric)?;
     Ok(collect(alloc, &registry)?)
 }
 
