@@ -1,6 +1,7 @@
 //! What the tests share: writers that stop, patience with refused memory, and documents of registries.
 ghost use Rattle.fm_registry.specs.HasBook.{HasBook};
 
+use crate::trees::register_with;
 use fastmetrics::encoder::EncodeMetric;
 use fastmetrics::format::text::{EncodeError, collect, encode, encode_exposition};
 use fastmetrics::raw::Unit;
@@ -109,6 +110,23 @@ pub fn document_of(alloc: Global, registry: &Registry) -> Result<String, Fail>
     Ok(document)
 }
 
+// Fails where a text is not the wanted one.
+fn expect_text(text: &str, want: &str) -> Result<(), Fail> {
+    if text == want {
+        Ok(())
+    } else {
+        Err(Fail::new(format_args!("it is {text:?}, and not {want:?}")))
+    }
+}
+
+/// Fails where this is not the document of a registry.
+pub fn expect_document_of(alloc: Global, registry: &Registry, want: &str) -> Result<(), Fail>
+    requires { HasBook registry.now }
+{
+    let document = document_of(alloc, registry)?;
+    expect_text(document.as_str(), want)
+}
+
 // What encoding a metric under this name and the help `H` answers, and what a writer with this line then holds.
 fn encoded_after(
     alloc: Global,
@@ -118,9 +136,7 @@ fn encoded_after(
     metric: Box<dyn EncodeMetric>,
 ) -> Result<(Result<(), EncodeError>, String), Fail> {
     let mut registry = Registry::default();
-    let name = String::from_str(alloc, name)?;
-    let help = String::from_str(alloc, "H")?;
-    registry.register_metric(alloc, name, help, unit, metric)?;
+    register_with(alloc, &mut registry, name, "H", unit, metric)?;
     encoded_both_ways(alloc, before, &registry)
 }
 
@@ -134,6 +150,18 @@ pub fn document_alone(
     let (answer, document) = encoded_after(alloc, "", name, unit, metric)?;
     answer?;
     Ok(document)
+}
+
+/// Fails where this is not the document of a metric alone, under this name and the help `H`.
+pub fn expect_document(
+    alloc: Global,
+    name: &str,
+    unit: Option<Unit>,
+    metric: Box<dyn EncodeMetric>,
+    want: &str,
+) -> Result<(), Fail> {
+    let document = document_alone(alloc, name, unit, metric)?;
+    expect_text(document.as_str(), want)
 }
 
 /// The sample lines and the last line of a gauge `t`.
@@ -154,5 +182,25 @@ pub fn refusal(alloc: Global, metric: Box<dyn EncodeMetric>) -> Result<EncodeErr
         (Err(error), held) if held.as_str() == "before\n" => Ok(error),
         (Err(_), _) => Err(Fail::new("a refusal wrote something")),
         (Ok(()), _) => Err(Fail::new("nothing was refused")),
+    }
+}
+
+/// Fails where these are not the sample lines and the last line of a gauge `t`.
+pub fn expect_lines(alloc: Global, metric: Box<dyn EncodeMetric>, want: &str) -> Result<(), Fail> {
+    let lines = lines_of(alloc, metric)?;
+    expect_text(lines.as_str(), want)
+}
+
+/// Fails where a metric alone, under the name `t`, is not refused by this error, or where a refusal wrote something.
+pub fn expect_refusal(
+    alloc: Global,
+    metric: Box<dyn EncodeMetric>,
+    want: EncodeError,
+) -> Result<(), Fail> {
+    let error = refusal(alloc, metric)?;
+    if error == want {
+        Ok(())
+    } else {
+        Err(Fail::new(format_args!("the refusal is {error}, and not {want}")))
     }
 }

@@ -44,6 +44,37 @@ fn number_of(answer: &Result<(), RegistryError>) -> u8 {
     }
 }
 
+// The text that a refusal names.
+fn text_in(error: &RegistryError) -> &str {
+    match error {
+        RegistryError::InvalidNameFormat { name }
+        | RegistryError::MustHaveAnEmptyUnitString { name }
+        | RegistryError::AlreadyExists { name }
+        | RegistryError::InvalidSubsystemName { name }
+        | RegistryError::InvalidLabelName { name }
+        | RegistryError::DuplicateLabel { name }
+        | RegistryError::NoSuchSubsystem { name }
+        | RegistryError::TooDeep { name }
+        | RegistryError::NameTaken { name } => name.as_str(),
+        RegistryError::OtherUnitFormatMustBeLowercase { unit } => unit.as_str(),
+        RegistryError::InvalidNamespace { namespace } => namespace.as_str(),
+        RegistryError::Memory => "",
+    }
+}
+
+/// Fails where this is not the refusal with this number, which names this text.
+pub fn expect_refused(
+    answer: Result<(), RegistryError>,
+    number: u8,
+    text: &str,
+) -> Result<(), Fail> {
+    match answer {
+        Err(error) if error.number() == number && text_in(&error) == text => Ok(()),
+        Err(error) => Err(Fail::new(error)),
+        Ok(()) => Err(Fail::new("nothing was refused")),
+    }
+}
+
 /// Whether these are the numbers of the answers' refusals, with 0 for `Ok`.
 pub fn have_numbers(answers: &[Result<(), RegistryError>], numbers: &[u8]) -> bool {
     answers.len() == numbers.len()
@@ -51,6 +82,19 @@ pub fn have_numbers(answers: &[Result<(), RegistryError>], numbers: &[u8]) -> bo
             .iter()
             .zip(numbers)
             .all(|(answer, number)| number_of(answer) == *number)
+}
+
+/// Whether the answer at this index is the refusal with this number, which names this text.
+pub fn refuses(
+    answers: &[Result<(), RegistryError>],
+    index: usize,
+    number: u8,
+    text: &str,
+) -> bool {
+    match answers.get(index) {
+        Some(Err(error)) => error.number() == number && text_in(error) == text,
+        _ => false,
+    }
 }
 
 /// Whether the answer at this place is this refusal.

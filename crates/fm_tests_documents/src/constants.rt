@@ -4,10 +4,8 @@ use fastmetrics::encoder::EncodeMetric;
 use fastmetrics::metrics::counter::ConstCounter;
 use fastmetrics::metrics::gauge::ConstGauge;
 use fastmetrics::raw::{Fixed, MetricType, TypedMetric, Unit};
-use fastmetrics::registry::{Registry, RegistryError};
-use fm_test_support::support::{document_alone, document_of, lines_of};
-use fm_test_support::trees::{gauge, register, register_with};
-use std::alloc::Global;
+use fm_test_support::support::{document_alone, expect_document, lines_of};
+use std::alloc::{AllocError, Global};
 use std::test::Fail;
 use std::time::Duration;
 
@@ -29,7 +27,7 @@ fn times_of_creation(rt: HostRuntime) -> Result<(), Fail> {
         ),
     ] {
         let counter = Box::new(alloc, ConstCounter::with_created(1u64, created))?;
-        assert_eq!(rt; document_alone(alloc, "c", None, counter)?.as_str(), want);
+        expect_document(alloc, "c", None, counter, want)?;
     }
     Ok(())
 }
@@ -51,16 +49,43 @@ fn gauges_of_millionths(rt: HostRuntime) -> Result<(), Fail> {
         ),
     ] {
         let gauge = Box::new(alloc, ConstGauge::new(Fixed::from_millionths(millionths)))?;
-        assert_eq!(rt; document_alone(alloc, "g", None, gauge)?.as_str(), want);
+        expect_document(alloc, "g", None, gauge, want)?;
     }
-    let least = Box::new(alloc, ConstGauge::new(i64::MIN))?;
-    assert_eq!(rt;
-        document_alone(alloc, "g", Some(Unit::Bytes), least)?.as_str(),
-        "# TYPE g_bytes gauge\n# HELP g_bytes H\n# UNIT g_bytes bytes\ng_bytes -9223372036854775808\n# EOF\n"
-    );
-    assert!(rt; Fixed::from_whole(9223372036854).is_some());
-    assert!(rt; Fixed::from_whole(9223372036855).is_none());
     Ok(())
+}
+
+#[test]
+fn least_gauge_with_a_unit(rt: HostRuntime) -> Result<(), Fail> {
+    let alloc = rt.alloc();
+    let least = Box::new(alloc, ConstGauge::new(i64::MIN))?;
+    expect_document(
+        alloc,
+        "g",
+        Some(Unit::Bytes),
+        least,
+        "# TYPE g_bytes gauge\n# HELP g_bytes H\n# UNIT g_bytes bytes\ng_bytes -9223372036854775808\n# EOF\n",
+    )
+}
+
+// The total of a counter.
+#[derive(Clone, Copy, Debug)]
+enum Total {
+    U32(u32),
+    U64(u64),
+    Usize(usize),
+    Millionths(i64),
+}
+
+// The counter of a total.
+fn counter(alloc: Global, total: Total) -> Result<Box<dyn EncodeMetric>, AllocError> {
+    Ok(match total {
+        Total::U32(total) => Box::new(alloc, ConstCounter::new(total))?,
+        Total::U64(total) => Box::new(alloc, ConstCounter::new(total))?,
+        Total::Usize(total) => Box::new(alloc, ConstCounter::new(total))?,
+        Total::Millionths(total) => {
+            Box::new(alloc, ConstCounter::new(Fixed::from_millionths(total)))?
+        }
+    })
 }
 
 // Whether the document of a counter ends with this number.
@@ -76,34 +101,46 @@ fn has_total(alloc: Global, counter: Box<dyn EncodeMetric>, number: &str) -> Res
 }
 
 #[test]
-fn numbers_of_counters(rt: HostRuntime) -> Result<(), Fail> {
+fn ends_of_counters(rt: HostRuntime) -> Result<(), Fail> {
     let alloc = rt.alloc();
-    let most = "18446744073709551615";
-    assert!(rt;
-        has_total(
-            alloc,
-            Box::new(alloc, ConstCounter::new(u32::MAX))?,
-            "4294967295"
-        )?
-    );
-    assert!(rt; has_total(alloc, Box::new(alloc, ConstCounter::new(u64::MAX))?, most)?);
-    assert!(rt; has_total(alloc, Box::new(alloc, ConstCounter::new(usize::MAX))?, most)?);
-    let half = ConstCounter::new(Fixed::from_millionths(500000));
-    assert!(rt; has_total(alloc, Box::new(alloc, half)?, "0.5")?);
+    for (total, number) in [
+        (Total::U32(0), "0"),
+        (Total::U64(0), "0"),
+        (Total::Usize(0), "0"),
+        (Total::U32(u32::MAX), "4294967295"),
+        (Total::U64(u64::MAX), "18446744073709551615"),
+        (Total::Usize(usize::MAX), "18446744073709551615"),
+        (Total::Millionths(i64::MIN), "-9223372036854.775808"),
+        (Total::Millionths(500000), "0.5"),
+        (Total::Millionths(i64::MAX), "9223372036854.775807"),
+    ] {
+        assert!(rt;
+            has_total(alloc, counter(alloc, total)?, number)?,
+            "{total:?}"
+        );
+    }
     Ok(())
 }
 
-#[test]
-fn other_ends_of_counters(rt: HostRuntime) -> Result<(), Fail> {
-    let alloc = rt.alloc();
-    assert!(rt; has_total(alloc, Box::new(alloc, ConstCounter::new(0u32))?, "0")?);
-    assert!(rt; has_total(alloc, Box::new(alloc, ConstCounter::new(0u64))?, "0")?);
-    assert!(rt; has_total(alloc, Box::new(alloc, ConstCounter::new(0usize))?, "0")?);
-    let least = ConstCounter::new(Fixed::from_millionths(i64::MIN));
-    assert!(rt; has_total(alloc, Box::new(alloc, least)?, "-9223372036854.775808")?);
-    let greatest = ConstCounter::new(Fixed::from_millionths(i64::MAX));
-    assert!(rt; has_total(alloc, Box::new(alloc, greatest)?, "9223372036854.775807")?);
-    Ok(())
+// The value of a gauge.
+#[derive(Clone, Copy, Debug)]
+enum Level {
+    I32(i32),
+    I64(i64),
+    Isize(isize),
+    U32(u32),
+    U64(u64),
+}
+
+// The gauge of a value.
+fn gauge(alloc: Global, level: Level) -> Result<Box<dyn EncodeMetric>, AllocError> {
+    Ok(match level {
+        Level::I32(value) => Box::new(alloc, ConstGauge::new(value))?,
+        Level::I64(value) => Box::new(alloc, ConstGauge::new(value))?,
+        Level::Isize(value) => Box::new(alloc, ConstGauge::new(value))?,
+        Level::U32(value) => Box::new(alloc, ConstGauge::new(value))?,
+        Level::U64(value) => Box::new(alloc, ConstGauge::new(value))?,
+    })
 }
 
 // Whether the document of a gauge ends with this number.
@@ -119,51 +156,25 @@ fn has_value(alloc: Global, gauge: Box<dyn EncodeMetric>, number: &str) -> Resul
 }
 
 #[test]
-fn numbers_of_gauges(rt: HostRuntime) -> Result<(), Fail> {
+fn ends_of_gauges(rt: HostRuntime) -> Result<(), Fail> {
     let alloc = rt.alloc();
-    let (least, greatest) = ("-9223372036854775808", "9223372036854775807");
-    assert!(rt;
-        has_value(
-            alloc,
-            Box::new(alloc, ConstGauge::new(i32::MIN))?,
-            "-2147483648"
-        )?
-    );
-    assert!(rt; has_value(alloc, Box::new(alloc, ConstGauge::new(i64::MAX))?, greatest)?);
-    assert!(rt; has_value(alloc, Box::new(alloc, ConstGauge::new(isize::MIN))?, least)?);
-    assert!(rt;
-        has_value(
-            alloc,
-            Box::new(alloc, ConstGauge::new(u32::MAX))?,
-            "4294967295"
-        )?
-    );
-    let most = Box::new(alloc, ConstGauge::new(u64::MAX))?;
-    assert!(rt; has_value(alloc, most, "18446744073709551615")?);
-    Ok(())
-}
-
-#[test]
-fn other_ends_of_gauges(rt: HostRuntime) -> Result<(), Fail> {
-    let alloc = rt.alloc();
-    let (least, greatest) = ("-9223372036854775808", "9223372036854775807");
-    assert!(rt;
-        has_value(
-            alloc,
-            Box::new(alloc, ConstGauge::new(i32::MAX))?,
-            "2147483647"
-        )?
-    );
-    assert!(rt; has_value(alloc, Box::new(alloc, ConstGauge::new(i64::MIN))?, least)?);
-    assert!(rt;
-        has_value(
-            alloc,
-            Box::new(alloc, ConstGauge::new(isize::MAX))?,
-            greatest
-        )?
-    );
-    assert!(rt; has_value(alloc, Box::new(alloc, ConstGauge::new(u32::MIN))?, "0")?);
-    assert!(rt; has_value(alloc, Box::new(alloc, ConstGauge::new(u64::MIN))?, "0")?);
+    for (level, number) in [
+        (Level::I32(i32::MIN), "-2147483648"),
+        (Level::I32(i32::MAX), "2147483647"),
+        (Level::I64(i64::MIN), "-9223372036854775808"),
+        (Level::I64(i64::MAX), "9223372036854775807"),
+        (Level::Isize(isize::MIN), "-9223372036854775808"),
+        (Level::Isize(isize::MAX), "9223372036854775807"),
+        (Level::U32(u32::MIN), "0"),
+        (Level::U32(u32::MAX), "4294967295"),
+        (Level::U64(u64::MIN), "0"),
+        (Level::U64(u64::MAX), "18446744073709551615"),
+    ] {
+        assert!(rt;
+            has_value(alloc, gauge(alloc, level)?, number)?,
+            "{level:?}"
+        );
+    }
     Ok(())
 }
 
@@ -171,53 +182,31 @@ fn type_of<M: TypedMetric>(_: &M) -> (MetricType, bool) {
     (M::TYPE, M::WITH_TIMESTAMP)
 }
 
+// Whether counters have their defaults and parts.
+fn counters_have_parts() -> bool {
+    let counter: ConstCounter = ConstCounter::default();
+    let created = ConstCounter::with_created(7u32, Duration::MAX);
+    counter.total() == 0
+        && counter.created().is_none()
+        && type_of(&counter) == (MetricType::Counter, false)
+        && created.total() == 7
+        && created.created() == Some(Duration::MAX)
+}
+
+// Whether gauges have their defaults and parts.
+fn gauges_have_parts() -> bool {
+    let gauge: ConstGauge = ConstGauge::default();
+    let zero: ConstGauge<Fixed> = ConstGauge::default();
+    gauge.get() == 0
+        && type_of(&gauge) == (MetricType::Gauge, false)
+        && zero.get() == Fixed::ZERO
+        && ConstGauge::new(-3i64).get() == -3
+}
+
 #[test]
 fn defaults_and_parts(rt: HostRuntime) {
-    let counter: ConstCounter = ConstCounter::default();
-    assert_eq!(rt; (counter.total(), counter.created()), (0, None));
-    assert_eq!(rt; type_of(&counter), (MetricType::Counter, false));
-    let created = ConstCounter::with_created(7u32, Duration::MAX);
-    assert_eq!(rt;
-        (created.total(), created.created()),
-        (7, Some(Duration::MAX))
-    );
-    let gauge: ConstGauge = ConstGauge::default();
-    assert_eq!(rt; gauge.get(), 0);
-    assert_eq!(rt; type_of(&gauge), (MetricType::Gauge, false));
-    let zero: ConstGauge<Fixed> = ConstGauge::default();
-    assert_eq!(rt; zero.get(), Fixed::ZERO);
-    assert_eq!(rt; ConstGauge::new(-3i64).get(), -3);
-}
-
-#[test]
-fn one_name_of_two_types(rt: HostRuntime) -> Result<(), Fail> {
-    let alloc = rt.alloc();
-    let mut registry = Registry::default();
-    let counter = Box::new(alloc, ConstCounter::new(1u64))?;
-    register(alloc, &mut registry, "a", counter)?;
-    let again = register(alloc, &mut registry, "a", gauge(alloc, 3)?);
-    let name = String::from_str(alloc, "a")?;
-    assert_eq!(rt; again, Err(RegistryError::NameTaken { name }));
-    assert_eq!(rt;
-        document_of(alloc, &registry)?.as_str(),
-        "# TYPE a counter\n# HELP a H\na_total 1\n# EOF\n"
-    );
-    Ok(())
-}
-
-#[test]
-fn one_name_with_two_units(rt: HostRuntime) -> Result<(), Fail> {
-    let alloc = rt.alloc();
-    let mut registry = Registry::default();
-    let unit = Some(Unit::Seconds);
-    register_with(alloc, &mut registry, "g", "H", unit, gauge(alloc, 1)?)?;
-    let unit = Some(Unit::from(String::from_str(alloc, "seconds")?));
-    let again = register_with(alloc, &mut registry, "g", "H", unit, gauge(alloc, 2)?);
-    let name = String::from_str(alloc, "g")?;
-    assert_eq!(rt; again, Err(RegistryError::NameTaken { name }));
-    assert_eq!(rt;
-        document_of(alloc, &registry)?.as_str(),
-        "# TYPE g_seconds gauge\n# HELP g_seconds H\n# UNIT g_seconds seconds\ng_seconds 1\n# EOF\n"
-    );
-    Ok(())
+    assert!(rt; counters_have_parts());
+    assert!(rt; gauges_have_parts());
+    assert!(rt; Fixed::from_whole(9223372036854).is_some());
+    assert!(rt; Fixed::from_whole(9223372036855).is_none());
 }

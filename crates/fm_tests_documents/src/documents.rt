@@ -1,33 +1,51 @@
-//! Documents of counters, from a registration to the text.
+//! Documents of counters, from a registration to the text, and of a name that is given twice.
 
 use fastmetrics::metrics::counter::ConstCounter;
-use fastmetrics::metrics::tally::Book;
-use fastmetrics::registry::{Registry, RegistryError};
-use fm_test_support::support::{document_alone, document_of};
-use fm_test_support::trees::register_with;
+use fastmetrics::metrics::tally::{Book, TallyError};
+use fastmetrics::raw::Unit;
+use fastmetrics::registry::Registry;
+use fm_test_support::support::{expect_document, expect_document_of};
+use fm_test_support::trees::{expect_refused, gauge, register, register_with};
 use own_metric::{Queue, Waiting};
+use std::alloc::{AllocError, Global};
 use std::test::Fail;
 
-#[test]
-fn counted_sum(rt: HostRuntime) -> Result<(), Fail> {
-    let alloc = rt.alloc();
+// A counter with this total.
+fn counter(alloc: Global, total: u64) -> Result<Box<ConstCounter>, AllocError> {
+    Ok(Box::new(alloc, ConstCounter::new(total))?)
+}
+
+// Fails where this is not the document of a counter alone.
+fn expect_counter(
+    alloc: Global,
+    name: &str,
+    help: &str,
+    total: u64,
+    want: &str,
+) -> Result<(), Fail> {
+    let counter = counter(alloc, total)?;
     let mut registry = Registry::default();
-    assert_eq!(rt; document_of(alloc, &registry)?.as_str(), "# EOF\n");
+    register_with(alloc, &mut registry, name, help, None, counter)?;
+    expect_document_of(alloc, &registry, want)
+}
+
+// The sum of the numbers from 1 to 100, which two workers add.
+fn counted_jobs() -> Result<u64, TallyError> {
     let mut book = Book::new();
     for who in 0..2 {
         for jobs in 1..101 {
             book.add(who, jobs)?;
         }
     }
-    let name = String::from_str(alloc, "jobs")?;
-    let help = String::from_str(alloc, "Jobs done")?;
-    let jobs = Box::new(alloc, ConstCounter::new(book.read()))?;
-    registry.register(alloc, name, help, jobs)?;
-    assert_eq!(rt;
-        document_of(alloc, &registry)?.as_str(),
-        "# TYPE jobs counter\n# HELP jobs Jobs done\njobs_total 10100\n# EOF\n"
-    );
-    Ok(())
+    Ok(book.read())
+}
+
+#[test]
+fn counted_sum(rt: HostRuntime) -> Result<(), Fail> {
+    let alloc = rt.alloc();
+    let want = "# TYPE jobs counter\n# HELP jobs Jobs done\njobs_total 10100\n# EOF\n";
+    expect_counter(alloc, "jobs", "Jobs done", counted_jobs()?, want)?;
+    expect_document_of(alloc, &Registry::default(), "# EOF\n")
 }
 
 #[test]
@@ -65,16 +83,7 @@ fn names_and_helps(rt: HostRuntime) -> Result<(), Fail> {
             "# TYPE x counter\n# HELP x \\\\n # EOF\r\t\u{2028}é\nx_total 1\n# EOF\n",
         ),
     ] {
-        let mut registry = Registry::default();
-        let name = String::from_str(alloc, name)?;
-        let help = String::from_str(alloc, help)?;
-        registry.register(
-            alloc,
-            name,
-            help,
-            Box::new(alloc, ConstCounter::new(total))?,
-        )?;
-        assert_eq!(rt; document_of(alloc, &registry)?.as_str(), want);
+        expect_counter(alloc, name, help, total, want)?;
     }
     Ok(())
 }
@@ -82,18 +91,39 @@ fn names_and_helps(rt: HostRuntime) -> Result<(), Fail> {
 #[test]
 fn repeated_registration(rt: HostRuntime) -> Result<(), Fail> {
     let alloc = rt.alloc();
+    let (first, second) = (counter(alloc, 1)?, counter(alloc, 2)?);
     let mut registry = Registry::default();
-    let counter = Box::new(alloc, ConstCounter::new(1u64))?;
-    register_with(alloc, &mut registry, "a", "first", None, counter)?;
-    let counter = Box::new(alloc, ConstCounter::new(2u64))?;
-    let again = register_with(alloc, &mut registry, "a", "second", None, counter);
-    let name = String::from_str(alloc, "a")?;
-    assert_eq!(rt; again, Err(RegistryError::AlreadyExists { name }));
-    assert_eq!(rt;
-        document_of(alloc, &registry)?.as_str(),
-        "# TYPE a counter\n# HELP a first\na_total 1\n# EOF\n"
-    );
-    Ok(())
+    register_with(alloc, &mut registry, "a", "first", None, first)?;
+    let again = register_with(alloc, &mut registry, "a", "second", None, second);
+    expect_refused(again, 4, "a")?;
+    let want = "# TYPE a counter\n# HELP a first\na_total 1\n# EOF\n";
+    expect_document_of(alloc, &registry, want)
+}
+
+#[test]
+fn one_name_of_two_types(rt: HostRuntime) -> Result<(), Fail> {
+    let alloc = rt.alloc();
+    let (first, second) = (counter(alloc, 1)?, gauge(alloc, 3)?);
+    let mut registry = Registry::default();
+    register(alloc, &mut registry, "a", first)?;
+    let again = register(alloc, &mut registry, "a", second);
+    expect_refused(again, 12, "a")?;
+    let want = "# TYPE a counter\n# HELP a H\na_total 1\n# EOF\n";
+    expect_document_of(alloc, &registry, want)
+}
+
+#[test]
+fn one_name_with_two_units(rt: HostRuntime) -> Result<(), Fail> {
+    let alloc = rt.alloc();
+    let own = Unit::from(String::from_str(alloc, "seconds")?);
+    let (first, second) = (gauge(alloc, 1)?, gauge(alloc, 2)?);
+    let mut registry = Registry::default();
+    register_with(alloc, &mut registry, "g", "H", Some(Unit::Seconds), first)?;
+    let again = register_with(alloc, &mut registry, "g", "H", Some(own), second);
+    expect_refused(again, 12, "g")?;
+    let want =
+        "# TYPE g_seconds gauge\n# HELP g_seconds H\n# UNIT g_seconds seconds\ng_seconds 1\n# EOF\n";
+    expect_document_of(alloc, &registry, want)
 }
 
 #[test]
@@ -110,9 +140,11 @@ fn waiting_requests(rt: HostRuntime) -> Result<(), Fail> {
             requests: 12,
         },
     )?;
-    assert_eq!(rt;
-        document_alone(alloc, "waiting_requests", None, waiting)?.as_str(),
-        "# TYPE waiting_requests gauge\n# HELP waiting_requests H\nwaiting_requests{queue=\"mail \\\"out\\\"\",priority=\"3\"} 12\n# EOF\n"
-    );
-    Ok(())
+    expect_document(
+        alloc,
+        "waiting_requests",
+        None,
+        waiting,
+        "# TYPE waiting_requests gauge\n# HELP waiting_requests H\nwaiting_requests{queue=\"mail \\\"out\\\"\",priority=\"3\"} 12\n# EOF\n",
+    )
 }

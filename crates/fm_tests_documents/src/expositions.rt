@@ -1,13 +1,14 @@
 //! Collected expositions: their parts, and when two of them are equal.
 
 use fastmetrics::encoder::EncodeMetric;
-use fastmetrics::format::text::{Exposition, SampleKind, Value, collect};
+use fastmetrics::format::text::{Exposition, FamilySamples, Sample, SampleKind, Value, collect};
 use fastmetrics::metrics::counter::ConstCounter;
 use fastmetrics::metrics::gauge::ConstGauge;
 use fastmetrics::raw::{MetricType, Unit};
 use fastmetrics::registry::Registry;
 use fm_test_support::members::OneMember;
 use fm_test_support::parts::Word;
+use fm_test_support::trees::register_with;
 use std::alloc::Global;
 use std::test::Fail;
 use std::time::Duration;
@@ -21,10 +22,32 @@ fn collected(
     metric: Box<dyn EncodeMetric>,
 ) -> Result<Exposition, Fail> {
     let mut registry = Registry::default();
-    let name = String::from_str(alloc, name)?;
-    let help = String::from_str(alloc, help)?;
-    registry.register_metric(alloc, name, help, unit, metric)?;
+    register_with(alloc, &mut registry, name, help, unit, metric)?;
     Ok(collect(alloc, &registry)?)
+}
+
+// Whether these are the parts of a family of bytes.
+fn is_family_of_bytes(family: &FamilySamples) -> bool {
+    family.name() == "g_bytes"
+        && family.metric_type() == MetricType::Gauge
+        && family.help() == "H"
+        && family.unit() == Some("bytes")
+}
+
+// Whether this is a sample of 5, with a timestamp and two labels.
+fn is_five(sample: &Sample) -> bool {
+    sample.kind() == SampleKind::Plain
+        && sample.value() == Value::Whole(5)
+        && sample.timestamp_millis() == Some(1005)
+        && sample.exemplar().is_none()
+}
+
+// Whether the labels of a sample are these two.
+fn has_two_labels(sample: &Sample) -> bool {
+    sample.label_count() == 2
+        && sample.label(0) == Some(("b", "x"))
+        && sample.label(1) == Some(("a", "y"))
+        && sample.label(2).is_none()
 }
 
 #[test]
@@ -38,23 +61,31 @@ fn parts_of_a_gauge(rt: HostRuntime) -> Result<(), Fail> {
     };
     let bytes = Some(Unit::Bytes);
     let exposition = collected(alloc, "g", "H", bytes, Box::new(alloc, metric)?)?;
-    assert_eq!(rt; exposition.families().len(), 1);
-    let family = &exposition.families()[0];
-    assert_eq!(rt; family.name(), "g_bytes");
-    assert_eq!(rt; family.metric_type(), MetricType::Gauge);
-    assert_eq!(rt; family.help(), "H");
-    assert_eq!(rt; family.unit(), Some("bytes"));
-    assert_eq!(rt; family.samples().len(), 1);
-    let sample = &family.samples()[0];
-    assert_eq!(rt; sample.kind(), SampleKind::Plain);
-    assert_eq!(rt; sample.label_count(), 2);
-    assert_eq!(rt; sample.label(0), Some(("b", "x")));
-    assert_eq!(rt; sample.label(1), Some(("a", "y")));
-    assert_eq!(rt; sample.label(2), None);
-    assert_eq!(rt; sample.value(), Value::Whole(5));
-    assert_eq!(rt; sample.timestamp_millis(), Some(1005));
-    assert!(rt; sample.exemplar().is_none());
+    let [family] = exposition.families() else {
+        return Err(Fail::new("not one family"));
+    };
+    assert!(rt; is_family_of_bytes(family));
+    let [sample] = family.samples() else {
+        return Err(Fail::new("not one sample"));
+    };
+    assert!(rt; is_five(sample));
+    assert!(rt; has_two_labels(sample));
     Ok(())
+}
+
+// Whether these are the parts of a family of counters.
+fn is_family_of_counters(family: &FamilySamples) -> bool {
+    family.name() == "c" && family.metric_type() == MetricType::Counter && family.unit().is_none()
+}
+
+// Whether these samples are the total 7 and a time of creation.
+fn are_total_and_time(total: &Sample, created: &Sample) -> bool {
+    total.kind() == SampleKind::Total
+        && total.value() == Value::Whole(7)
+        && created.kind() == SampleKind::Created
+        && created.value() == Value::Millis(1005)
+        && created.label_count() == 0
+        && created.timestamp_millis().is_none()
 }
 
 #[test]
@@ -62,19 +93,13 @@ fn parts_of_a_counter(rt: HostRuntime) -> Result<(), Fail> {
     let alloc = rt.alloc();
     let counter = ConstCounter::with_created(7u32, Duration::from_millis(1005));
     let exposition = collected(alloc, "c", "H", None, Box::new(alloc, counter)?)?;
-    assert_eq!(rt; exposition.families().len(), 1);
-    let family = &exposition.families()[0];
-    assert_eq!(rt; family.name(), "c");
-    assert_eq!(rt; family.metric_type(), MetricType::Counter);
-    assert_eq!(rt; family.unit(), None);
-    assert_eq!(rt; family.samples().len(), 2);
-    let total = &family.samples()[0];
-    let created = &family.samples()[1];
-    assert_eq!(rt; total.kind(), SampleKind::Total);
-    assert_eq!(rt; total.value(), Value::Whole(7));
-    assert_eq!(rt; created.kind(), SampleKind::Created);
-    assert_eq!(rt; created.value(), Value::Millis(1005));
-    assert_eq!(rt; created.label_count(), 0);
-    assert_eq!(rt; created.timestamp_millis(), None);
+    let [family] = exposition.families() else {
+        return Err(Fail::new("not one family"));
+    };
+    assert!(rt; is_family_of_counters(family));
+    let [total, created] = family.samples() else {
+        return Err(Fail::new("not two samples"));
+    };
+    assert!(rt; are_total_and_time(total, created));
     Ok(())
 }
