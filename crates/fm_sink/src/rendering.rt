@@ -121,6 +121,7 @@ fn append_exemplar<O: Output>(text: &mut O, exemplar: Option<&Exemplar>) -> Resu
 
 // Appends a value, a timestamp, an exemplar and a line feed.
 #[tactic(auto, using(crate::proofs::GrownLemmas::grown))]
+#[inline(always)]
 fn append_reading<O: Output>(
     text: &mut O,
     value: &Value,
