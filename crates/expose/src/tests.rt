@@ -1,17 +1,43 @@
 //! What the program prints for each scene, and for faults.
-mod memory;
+ghost use Rattle.std.specs.Prelude.{IfOk};
+ghost use Rattle.fastmetrics.specs.HasBook.{HasBook};
 
-use crate::calls::all_accepted;
+// A test alone can make a box of a metric that waits by the handle of the runtime: so it writes the calls of these two scenes.
+
+// The calls of the scene `histogram`.
+macro_rules! histogram_calls {
+    ($rt:expr) => {
+        match numbers_histogram($rt, $rt.alloc()) {
+            Ok((name, help, numbers)) => one_metric($rt.alloc(), name, help, numbers),
+            Err(fault) => Err(fault),
+        }
+    };
+}
+
+// The calls of the scene `tree`.
+macro_rules! tree_calls {
+    ($rt:expr) => {
+        match application_metrics($rt, $rt.alloc()) {
+            Ok((requests, by_kind, queries)) => application($rt.alloc(), requests, by_kind, queries),
+            Err(fault) => Err(fault),
+        }
+    };
+}
+
+mod memory;
+mod scenes;
+
+use crate::calls::{all_accepted, one_metric, path_of};
 use crate::histogram::numbers_histogram;
 use crate::output::{Fault, finish};
 use crate::scene::{Scene, choose};
-use crate::states::running_task;
-use crate::tally::jobs_counter;
 use crate::tree::{application, application_metrics, production};
 use fastmetrics::metrics::tally::TallyError;
 use fastmetrics::raw::MetricError;
 use fastmetrics::raw::bucket::BucketError;
 use fastmetrics::registry::{Registry, RegistryError};
+use scenes::{filled, states_calls, tally_calls};
+use std::alloc::Global;
 use std::io::{self, ErrorKind, Write};
 use std::test::Fail;
 
@@ -62,6 +88,7 @@ myapp_database_mysql_queries_total{env=\"prod\",engine=\"innodb\"} 7
 #[test]
 fn words_name_scenes(rt: HostRuntime) -> Result<(), Fail> {
     let alloc = rt.alloc();
+    assert!(rt; choose(&[]).is_none());
     for (word, scene) in [
         ("empty", Some(Scene::Empty)),
         ("tally", Some(Scene::Tally)),
@@ -72,18 +99,23 @@ fn words_name_scenes(rt: HostRuntime) -> Result<(), Fail> {
         ("Tally", None),
         ("tally ", None),
     ] {
-        let mut words = Vec::new(alloc);
-        assert_eq!(rt; choose(&words), None);
-        words.push(String::from_str(alloc, word)?)?;
-        assert_eq!(rt; choose(&words), scene);
-        words.push(String::from_str(alloc, "tally")?)?;
-        assert_eq!(rt; choose(&words), None);
+        let is_named = choose(&path_of(alloc, &[word])?) == scene;
+        let is_alone = choose(&path_of(alloc, &[word, "tally"])?).is_none();
+        assert!(rt; is_named && is_alone, "{word}");
     }
     Ok(())
 }
 
+// Whether this fault gives this status, and is said and nothing else.
+fn is_said(alloc: Global, fault: Fault, status: u8, said: &str) -> bool {
+    let mut out = Vec::new(alloc);
+    let mut errors = Vec::new(alloc);
+    let given = finish(alloc, Err(fault), &mut out, &mut errors);
+    given == status && out.is_empty() && errors.as_slice() == said.as_bytes()
+}
+
 #[test]
-fn faults_are_said(rt: HostRuntime) -> Result<(), Fail> {
+fn faults_are_said(rt: HostRuntime) {
     let alloc = rt.alloc();
     for (fault, status, said) in [
         (Fault::UnknownScene, 2, "unknown scene\n"),
@@ -109,13 +141,8 @@ fn faults_are_said(rt: HostRuntime) -> Result<(), Fail> {
             "fault: tally 6\n",
         ),
     ] {
-        let mut out = Vec::new(alloc);
-        let mut errors = Vec::new(alloc);
-        assert_eq!(rt; finish(alloc, Err(fault), &mut out, &mut errors), status);
-        assert!(rt; out.is_empty());
-        assert_eq!(rt; errors.as_slice(), said.as_bytes());
+        assert!(rt; is_said(alloc, fault, status, said), "{said}");
     }
-    Ok(())
 }
 
 // A writer that takes nothing: it answers an error, or 0.
@@ -137,97 +164,42 @@ impl Write for Unwilling {
     }
 }
 
-#[test]
-fn writers_that_take_nothing(rt: HostRuntime) -> Result<(), Fail> {
-    let alloc = rt.alloc();
-    for (is_failing, said) in [(true, "fault: encode 14\n"), (false, "fault: encode 15\n")] {
-        let mut out = Unwilling { is_failing };
-        let mut errors = Vec::new(alloc);
-        let status = finish(alloc, Ok(Registry::default()), &mut out, &mut errors);
-        assert_eq!(rt; status, 1);
-        assert_eq!(rt; errors.as_slice(), said.as_bytes());
-    }
-    Ok(())
+// Whether a writer that takes nothing gives the status 1, and this is said.
+fn is_fault_of_writer(alloc: Global, is_failing: bool, said: &str) -> bool {
+    let mut out = Unwilling { is_failing };
+    let mut errors = Vec::new(alloc);
+    let status = finish(alloc, Ok(Registry::default()), &mut out, &mut errors);
+    status == 1 && errors.as_slice() == said.as_bytes()
 }
 
 #[test]
-fn empty_scene(rt: HostRuntime) -> Result<(), Fail> {
-    let alloc = rt.alloc();
+fn writers_that_take_nothing(rt: HostRuntime) {
+    assert!(rt; is_fault_of_writer(rt.alloc(), true, "fault: encode 14\n"));
+    assert!(rt; is_fault_of_writer(rt.alloc(), false, "fault: encode 15\n"));
+}
+
+// Whether the program ends well with this registry, and prints this document and nothing else.
+fn prints(alloc: Global, made: Result<Registry, Fault>, document: &str) -> bool
+    requires { IfOk made (λ registry. HasBook registry) }
+{
     let mut out = Vec::new(alloc);
     let mut errors = Vec::new(alloc);
-    assert_eq!(rt;
-        finish(alloc, Ok(Registry::default()), &mut out, &mut errors),
-        0
-    );
-    assert_eq!(rt; out.as_slice(), b"# EOF\n".as_slice());
-    assert!(rt; errors.is_empty());
-    Ok(())
+    let status = finish(alloc, made, &mut out, &mut errors);
+    status == 0 && out.as_slice() == document.as_bytes() && errors.is_empty()
 }
 
 #[test]
-fn tally_scene(rt: HostRuntime) -> Result<(), Fail> {
+fn documents_of_scenes(rt: HostRuntime) {
     let alloc = rt.alloc();
-    let mut registry = Registry::default();
-    let Ok((name, help, jobs)) = jobs_counter(&rt, alloc) else {
-        return Err(Fail::new("no counter of jobs"));
-    };
-    registry.register(alloc, name, help, jobs)?;
-    let mut out = Vec::new(alloc);
-    let mut errors = Vec::new(alloc);
-    assert_eq!(rt; finish(alloc, Ok(registry), &mut out, &mut errors), 0);
-    assert_eq!(rt; out.as_slice(), JOBS.as_bytes());
-    Ok(())
-}
-
-#[test]
-fn histogram_scene(rt: HostRuntime) -> Result<(), Fail> {
-    let alloc = rt.alloc();
-    let mut registry = Registry::default();
-    let Ok((name, help, numbers)) = numbers_histogram(rt, alloc) else {
-        return Err(Fail::new("no histogram"));
-    };
-    registry.register(alloc, name, help, numbers)?;
-    let mut out = Vec::new(alloc);
-    let mut errors = Vec::new(alloc);
-    assert_eq!(rt; finish(alloc, Ok(registry), &mut out, &mut errors), 0);
-    assert_eq!(rt; out.as_slice(), NUMBERS.as_bytes());
-    Ok(())
-}
-
-#[test]
-fn states_scene(rt: HostRuntime) -> Result<(), Fail> {
-    let alloc = rt.alloc();
-    let mut registry = Registry::default();
-    let Ok((name, help, task)) = running_task(alloc) else {
-        return Err(Fail::new("no state set"));
-    };
-    registry.register(alloc, name, help, task)?;
-    let mut out = Vec::new(alloc);
-    let mut errors = Vec::new(alloc);
-    assert_eq!(rt; finish(alloc, Ok(registry), &mut out, &mut errors), 0);
-    assert_eq!(rt; out.as_slice(), TASK.as_bytes());
-    Ok(())
-}
-
-#[test]
-fn tree_scene(rt: HostRuntime) -> Result<(), Fail> {
-    let alloc = rt.alloc();
-    let (Ok(root), Ok((requests, by_kind, queries))) = (
-        production(alloc),
-        application_metrics(rt, alloc),
-    ) else {
-        return Err(Fail::new("no application"));
-    };
-    let Ok(calls) = application(alloc, requests, by_kind, queries) else {
-        return Err(Fail::new("no calls"));
-    };
-    let mut registry = root.build()?;
-    assert_eq!(rt; all_accepted(registry.run(alloc, calls)), Ok(()));
-    let mut out = Vec::new(alloc);
-    let mut errors = Vec::new(alloc);
-    assert_eq!(rt; finish(alloc, Ok(registry), &mut out, &mut errors), 0);
-    assert_eq!(rt; out.as_slice(), APPLICATION.as_bytes());
-    Ok(())
+    assert!(rt; prints(alloc, Ok(Registry::default()), "# EOF\n"));
+    let tally = filled(alloc, Ok(Registry::builder()), tally_calls(&rt, alloc));
+    assert!(rt; prints(alloc, tally, JOBS));
+    let histogram = filled(alloc, Ok(Registry::builder()), histogram_calls!(rt));
+    assert!(rt; prints(alloc, histogram, NUMBERS));
+    let states = filled(alloc, Ok(Registry::builder()), states_calls(alloc));
+    assert!(rt; prints(alloc, states, TASK));
+    let tree = filled(alloc, production(alloc), tree_calls!(rt));
+    assert!(rt; prints(alloc, tree, APPLICATION));
 }
 
 #[test]
