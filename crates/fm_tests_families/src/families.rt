@@ -12,7 +12,7 @@ use fastmetrics::raw::{Fixed, MetricError, TryDefault};
 use fastmetrics::registry::Registry;
 use fm_test_support::jobs::Job;
 use fm_test_support::replies::{Method, Outcome, Reply};
-use fm_test_support::support::{document_alone, document_of};
+use fm_test_support::support::{document_of, expect_document, expect_document_of};
 use std::alloc::Global;
 use std::hash::{BuildHasherDefault, FoldHasher};
 use std::sync::Wait;
@@ -43,11 +43,7 @@ fn count<H: Wait + Clone + Drop>(
 fn no_members(rt: HostRuntime) -> Result<(), Fail> {
     let alloc = rt.alloc();
     let replies = Counters::<Reply, HostRuntime>::try_default(rt, alloc)?;
-    assert_eq!(rt;
-        document_alone(alloc, "f", None, Box::new(alloc, replies)?)?.as_str(),
-        "# EOF\n"
-    );
-    Ok(())
+    expect_document(alloc, "f", None, Box::new(alloc, replies)?, "# EOF\n")
 }
 
 #[test]
@@ -62,14 +58,14 @@ fn three_members(rt: HostRuntime) -> Result<(), Fail> {
     let name = String::from_str(alloc, "http_requests")?;
     let help = String::from_str(alloc, "Total HTTP requests")?;
     registry.register(alloc, name, help, Box::new(alloc, replies)?)?;
-    assert_eq!(rt;
-        document_of(alloc, &registry)?.as_str(),
+    expect_document_of(
+        alloc,
+        &registry,
         "# TYPE http_requests counter\n# HELP http_requests Total HTTP requests\n\
          http_requests_total{method=\"GET\",status=\"200\"} 1\n\
          http_requests_total{method=\"GET\",status=\"404\",error=\"true\"} 1\n\
-         http_requests_total{method=\"PUT\",status=\"200\"} 1\n# EOF\n"
-    );
-    Ok(())
+         http_requests_total{method=\"PUT\",status=\"200\"} 1\n# EOF\n",
+    )
 }
 
 #[test]
@@ -78,11 +74,13 @@ fn members_that_counted_nothing(rt: HostRuntime) -> Result<(), Fail> {
     let outcomes = Counters::<Outcome, HostRuntime>::try_default(rt, alloc)?;
     let outcome = Outcome { error: Some(false) };
     assert_eq!(rt; outcomes.with_or_new(&outcome, |count| count.total())?, 0);
-    assert_eq!(rt;
-        document_alone(alloc, "f", None, Box::new(alloc, outcomes)?)?.as_str(),
-        "# TYPE f counter\n# HELP f H\nf_total{error=\"false\"} 0\n# EOF\n"
-    );
-    Ok(())
+    expect_document(
+        alloc,
+        "f",
+        None,
+        Box::new(alloc, outcomes)?,
+        "# TYPE f counter\n# HELP f H\nf_total{error=\"false\"} 0\n# EOF\n",
+    )
 }
 
 #[test]
@@ -90,11 +88,13 @@ fn labels_that_are_left_out(rt: HostRuntime) -> Result<(), Fail> {
     let alloc = rt.alloc();
     let outcomes = Counters::<Outcome, HostRuntime>::try_default(rt, alloc)?;
     outcomes.with_or_new(&Outcome { error: None }, |count| count.inc())?;
-    assert_eq!(rt;
-        document_alone(alloc, "f", None, Box::new(alloc, outcomes)?)?.as_str(),
-        "# TYPE f counter\n# HELP f H\nf_total 1\n# EOF\n"
-    );
-    Ok(())
+    expect_document(
+        alloc,
+        "f",
+        None,
+        Box::new(alloc, outcomes)?,
+        "# TYPE f counter\n# HELP f H\nf_total 1\n# EOF\n",
+    )
 }
 
 #[test]
@@ -111,11 +111,11 @@ fn labels_left_out_behind_constant_ones(rt: HostRuntime) -> Result<(), Fail> {
     outcomes.with_or_new(&Outcome { error: None }, |count| count.inc())?;
     let (name, help) = (String::from_str(alloc, "f")?, String::from_str(alloc, "H")?);
     registry.register(alloc, name, help, Box::new(alloc, outcomes)?)?;
-    assert_eq!(rt;
-        document_of(alloc, &registry)?.as_str(),
-        "# TYPE f counter\n# HELP f H\nf_total{env=\"prod\"} 1\n# EOF\n"
-    );
-    Ok(())
+    expect_document_of(
+        alloc,
+        &registry,
+        "# TYPE f counter\n# HELP f H\nf_total{env=\"prod\"} 1\n# EOF\n",
+    )
 }
 
 #[test]
@@ -151,15 +151,17 @@ fn histograms_by_labels(rt: HostRuntime) -> Result<(), Fail> {
     let outcome = Outcome { error: None };
     let tenth = Fixed::from_millionths(100_000);
     seconds.with_or_new(&outcome, |seconds| seconds.observe(tenth))??;
-    assert_eq!(rt;
-        document_alone(alloc, "h", None, Box::new(alloc, seconds)?)?.as_str(),
+    expect_document(
+        alloc,
+        "h",
+        None,
+        Box::new(alloc, seconds)?,
         "# TYPE h histogram\n# HELP h H\n\
          h_bucket{le=\"0.005\"} 0\nh_bucket{le=\"0.01\"} 0\nh_bucket{le=\"0.02\"} 0\n\
          h_bucket{le=\"0.04\"} 0\nh_bucket{le=\"0.08\"} 0\nh_bucket{le=\"0.16\"} 1\n\
          h_bucket{le=\"0.32\"} 1\nh_bucket{le=\"0.64\"} 1\nh_bucket{le=\"1.28\"} 1\n\
-         h_bucket{le=\"2.56\"} 1\nh_bucket{le=\"+Inf\"} 1\nh_count 1\nh_sum 0.1\n# EOF\n"
-    );
-    Ok(())
+         h_bucket{le=\"2.56\"} 1\nh_bucket{le=\"+Inf\"} 1\nh_count 1\nh_sum 0.1\n# EOF\n",
+    )
 }
 
 // Counts a hundred replies of each of two kinds.

@@ -3,7 +3,7 @@
 use fastmetrics::metrics::counter::Counter;
 use fastmetrics::metrics::gauge::Gauge;
 use fastmetrics::raw::{Atomic, Fixed, MetricError, Number, TryDefault};
-use fm_test_support::support::document_alone;
+use fm_test_support::support::expect_document;
 use std::sync::atomic::{AtomicI32, AtomicI64, AtomicIsize, AtomicU32, AtomicU64, AtomicUsize};
 use std::test::Fail;
 use std::thread;
@@ -24,11 +24,13 @@ fn counters_of_two_threads(rt: HostRuntime) -> Result<(), Fail> {
         },
     );
     assert_eq!(rt; hits.total(), 2000);
-    assert_eq!(rt;
-        document_alone(alloc, "c", None, Box::new(alloc, clone)?)?.as_str(),
-        "# TYPE c counter\n# HELP c H\nc_total 2000\n# EOF\n"
-    );
-    Ok(())
+    expect_document(
+        alloc,
+        "c",
+        None,
+        Box::new(alloc, clone)?,
+        "# TYPE c counter\n# HELP c H\nc_total 2000\n# EOF\n",
+    )
 }
 
 #[test]
@@ -46,11 +48,13 @@ fn gauges_of_two_threads(rt: HostRuntime) -> Result<(), Fail> {
         },
     );
     assert_eq!(rt; level.get(), 2000);
-    assert_eq!(rt;
-        document_alone(alloc, "g", None, Box::new(alloc, clone)?)?.as_str(),
-        "# TYPE g gauge\n# HELP g H\ng 2000\n# EOF\n"
-    );
-    Ok(())
+    expect_document(
+        alloc,
+        "g",
+        None,
+        Box::new(alloc, clone)?,
+        "# TYPE g gauge\n# HELP g H\ng 2000\n# EOF\n",
+    )
 }
 
 // Raises a counter to every second value from the first one on, and answers how often the total lay below a value that it
@@ -81,17 +85,22 @@ fn clones_share_one_value(rt: HostRuntime) -> Result<(), Fail> {
     let alloc = rt.alloc();
     let hits = Counter::<u64>::try_default(rt, alloc)?;
     hits.clone()?.inc();
-    assert_eq!(rt;
-        document_alone(alloc, "c", None, Box::new(alloc, hits)?)?.as_str(),
-        "# TYPE c counter\n# HELP c H\nc_total 1\n# EOF\n"
-    );
+    expect_document(
+        alloc,
+        "c",
+        None,
+        Box::new(alloc, hits)?,
+        "# TYPE c counter\n# HELP c H\nc_total 1\n# EOF\n",
+    )?;
     let level = Gauge::<i64>::new(alloc, 7)?;
     level.clone()?.set(-5);
-    assert_eq!(rt;
-        document_alone(alloc, "g", None, Box::new(alloc, level)?)?.as_str(),
-        "# TYPE g gauge\n# HELP g H\ng -5\n# EOF\n"
-    );
-    Ok(())
+    expect_document(
+        alloc,
+        "g",
+        None,
+        Box::new(alloc, level)?,
+        "# TYPE g gauge\n# HELP g H\ng -5\n# EOF\n",
+    )
 }
 
 #[test]
@@ -101,19 +110,24 @@ fn steps_that_wrap(rt: HostRuntime) -> Result<(), Fail> {
     level.clone()?.set(2147483647);
     assert_eq!(rt; level.inc(), 2147483647);
     assert_eq!(rt; level.get(), -2147483648);
-    assert_eq!(rt;
-        document_alone(alloc, "g", None, Box::new(alloc, level)?)?.as_str(),
-        "# TYPE g gauge\n# HELP g H\ng -2147483648\n# EOF\n"
-    );
+    expect_document(
+        alloc,
+        "g",
+        None,
+        Box::new(alloc, level)?,
+        "# TYPE g gauge\n# HELP g H\ng -2147483648\n# EOF\n",
+    )?;
     let hits = Counter::<u32>::try_default(rt, alloc)?;
     hits.set(4294967295)?;
     assert_eq!(rt; hits.inc(), 4294967295);
     assert_eq!(rt; hits.total(), 0);
-    assert_eq!(rt;
-        document_alone(alloc, "c", None, Box::new(alloc, hits)?)?.as_str(),
-        "# TYPE c counter\n# HELP c H\nc_total 0\n# EOF\n"
-    );
-    Ok(())
+    expect_document(
+        alloc,
+        "c",
+        None,
+        Box::new(alloc, hits)?,
+        "# TYPE c counter\n# HELP c H\nc_total 0\n# EOF\n",
+    )
 }
 
 #[test]
@@ -123,21 +137,26 @@ fn refused_changes(rt: HostRuntime) -> Result<(), Fail> {
     assert_eq!(rt; hits.set(42), Ok(()));
     assert_eq!(rt; hits.set(10), Err(MetricError::LessThanBefore));
     assert_eq!(rt; hits.total(), 42);
-    assert_eq!(rt;
-        document_alone(alloc, "c", None, Box::new(alloc, hits)?)?.as_str(),
-        "# TYPE c counter\n# HELP c H\nc_total 42\n# EOF\n"
-    );
+    expect_document(
+        alloc,
+        "c",
+        None,
+        Box::new(alloc, hits)?,
+        "# TYPE c counter\n# HELP c H\nc_total 42\n# EOF\n",
+    )?;
     let seconds = Counter::<Fixed>::try_default(rt, alloc)?;
     seconds.inc_by(Fixed::from_millionths(1500000))?;
     assert_eq!(rt;
         seconds.inc_by(Fixed::from_millionths(-1)),
         Err(MetricError::NegativeIncrement)
     );
-    assert_eq!(rt;
-        document_alone(alloc, "c", None, Box::new(alloc, seconds)?)?.as_str(),
-        "# TYPE c counter\n# HELP c H\nc_total 1.5\n# EOF\n"
-    );
-    Ok(())
+    expect_document(
+        alloc,
+        "c",
+        None,
+        Box::new(alloc, seconds)?,
+        "# TYPE c counter\n# HELP c H\nc_total 1.5\n# EOF\n",
+    )
 }
 
 #[test]
@@ -176,7 +195,7 @@ fn times_of_creation(rt: HostRuntime) -> Result<(), Fail> {
     ] {
         let hits = Counter::<u64>::with_created(alloc, created)?;
         let metric = Box::new(alloc, hits)?;
-        assert_eq!(rt; document_alone(alloc, "c", None, metric)?.as_str(), want);
+        expect_document(alloc, "c", None, metric, want)?;
     }
     Ok(())
 }

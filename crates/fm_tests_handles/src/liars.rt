@@ -7,7 +7,7 @@ ghost use Rattle.fm_encoder.specs.Hands.{Joined, MembersOf};
 use fastmetrics::encoder::{EncodeError, EncodeLabelSet, EncodeMetric, MetricEncoder};
 use fastmetrics::metrics::gauge::ConstGauge;
 use fastmetrics::raw::MetricType;
-use fm_test_support::support::{document_alone, refusal};
+use fm_test_support::support::{expect_document, expect_refusal};
 use std::alloc::{AllocError, Global};
 use std::sync::atomic::{AtomicU64, Ordering};
 use std::sync::{Mutex, Wait};
@@ -56,17 +56,19 @@ fn forgotten_refusals(rt: HostRuntime) -> Result<(), Fail> {
     let alloc = rt.alloc();
     let labels = numbered(alloc, &["é"])?;
     let metric = Box::new(alloc, Forgetful { labels })?;
-    assert_eq!(rt; refusal(alloc, metric)?, EncodeError::InvalidLabelName);
+    expect_refusal(alloc, metric, EncodeError::InvalidLabelName)?;
     let labels = numbered(alloc, &["a", "a"])?;
     let metric = Box::new(alloc, Forgetful { labels })?;
-    assert_eq!(rt; refusal(alloc, metric)?, EncodeError::DuplicateLabel);
+    expect_refusal(alloc, metric, EncodeError::DuplicateLabel)?;
     let labels = numbered(alloc, &["a"])?;
     let metric = Box::new(alloc, Forgetful { labels })?;
-    assert_eq!(rt;
-        document_alone(alloc, "t", None, metric)?.as_str(),
-        "# TYPE t gauge\n# HELP t H\nt{a=\"1\"} 5\nt 5\n# EOF\n"
-    );
-    Ok(())
+    expect_document(
+        alloc,
+        "t",
+        None,
+        metric,
+        "# TYPE t gauge\n# HELP t H\nt{a=\"1\"} 5\nt 5\n# EOF\n",
+    )
 }
 
 // A gauge that answers an error of its own.
@@ -102,7 +104,7 @@ fn errors_of_metrics(rt: HostRuntime) -> Result<(), Fail> {
         (EncodeError::Memory, EncodeError::Memory),
     ] {
         let metric = Box::new(alloc, Failing(own))?;
-        assert_eq!(rt; refusal(alloc, metric)?, error);
+        expect_refusal(alloc, metric, error)?;
     }
     Ok(())
 }
@@ -144,18 +146,20 @@ fn types_that_change(rt: HostRuntime) -> Result<(), Fail> {
         asked: AtomicU64::new(0),
     };
     let metric = Box::new(alloc, metric)?;
-    assert_eq!(rt; refusal(alloc, metric)?, EncodeError::KindMismatch);
+    expect_refusal(alloc, metric, EncodeError::KindMismatch)?;
     let metric = Fickle {
         first: MetricType::Gauge,
         later: MetricType::Counter,
         asked: AtomicU64::new(0),
     };
     let metric = Box::new(alloc, metric)?;
-    assert_eq!(rt;
-        document_alone(alloc, "t", None, metric)?.as_str(),
-        "# TYPE t gauge\n# HELP t H\nt 5\n# EOF\n"
-    );
-    Ok(())
+    expect_document(
+        alloc,
+        "t",
+        None,
+        metric,
+        "# TYPE t gauge\n# HELP t H\nt 5\n# EOF\n",
+    )
 }
 
 // A gauge whose value stands behind a lock. It keeps the handle that it waits by.
@@ -191,9 +195,11 @@ fn values_behind_locks(rt: HostRuntime) -> Result<(), Fail> {
     };
     *metric.value.lock(&rt) = -5;
     let metric = Box::new(alloc, metric)?;
-    assert_eq!(rt;
-        document_alone(alloc, "t", None, metric)?.as_str(),
-        "# TYPE t gauge\n# HELP t H\nt -5\n# EOF\n"
-    );
-    Ok(())
+    expect_document(
+        alloc,
+        "t",
+        None,
+        metric,
+        "# TYPE t gauge\n# HELP t H\nt -5\n# EOF\n",
+    )
 }

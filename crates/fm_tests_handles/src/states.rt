@@ -11,7 +11,7 @@ use fastmetrics::metrics::unknown::Unknown;
 use fastmetrics::raw::{Fixed, MetricError, Unit};
 use fastmetrics::registry::{Registry, RegistryError};
 use fm_test_support::jobs::Job;
-use fm_test_support::support::{document_alone, text_of};
+use fm_test_support::support::{expect_document, text_of};
 use std::alloc::Global;
 use std::test::Fail;
 
@@ -20,19 +20,24 @@ fn states_of_a_job(rt: HostRuntime) -> Result<(), Fail> {
     let alloc = rt.alloc();
     let jobs = StateSet::new(alloc, Job::Pending)?;
     jobs.clone()?.set(Job::Running)?;
-    assert_eq!(rt;
-        document_alone(alloc, "my_stateset", None, Box::new(alloc, jobs)?)?.as_str(),
+    expect_document(
+        alloc,
+        "my_stateset",
+        None,
+        Box::new(alloc, jobs)?,
         "# TYPE my_stateset stateset\n# HELP my_stateset H\n\
          my_stateset{my_stateset=\"pending\"} 0\nmy_stateset{my_stateset=\"running\"} 1\n\
-         my_stateset{my_stateset=\"completed\"} 0\nmy_stateset{my_stateset=\"failed\"} 0\n# EOF\n"
-    );
+         my_stateset{my_stateset=\"completed\"} 0\nmy_stateset{my_stateset=\"failed\"} 0\n# EOF\n",
+    )?;
     let failed = ConstStateSet::new(alloc, Job::Failed)?;
-    assert_eq!(rt;
-        document_alone(alloc, "s", None, Box::new(alloc, failed)?)?.as_str(),
+    expect_document(
+        alloc,
+        "s",
+        None,
+        Box::new(alloc, failed)?,
         "# TYPE s stateset\n# HELP s H\ns{s=\"pending\"} 0\ns{s=\"running\"} 0\n\
-         s{s=\"completed\"} 0\ns{s=\"failed\"} 1\n# EOF\n"
-    );
-    Ok(())
+         s{s=\"completed\"} 0\ns{s=\"failed\"} 1\n# EOF\n",
+    )
 }
 
 #[test]
@@ -125,33 +130,43 @@ fn information(rt: HostRuntime) -> Result<(), Fail> {
     let alloc = rt.alloc();
     let version = Version { text: "a\"b\\c\nd" };
     let info = Box::new(alloc, Info::new(version))?;
-    assert_eq!(rt;
-        document_alone(alloc, "i", None, info)?.as_str(),
+    expect_document(
+        alloc,
+        "i",
+        None,
+        info,
         "# TYPE i info\n# HELP i H\n\
-         i_info{v=\"a\\\"b\\\\c\\nd\"} 1\n# EOF\n"
-    );
+         i_info{v=\"a\\\"b\\\\c\\nd\"} 1\n# EOF\n",
+    )?;
     let info = Box::new(alloc, Info::new(()))?;
-    assert_eq!(rt;
-        document_alone(alloc, "i", None, info)?.as_str(),
-        "# TYPE i info\n# HELP i H\ni_info 1\n# EOF\n"
-    );
-    Ok(())
+    expect_document(
+        alloc,
+        "i",
+        None,
+        info,
+        "# TYPE i info\n# HELP i H\ni_info 1\n# EOF\n",
+    )
 }
 
 #[test]
 fn values_of_no_known_type(rt: HostRuntime) -> Result<(), Fail> {
     let alloc = rt.alloc();
     let unknown = Box::new(alloc, Unknown::new(Fixed::from_millionths(1500000)))?;
-    assert_eq!(rt;
-        document_alone(alloc, "u", None, unknown)?.as_str(),
-        "# TYPE u unknown\n# HELP u H\nu 1.5\n# EOF\n"
-    );
+    expect_document(
+        alloc,
+        "u",
+        None,
+        unknown,
+        "# TYPE u unknown\n# HELP u H\nu 1.5\n# EOF\n",
+    )?;
     let unknown = Box::new(alloc, Unknown::new(-5i64))?;
-    assert_eq!(rt;
-        document_alone(alloc, "u", None, unknown)?.as_str(),
-        "# TYPE u unknown\n# HELP u H\nu -5\n# EOF\n"
-    );
-    Ok(())
+    expect_document(
+        alloc,
+        "u",
+        None,
+        unknown,
+        "# TYPE u unknown\n# HELP u H\nu -5\n# EOF\n",
+    )
 }
 
 // What registering a metric under this name with the unit `X` answers.
@@ -214,9 +229,11 @@ fn units_of_gauges(rt: HostRuntime) -> Result<(), Fail> {
     );
     let level = Box::new(alloc, Gauge::<i64>::new(alloc, 1)?)?;
     let unit = Some(Unit::Other(String::from_str(alloc, "1a")?));
-    assert_eq!(rt;
-        document_alone(alloc, "ok", unit, level)?.as_str(),
-        "# TYPE ok_1a gauge\n# HELP ok_1a H\n# UNIT ok_1a 1a\nok_1a 1\n# EOF\n"
-    );
-    Ok(())
+    expect_document(
+        alloc,
+        "ok",
+        unit,
+        level,
+        "# TYPE ok_1a gauge\n# HELP ok_1a H\n# UNIT ok_1a 1a\nok_1a 1\n# EOF\n",
+    )
 }

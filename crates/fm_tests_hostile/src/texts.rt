@@ -12,7 +12,7 @@ use fastmetrics::metrics::info::Info;
 use fastmetrics::metrics::state_set::{StateSet, StateSetValue};
 use fm_test_support::members::OneMember;
 use fm_test_support::parts::Word;
-use fm_test_support::support::document_alone;
+use fm_test_support::support::expect_document;
 use std::test::Fail;
 
 #[test]
@@ -77,11 +77,14 @@ impl StateSetValue for Odd {
 fn hostile_states(rt: HostRuntime) -> Result<(), Fail> {
     let alloc = rt.alloc();
     let states = Box::new(alloc, StateSet::new(alloc, Odd::Lined)?)?;
-    assert_eq!(rt;
-        document_alone(alloc, "s", None, states)?.as_str(),
+    expect_document(
+        alloc,
+        "s",
+        None,
+        states,
         "# TYPE s stateset\n# HELP s H\ns{s=\"a\\\"} 1\"} 0\ns{s=\"\\\\n\"} 0\n\
-         s{s=\"\\n\"} 1\ns{s=\"x\\n# EOF\\n\"} 0\n# EOF\n"
-    );
+         s{s=\"\\n\"} 1\ns{s=\"x\\n# EOF\\n\"} 0\n# EOF\n",
+    )?;
     let states = Box::new(alloc, StateSet::new(alloc, Odd::Ended)?)?;
     assert_eq!(rt;
         document_beneath(alloc, "s", states)?.as_str(),

@@ -8,7 +8,7 @@ use fastmetrics::encoder::{EncodeError, EncodeLabelValue, LabelEncoder};
 use fastmetrics::metrics::gauge::ConstGauge;
 use fm_test_support::members::OneMember;
 use fm_test_support::parts::Word;
-use fm_test_support::support::lines_of;
+use fm_test_support::support::expect_lines;
 use std::alloc::Global;
 use std::test::Fail;
 
@@ -56,72 +56,79 @@ impl EncodeLabelValue for Number {
     }
 }
 
-// The sample line of a gauge with these two values as labels.
-fn line_with(alloc: Global, least: Number, greatest: Number) -> Result<String, Fail> {
-    let mut labels = Vec::new(alloc);
-    labels.push((Word("least"), least))?;
-    labels.push((Word("greatest"), greatest))?;
+// Fails where the line of a gauge with these two values as labels is another one.
+fn expect_line(alloc: Global, least: Number, greatest: Number, want: &str) -> Result<(), Fail> {
+    let labels = [(Word("least"), least), (Word("greatest"), greatest)];
     let metric = Box::new(alloc, OneMember::gauge(labels, ConstGauge::new(5i64)))?;
-    lines_of(alloc, metric)
+    expect_lines(alloc, metric, want)
 }
 
 #[test]
-fn signed_values(rt: HostRuntime) -> Result<(), Fail> {
-    let alloc = rt.alloc();
-    assert_eq!(rt;
-        line_with(alloc, Number::I8(i8::MIN), Number::I8(i8::MAX))?.as_str(),
-        "t{least=\"-128\",greatest=\"127\"} 5\n# EOF\n"
-    );
-    assert_eq!(rt;
-        line_with(alloc, Number::I16(i16::MIN), Number::I16(i16::MAX))?.as_str(),
-        "t{least=\"-32768\",greatest=\"32767\"} 5\n# EOF\n"
-    );
-    assert_eq!(rt;
-        line_with(alloc, Number::I32(i32::MIN), Number::I32(i32::MAX))?.as_str(),
-        "t{least=\"-2147483648\",greatest=\"2147483647\"} 5\n# EOF\n"
-    );
-    assert_eq!(rt;
-        line_with(alloc, Number::I64(i64::MIN), Number::I64(i64::MAX))?.as_str(),
-        "t{least=\"-9223372036854775808\",greatest=\"9223372036854775807\"} 5\n# EOF\n"
-    );
-    assert_eq!(rt;
-        line_with(alloc, Number::Isize(isize::MIN), Number::Isize(isize::MAX))?.as_str(),
-        "t{least=\"-9223372036854775808\",greatest=\"9223372036854775807\"} 5\n# EOF\n"
-    );
-    assert_eq!(rt;
-        line_with(alloc, Number::I128(i128::MIN), Number::I128(i128::MAX))?.as_str(),
-        "t{least=\"-170141183460469231731687303715884105728\",\
-         greatest=\"170141183460469231731687303715884105727\"} 5\n# EOF\n"
-    );
-    Ok(())
-}
-
-#[test]
-fn unsigned_values(rt: HostRuntime) -> Result<(), Fail> {
-    let alloc = rt.alloc();
-    assert_eq!(rt;
-        line_with(alloc, Number::U8(u8::MIN), Number::U8(u8::MAX))?.as_str(),
-        "t{least=\"0\",greatest=\"255\"} 5\n# EOF\n"
-    );
-    assert_eq!(rt;
-        line_with(alloc, Number::U16(u16::MIN), Number::U16(u16::MAX))?.as_str(),
-        "t{least=\"0\",greatest=\"65535\"} 5\n# EOF\n"
-    );
-    assert_eq!(rt;
-        line_with(alloc, Number::U32(u32::MIN), Number::U32(u32::MAX))?.as_str(),
-        "t{least=\"0\",greatest=\"4294967295\"} 5\n# EOF\n"
-    );
-    assert_eq!(rt;
-        line_with(alloc, Number::U64(u64::MIN), Number::U64(u64::MAX))?.as_str(),
-        "t{least=\"0\",greatest=\"18446744073709551615\"} 5\n# EOF\n"
-    );
-    assert_eq!(rt;
-        line_with(alloc, Number::Usize(usize::MIN), Number::Usize(usize::MAX))?.as_str(),
-        "t{least=\"0\",greatest=\"18446744073709551615\"} 5\n# EOF\n"
-    );
-    assert_eq!(rt;
-        line_with(alloc, Number::U128(u128::MIN), Number::U128(u128::MAX))?.as_str(),
-        "t{least=\"0\",greatest=\"340282366920938463463374607431768211455\"} 5\n# EOF\n"
-    );
+fn ends_of_all_types(rt: HostRuntime) -> Result<(), Fail> {
+    for (least, greatest, want) in [
+        (
+            Number::I8(i8::MIN),
+            Number::I8(i8::MAX),
+            "t{least=\"-128\",greatest=\"127\"} 5\n# EOF\n",
+        ),
+        (
+            Number::I16(i16::MIN),
+            Number::I16(i16::MAX),
+            "t{least=\"-32768\",greatest=\"32767\"} 5\n# EOF\n",
+        ),
+        (
+            Number::I32(i32::MIN),
+            Number::I32(i32::MAX),
+            "t{least=\"-2147483648\",greatest=\"2147483647\"} 5\n# EOF\n",
+        ),
+        (
+            Number::I64(i64::MIN),
+            Number::I64(i64::MAX),
+            "t{least=\"-9223372036854775808\",greatest=\"9223372036854775807\"} 5\n# EOF\n",
+        ),
+        (
+            Number::Isize(isize::MIN),
+            Number::Isize(isize::MAX),
+            "t{least=\"-9223372036854775808\",greatest=\"9223372036854775807\"} 5\n# EOF\n",
+        ),
+        (
+            Number::I128(i128::MIN),
+            Number::I128(i128::MAX),
+            "t{least=\"-170141183460469231731687303715884105728\",\
+         greatest=\"170141183460469231731687303715884105727\"} 5\n# EOF\n",
+        ),
+        (
+            Number::U8(u8::MIN),
+            Number::U8(u8::MAX),
+            "t{least=\"0\",greatest=\"255\"} 5\n# EOF\n",
+        ),
+        (
+            Number::U16(u16::MIN),
+            Number::U16(u16::MAX),
+            "t{least=\"0\",greatest=\"65535\"} 5\n# EOF\n",
+        ),
+        (
+            Number::U32(u32::MIN),
+            Number::U32(u32::MAX),
+            "t{least=\"0\",greatest=\"4294967295\"} 5\n# EOF\n",
+        ),
+        (
+            Number::U64(u64::MIN),
+            Number::U64(u64::MAX),
+            "t{least=\"0\",greatest=\"18446744073709551615\"} 5\n# EOF\n",
+        ),
+        (
+            Number::Usize(usize::MIN),
+            Number::Usize(usize::MAX),
+            "t{least=\"0\",greatest=\"18446744073709551615\"} 5\n# EOF\n",
+        ),
+        (
+            Number::U128(u128::MIN),
+            Number::U128(u128::MAX),
+            "t{least=\"0\",greatest=\"340282366920938463463374607431768211455\"} 5\n# EOF\n",
+        ),
+    ] {
+        expect_line(rt.alloc(), least, greatest, want)?;
+    }
     Ok(())
 }

@@ -1,4 +1,6 @@
 //! Labels of members: containers, wrappers, values of all types, skipped ones and hostile ones.
+ghost use Rattle.std.specs.Prelude.{IfOk};
+ghost use Rattle.fastmetrics.specs.HasBook.{HasBook};
 
 use fastmetrics::encoder::{EncodeMetric, MetricEncoder};
 use fastmetrics::format::text::{EncodeError, encode};
@@ -9,8 +11,8 @@ use fastmetrics::raw::{Fixed, MetricType};
 use fastmetrics::registry::Registry;
 use fm_test_support::members::OneMember;
 use fm_test_support::parts::{HalfAndTrue, Perhaps, Unvisited, Visited, Word};
-use fm_test_support::support::{document_alone, lines_of};
-use fm_test_support::trees::labels;
+use fm_test_support::support::{expect_document, expect_lines};
+use fm_test_support::trees::{labels, register};
 use std::alloc::Global;
 use std::borrow::CowStr;
 use std::collections::{BTreeMap, LinkedList, VecDeque};
@@ -42,7 +44,7 @@ fn maps_with_timestamps(rt: HostRuntime) -> Result<(), Fail> {
             labels,
             point: ConstGauge::new(5i64),
         };
-        assert_eq!(rt; lines_of(alloc, Box::new(alloc, metric)?)?.as_str(), want);
+        expect_lines(alloc, Box::new(alloc, metric)?, want)?;
     }
     Ok(())
 }
@@ -75,28 +77,23 @@ fn containers(rt: HostRuntime) -> Result<(), Fail> {
     let (list, deque, linked) = in_order(alloc)?;
     let want = "t{b=\"2\",a=\"1\"} 5\n# EOF\n";
     let metric = Box::new(alloc, OneMember::gauge(list, ConstGauge::new(5i64)))?;
-    assert_eq!(rt; lines_of(alloc, metric)?.as_str(), want);
+    expect_lines(alloc, metric, want)?;
     let metric = Box::new(alloc, OneMember::gauge(deque, ConstGauge::new(5i64)))?;
-    assert_eq!(rt; lines_of(alloc, metric)?.as_str(), want);
+    expect_lines(alloc, metric, want)?;
     let metric = Box::new(alloc, OneMember::gauge(linked, ConstGauge::new(5i64)))?;
-    assert_eq!(rt; lines_of(alloc, metric)?.as_str(), want);
+    expect_lines(alloc, metric, want)?;
     let metric = Box::new(alloc, OneMember::gauge((), ConstGauge::new(5i64)))?;
-    assert_eq!(rt; lines_of(alloc, metric)?.as_str(), "t 5\n# EOF\n");
+    expect_lines(alloc, metric, "t 5\n# EOF\n")?;
     let none: [(String, u64); 0] = [];
     let metric = Box::new(alloc, OneMember::gauge(none, ConstGauge::new(5i64)))?;
-    assert_eq!(rt; lines_of(alloc, metric)?.as_str(), "t 5\n# EOF\n");
-    Ok(())
+    expect_lines(alloc, metric, "t 5\n# EOF\n")
 }
 
 #[test]
 fn millionths_and_truth_values(rt: HostRuntime) -> Result<(), Fail> {
     let alloc = rt.alloc();
     let metric = Box::new(alloc, OneMember::gauge(HalfAndTrue, ConstGauge::new(5i64)))?;
-    assert_eq!(rt;
-        lines_of(alloc, metric)?.as_str(),
-        "t{x=\"0.5\",y=\"true\"} 5\n# EOF\n"
-    );
-    Ok(())
+    expect_lines(alloc, metric, "t{x=\"0.5\",y=\"true\"} 5\n# EOF\n")
 }
 
 #[test]
@@ -111,12 +108,11 @@ fn skipped_labels(rt: HostRuntime) -> Result<(), Fail> {
     ] {
         let labels = [(Word("a"), first), (Word("b"), second), (Word("c"), third)];
         let metric = Box::new(alloc, OneMember::gauge(labels, ConstGauge::new(5i64)))?;
-        assert_eq!(rt; lines_of(alloc, metric)?.as_str(), want);
+        expect_lines(alloc, metric, want)?;
     }
     let nested: [(Word, Option<Option<i32>>); 1] = [(Word("k"), Some(None))];
     let metric = Box::new(alloc, OneMember::gauge(nested, ConstGauge::new(5i64)))?;
-    assert_eq!(rt; lines_of(alloc, metric)?.as_str(), "t 5\n# EOF\n");
-    Ok(())
+    expect_lines(alloc, metric, "t 5\n# EOF\n")
 }
 
 #[test]
@@ -140,7 +136,7 @@ fn hostile_values(rt: HostRuntime) -> Result<(), Fail> {
     ] {
         let labels = vec![in alloc; (Word("v"), String::from_str(alloc, value)?)]?;
         let metric = Box::new(alloc, OneMember::gauge(labels, ConstGauge::new(5i64)))?;
-        assert_eq!(rt; lines_of(alloc, metric)?.as_str(), want);
+        expect_lines(alloc, metric, want)?;
     }
     Ok(())
 }
@@ -156,11 +152,11 @@ fn names_of_labels(rt: HostRuntime) -> Result<(), Fail> {
         (Word("t"), 5),
     ];
     let metric = Box::new(alloc, OneMember::gauge(labels, ConstGauge::new(5i64)))?;
-    assert_eq!(rt;
-        lines_of(alloc, metric)?.as_str(),
-        "t{le=\"1\",quantile=\"2\",_=\"3\",__A9=\"4\",t=\"5\"} 5\n# EOF\n"
-    );
-    Ok(())
+    expect_lines(
+        alloc,
+        metric,
+        "t{le=\"1\",quantile=\"2\",_=\"3\",__A9=\"4\",t=\"5\"} 5\n# EOF\n",
+    )
 }
 
 // Three labels, of which these are written.
@@ -191,7 +187,7 @@ fn labels_that_write_nothing(rt: HostRuntime) -> Result<(), Fail> {
         (written(false, false, false), "t 5\n# EOF\n"),
     ] {
         let metric = Box::new(alloc, OneMember::gauge(labels, ConstGauge::new(5i64)))?;
-        assert_eq!(rt; lines_of(alloc, metric)?.as_str(), want);
+        expect_lines(alloc, metric, want)?;
     }
     Ok(())
 }
@@ -200,8 +196,7 @@ fn labels_that_write_nothing(rt: HostRuntime) -> Result<(), Fail> {
 fn empty_sets_are_not_visited(rt: HostRuntime) -> Result<(), Fail> {
     let alloc = rt.alloc();
     let metric = Box::new(alloc, OneMember::gauge(Unvisited, ConstGauge::new(5i64)))?;
-    assert_eq!(rt; lines_of(alloc, metric)?.as_str(), "t 5\n# EOF\n");
-    Ok(())
+    expect_lines(alloc, metric, "t 5\n# EOF\n")
 }
 
 #[test]
@@ -217,10 +212,13 @@ fn sets_are_visited_once_a_point(rt: HostRuntime) -> Result<(), Fail> {
         point: ConstCounter::with_created(7u64, Duration::from_millis(1005)),
     };
     let metric = Box::new(alloc, metric)?;
-    assert_eq!(rt;
-        document_alone(alloc, "t", None, metric)?.as_str(),
-        "# TYPE t counter\n# HELP t H\nt_total 7\nt_created 1.005\n# EOF\n"
-    );
+    expect_document(
+        alloc,
+        "t",
+        None,
+        metric,
+        "# TYPE t counter\n# HELP t H\nt_total 7\nt_created 1.005\n# EOF\n",
+    )?;
     assert_eq!(rt;
         visits.load(Ordering::SeqCst),
         2,
@@ -268,23 +266,35 @@ impl EncodeMetric for LentAndOwned {
 fn lent_and_owned_texts(rt: HostRuntime) -> Result<(), Fail> {
     let alloc = rt.alloc();
     let method = String::from_str(alloc, "GET")?;
-    assert_eq!(rt;
-        lines_of(alloc, Box::new(alloc, LentAndOwned { method })?)?.as_str(),
-        "t{method=\"GET\",code=\"\"} 5\n# EOF\n"
-    );
-    Ok(())
+    expect_lines(
+        alloc,
+        Box::new(alloc, LentAndOwned { method })?,
+        "t{method=\"GET\",code=\"\"} 5\n# EOF\n",
+    )
 }
 
-// Why a metric under the constant label `le` is refused.
-fn refusal_under_le(alloc: Global, metric: Box<dyn EncodeMetric>) -> Result<EncodeError, Fail> {
+// A root with the constant label `le`.
+fn root_with_le(alloc: Global) -> Result<Registry, Fail>
+    ensures { IfOk result HasBook }
+{
     let labels = labels(alloc, &[("le", "1")])?;
-    let mut registry = Registry::builder().with_const_labels(labels)?.build()?;
-    let (name, help) = (String::from_str(alloc, "t")?, String::from_str(alloc, "H")?);
-    registry.register(alloc, name, help, metric)?;
+    let registry = Registry::builder().with_const_labels(labels)?.build()?;
+    Ok(registry)
+}
+
+// Fails where a metric under the constant label `le` is not refused by this error, or where a refusal wrote something.
+fn expect_refusal_under_le(
+    alloc: Global,
+    metric: Box<dyn EncodeMetric>,
+    want: EncodeError,
+) -> Result<(), Fail> {
+    let mut registry = root_with_le(alloc)?;
+    register(alloc, &mut registry, "t", metric)?;
     let mut bytes = Vec::new(alloc);
-    match encode(alloc, &mut bytes, &registry) {
-        Err(error) if bytes.is_empty() => Ok(error),
-        _ => Err(Fail::new("it was not refused, or wrote something")),
+    if encode(alloc, &mut bytes, &registry) == Err(want) && bytes.is_empty() {
+        Ok(())
+    } else {
+        Err(Fail::new("another answer, or it wrote something"))
     }
 }
 
@@ -293,10 +303,7 @@ fn reserved_before_duplicate(rt: HostRuntime) -> Result<(), Fail> {
     let alloc = rt.alloc();
     let labels = [(Word("le"), 2)];
     let metric = Box::new(alloc, OneMember::gauge(labels, ConstGauge::new(5i64)))?;
-    assert_eq!(rt;
-        refusal_under_le(alloc, metric)?,
-        EncodeError::DuplicateLabel
-    );
+    expect_refusal_under_le(alloc, metric, EncodeError::DuplicateLabel)?;
     let snapshot = HistogramSnapshot::new(alloc, [Fixed::ONE].iter().copied())?;
     let metric = OneMember {
         metric_type: MetricType::Histogram,
@@ -304,9 +311,5 @@ fn reserved_before_duplicate(rt: HostRuntime) -> Result<(), Fail> {
         labels: [(Word("le"), 2)],
         point: snapshot,
     };
-    assert_eq!(rt;
-        refusal_under_le(alloc, Box::new(alloc, metric)?)?,
-        EncodeError::ReservedLabel
-    );
-    Ok(())
+    expect_refusal_under_le(alloc, Box::new(alloc, metric)?, EncodeError::ReservedLabel)
 }

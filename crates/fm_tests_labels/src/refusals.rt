@@ -10,7 +10,7 @@ use fm_test_support::members::OneMember;
 use fm_test_support::parts::{
     Faulty, NameAlone, Silent, Twice, TwoNames, TwoValues, UnknownOf, ValueFirst, Word,
 };
-use fm_test_support::support::{document_alone, refusal};
+use fm_test_support::support::{expect_document, expect_refusal};
 use std::test::Fail;
 
 #[test]
@@ -26,12 +26,11 @@ fn names_that_do_not_fit(rt: HostRuntime) -> Result<(), Fail> {
     ] {
         let labels = [(Word(first), 1), (Word(second), 2)];
         let metric = Box::new(alloc, OneMember::gauge(labels, ConstGauge::new(5i64)))?;
-        assert_eq!(rt; refusal(alloc, metric)?, error, "{first}, {second}");
+        expect_refusal(alloc, metric, error)?;
     }
     let twice_first = [(Word("a"), 1), (Word("a"), 2), (Word("1a"), 3)];
     let metric = Box::new(alloc, OneMember::gauge(twice_first, ConstGauge::new(5i64)))?;
-    assert_eq!(rt; refusal(alloc, metric)?, EncodeError::DuplicateLabel);
-    Ok(())
+    expect_refusal(alloc, metric, EncodeError::DuplicateLabel)
 }
 
 #[test]
@@ -42,45 +41,43 @@ fn labels_out_of_order(rt: HostRuntime) -> Result<(), Fail> {
             alloc,
             OneMember::gauge([ValueFirst(name)], ConstGauge::new(5i64)),
         )?;
-        assert_eq!(rt; refusal(alloc, metric)?, EncodeError::MalformedLabel);
+        expect_refusal(alloc, metric, EncodeError::MalformedLabel)?;
     }
     for second in ["a", "b", "1a"] {
         let metric = Box::new(
             alloc,
             OneMember::gauge([TwoNames("a", second)], ConstGauge::new(5i64)),
         )?;
-        assert_eq!(rt; refusal(alloc, metric)?, EncodeError::MalformedLabel);
+        expect_refusal(alloc, metric, EncodeError::MalformedLabel)?;
     }
     let metric = Box::new(
         alloc,
         OneMember::gauge([NameAlone("a")], ConstGauge::new(5i64)),
     )?;
-    assert_eq!(rt; refusal(alloc, metric)?, EncodeError::MalformedLabel);
+    expect_refusal(alloc, metric, EncodeError::MalformedLabel)?;
     let metric = Box::new(
         alloc,
         OneMember::gauge([TwoValues("a")], ConstGauge::new(5i64)),
     )?;
-    assert_eq!(rt; refusal(alloc, metric)?, EncodeError::MalformedLabel);
+    expect_refusal(alloc, metric, EncodeError::MalformedLabel)?;
     let metric = Box::new(
         alloc,
         OneMember::gauge([NameAlone("1a")], ConstGauge::new(5i64)),
     )?;
-    assert_eq!(rt; refusal(alloc, metric)?, EncodeError::InvalidLabelName);
-    Ok(())
+    expect_refusal(alloc, metric, EncodeError::InvalidLabelName)
 }
 
 #[test]
 fn values_of_points(rt: HostRuntime) -> Result<(), Fail> {
     let alloc = rt.alloc();
     let metric = Box::new(alloc, ConstGauge::new(Silent))?;
-    assert_eq!(rt; refusal(alloc, metric)?, EncodeError::MissingValue);
+    expect_refusal(alloc, metric, EncodeError::MissingValue)?;
     let metric = Box::new(alloc, ConstGauge::new(Twice))?;
-    assert_eq!(rt; refusal(alloc, metric)?, EncodeError::ValueTwice);
+    expect_refusal(alloc, metric, EncodeError::ValueTwice)?;
     let metric = Box::new(alloc, ConstCounter::new(Silent))?;
-    assert_eq!(rt; refusal(alloc, metric)?, EncodeError::MissingValue);
+    expect_refusal(alloc, metric, EncodeError::MissingValue)?;
     let metric = Box::new(alloc, ConstCounter::new(Twice))?;
-    assert_eq!(rt; refusal(alloc, metric)?, EncodeError::ValueTwice);
-    Ok(())
+    expect_refusal(alloc, metric, EncodeError::ValueTwice)
 }
 
 #[test]
@@ -92,51 +89,46 @@ fn unknown_metrics(rt: HostRuntime) -> Result<(), Fail> {
         labels: [(Word("a"), 1)],
         point: UnknownOf(-5i32),
     };
-    assert_eq!(rt;
-        document_alone(alloc, "u", None, Box::new(alloc, metric)?)?.as_str(),
-        "# TYPE u unknown\n# HELP u H\nu{a=\"1\"} -5\n# EOF\n"
-    );
+    expect_document(
+        alloc,
+        "u",
+        None,
+        Box::new(alloc, metric)?,
+        "# TYPE u unknown\n# HELP u H\nu{a=\"1\"} -5\n# EOF\n",
+    )?;
     let metric = OneMember {
         metric_type: MetricType::Unknown,
         time: None,
         labels: (),
         point: UnknownOf(Silent),
     };
-    assert_eq!(rt;
-        refusal(alloc, Box::new(alloc, metric)?)?,
-        EncodeError::MissingValue
-    );
+    expect_refusal(alloc, Box::new(alloc, metric)?, EncodeError::MissingValue)?;
     let metric = OneMember {
         metric_type: MetricType::Unknown,
         time: None,
         labels: (),
         point: UnknownOf(Twice),
     };
-    assert_eq!(rt;
-        refusal(alloc, Box::new(alloc, metric)?)?,
-        EncodeError::ValueTwice
-    );
-    Ok(())
+    expect_refusal(alloc, Box::new(alloc, metric)?, EncodeError::ValueTwice)
 }
 
 #[test]
 fn order_of_tests(rt: HostRuntime) -> Result<(), Fail> {
     let alloc = rt.alloc();
     let counter = OneMember::gauge((), ConstCounter::new(5u64));
-    assert_eq!(rt;
-        refusal(alloc, Box::new(alloc, counter)?)?,
-        EncodeError::KindMismatch
-    );
+    expect_refusal(alloc, Box::new(alloc, counter)?, EncodeError::KindMismatch)?;
     let type_first = OneMember::gauge([(Word("1a"), 1)], ConstCounter::new(5u64));
-    assert_eq!(rt;
-        refusal(alloc, Box::new(alloc, type_first)?)?,
-        EncodeError::KindMismatch
-    );
+    expect_refusal(
+        alloc,
+        Box::new(alloc, type_first)?,
+        EncodeError::KindMismatch,
+    )?;
     let labels_first = OneMember::gauge([(Word("1a"), 1)], ConstGauge::new(Silent));
-    assert_eq!(rt;
-        refusal(alloc, Box::new(alloc, labels_first)?)?,
-        EncodeError::InvalidLabelName
-    );
+    expect_refusal(
+        alloc,
+        Box::new(alloc, labels_first)?,
+        EncodeError::InvalidLabelName,
+    )?;
     for metric_type in [
         MetricType::Histogram,
         MetricType::GaugeHistogram,
@@ -148,10 +140,7 @@ fn order_of_tests(rt: HostRuntime) -> Result<(), Fail> {
             labels: [(Word("le"), 1), (Word("quantile"), 2)],
             point: ConstGauge::new(5i64),
         };
-        assert_eq!(rt;
-            refusal(alloc, Box::new(alloc, metric)?)?,
-            EncodeError::KindMismatch
-        );
+        expect_refusal(alloc, Box::new(alloc, metric)?, EncodeError::KindMismatch)?;
     }
     Ok(())
 }
@@ -166,13 +155,13 @@ fn errors_of_parts(rt: HostRuntime) -> Result<(), Fail> {
         (EncodeError::Memory, EncodeError::Memory),
     ] {
         let label = OneMember::gauge([Faulty(own)], ConstGauge::new(5i64));
-        assert_eq!(rt; refusal(alloc, Box::new(alloc, label)?)?, error);
+        expect_refusal(alloc, Box::new(alloc, label)?, error)?;
         let labels = OneMember::gauge(Faulty(own), ConstGauge::new(5i64));
-        assert_eq!(rt; refusal(alloc, Box::new(alloc, labels)?)?, error);
+        expect_refusal(alloc, Box::new(alloc, labels)?, error)?;
         let point = OneMember::gauge((), Faulty(own));
-        assert_eq!(rt; refusal(alloc, Box::new(alloc, point)?)?, error);
+        expect_refusal(alloc, Box::new(alloc, point)?, error)?;
         let value = ConstGauge::new(Faulty(own));
-        assert_eq!(rt; refusal(alloc, Box::new(alloc, value)?)?, error);
+        expect_refusal(alloc, Box::new(alloc, value)?, error)?;
     }
     Ok(())
 }
@@ -205,10 +194,9 @@ fn one_counter<P>(point: P) -> OneMember<(), P> {
 fn numbers_before_exemplars(rt: HostRuntime) -> Result<(), Fail> {
     let alloc = rt.alloc();
     let metric = Box::new(alloc, one_counter(FaultyExemplar(Silent)))?;
-    assert_eq!(rt; refusal(alloc, metric)?, EncodeError::MissingValue);
+    expect_refusal(alloc, metric, EncodeError::MissingValue)?;
     let metric = Box::new(alloc, one_counter(FaultyExemplar(Twice)))?;
-    assert_eq!(rt; refusal(alloc, metric)?, EncodeError::ValueTwice);
+    expect_refusal(alloc, metric, EncodeError::ValueTwice)?;
     let metric = Box::new(alloc, one_counter(FaultyExemplar(5u64)))?;
-    assert_eq!(rt; refusal(alloc, metric)?, EncodeError::MetricFault);
-    Ok(())
+    expect_refusal(alloc, metric, EncodeError::MetricFault)
 }

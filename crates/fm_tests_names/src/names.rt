@@ -5,9 +5,9 @@ ghost use Rattle.fm_registry.specs.HasBook.{HasBook};
 use fastmetrics::metrics::counter::ConstCounter;
 use fastmetrics::raw::Unit;
 use fastmetrics::registry::{Registry, RegistryCall, RegistryError};
-use fm_test_support::support::document_of;
+use fm_test_support::support::expect_document_of;
 use fm_test_support::trees::{
-    build_below, gauge, have_numbers, is_refused, metric_at, register, register_below,
+    build_below, expect_refused, gauge, have_numbers, metric_at, refuses, register, register_below,
     register_with, subsystem_at, texts,
 };
 use std::alloc::{AllocError, Global};
@@ -62,23 +62,17 @@ fn second_answer(
     }
 }
 
-// The refusal of a name that is taken.
-fn taken(alloc: Global, name: &str) -> Result<Result<(), RegistryError>, AllocError> {
-    let name = String::from_str(alloc, name)?;
-    Ok(Err(RegistryError::NameTaken { name }))
-}
-
 #[test]
 fn metrics_and_subsystems(rt: HostRuntime) -> Result<(), Fail> {
     let alloc = rt.alloc();
     let answer = second_answer(alloc, gauge_call(alloc, "a_b")?, child_call(alloc, "a")?)?;
-    assert_eq!(rt; answer, taken(alloc, "a")?);
+    expect_refused(answer, 12, "a")?;
     let answer = second_answer(alloc, child_call(alloc, "a")?, gauge_call(alloc, "a_b")?)?;
-    assert_eq!(rt; answer, taken(alloc, "a_b")?);
+    expect_refused(answer, 12, "a_b")?;
     let answer = second_answer(alloc, gauge_call(alloc, "a")?, child_call(alloc, "a")?)?;
-    assert_eq!(rt; answer, Ok(()));
+    answer?;
     let answer = second_answer(alloc, gauge_call(alloc, "ab")?, child_call(alloc, "a")?)?;
-    assert_eq!(rt; answer, Ok(()));
+    answer?;
     Ok(())
 }
 
@@ -86,11 +80,11 @@ fn metrics_and_subsystems(rt: HostRuntime) -> Result<(), Fail> {
 fn subsystems_beside_one_another(rt: HostRuntime) -> Result<(), Fail> {
     let alloc = rt.alloc();
     let answer = second_answer(alloc, child_call(alloc, "a")?, child_call(alloc, "a_b")?)?;
-    assert_eq!(rt; answer, taken(alloc, "a_b")?);
+    expect_refused(answer, 12, "a_b")?;
     let answer = second_answer(alloc, child_call(alloc, "a_b")?, child_call(alloc, "a")?)?;
-    assert_eq!(rt; answer, taken(alloc, "a")?);
+    expect_refused(answer, 12, "a")?;
     let answer = second_answer(alloc, child_call(alloc, "a")?, child_call(alloc, "a")?)?;
-    assert_eq!(rt; answer, Ok(()));
+    answer?;
     Ok(())
 }
 
@@ -99,15 +93,13 @@ fn metrics_beside_one_another(rt: HostRuntime) -> Result<(), Fail> {
     let alloc = rt.alloc();
     let bytes = gauge_in(alloc, "g", Unit::Bytes)?;
     let answer = second_answer(alloc, bytes, gauge_call(alloc, "g_bytes")?)?;
-    assert_eq!(rt; answer, taken(alloc, "g_bytes")?);
+    expect_refused(answer, 12, "g_bytes")?;
     let seconds = gauge_in(alloc, "g", Unit::Seconds)?;
     let own = Unit::from(String::from_str(alloc, "seconds")?);
     let answer = second_answer(alloc, seconds, gauge_in(alloc, "g", own)?)?;
-    assert_eq!(rt; answer, taken(alloc, "g")?);
+    expect_refused(answer, 12, "g")?;
     let answer = second_answer(alloc, gauge_call(alloc, "g")?, gauge_call(alloc, "g")?)?;
-    let name = String::from_str(alloc, "g")?;
-    assert_eq!(rt; answer, Err(RegistryError::AlreadyExists { name }));
-    Ok(())
+    expect_refused(answer, 4, "g")
 }
 
 // A subsystem, a gauge whose name lies below it, one whose name doesn't, and a subsystem above that.
@@ -128,15 +120,14 @@ fn taken_names_in_a_run(rt: HostRuntime) -> Result<(), Fail> {
     let mut registry = Registry::default();
     let calls = calls_with_taken_names(alloc)?;
     let answers = registry.run(alloc, calls)?;
-    assert_eq!(rt;
-        document_of(alloc, &registry)?.as_str(),
-        "# TYPE up_now gauge\n# HELP up_now H\nup_now 1\n# TYPE db_up gauge\n# HELP db_up H\ndb_up 3\n# EOF\n"
-    );
+    expect_document_of(
+        alloc,
+        &registry,
+        "# TYPE up_now gauge\n# HELP up_now H\nup_now 1\n# TYPE db_up gauge\n# HELP db_up H\ndb_up 3\n# EOF\n",
+    )?;
     assert!(rt; have_numbers(&answers, &[0, 12, 0, 12, 10, 0]));
-    let name = String::from_str(alloc, "db_up")?;
-    assert!(rt; is_refused(&answers, 1, &RegistryError::NameTaken { name }));
-    let name = String::from_str(alloc, "up")?;
-    assert!(rt; is_refused(&answers, 3, &RegistryError::NameTaken { name }));
+    assert!(rt; refuses(&answers, 1, 12, "db_up"));
+    assert!(rt; refuses(&answers, 3, 12, "up"));
     Ok(())
 }
 
@@ -155,12 +146,12 @@ fn a_taken_name_in_a_lent_subsystem(rt: HostRuntime) -> Result<(), Fail> {
     let mut registry = root_with_a_lent_subsystem(alloc)?;
     let counter = Box::new(alloc, ConstCounter::new(2u64))?;
     let answer = register_below(alloc, &mut registry, "db", "up", counter);
-    assert_eq!(rt; answer, taken(alloc, "up")?);
-    assert_eq!(rt;
-        document_of(alloc, &registry)?.as_str(),
-        "# TYPE db_up gauge\n# HELP db_up H\ndb_up 1\n# EOF\n"
-    );
-    Ok(())
+    expect_refused(answer, 12, "up")?;
+    expect_document_of(
+        alloc,
+        &registry,
+        "# TYPE db_up gauge\n# HELP db_up H\ndb_up 1\n# EOF\n",
+    )
 }
 
 // A root with the gauge `a_b` and the subsystem `a_c`.
@@ -178,11 +169,9 @@ fn a_name_that_two_rules_refuse(rt: HostRuntime) -> Result<(), Fail> {
     let alloc = rt.alloc();
     let mut registry = root_with_two_names(alloc)?;
     let answer = build_below(alloc, &mut registry, "a", &[]);
-    assert_eq!(rt; answer, taken(alloc, "a")?);
+    expect_refused(answer, 12, "a")?;
     let answer = build_below(alloc, &mut registry, "a", &[("1x", "v")]);
-    let name = String::from_str(alloc, "1x")?;
-    assert_eq!(rt; answer, Err(RegistryError::InvalidLabelName { name }));
-    Ok(())
+    expect_refused(answer, 8, "1x")
 }
 
 #[test]
@@ -190,14 +179,8 @@ fn the_same_metric_before_a_taken_name(rt: HostRuntime) -> Result<(), Fail> {
     let alloc = rt.alloc();
     let mut registry = root_with_two_names(alloc)?;
     let again = register(alloc, &mut registry, "a_b", gauge(alloc, 2)?);
-    let name = String::from_str(alloc, "a_b")?;
-    assert_eq!(rt; again, Err(RegistryError::AlreadyExists { name }));
+    expect_refused(again, 4, "a_b")?;
     let unit = Some(Unit::from(String::from_str(alloc, "X")?));
     let bad = register_with(alloc, &mut registry, "a_c_d", "H", unit, gauge(alloc, 2)?);
-    let unit = String::from_str(alloc, "X")?;
-    assert_eq!(rt;
-        bad,
-        Err(RegistryError::OtherUnitFormatMustBeLowercase { unit })
-    );
-    Ok(())
+    expect_refused(bad, 3, "X")
 }

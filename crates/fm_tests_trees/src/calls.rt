@@ -4,9 +4,9 @@ ghost use Rattle.fm_registry.specs.HasBook.{HasBook};
 
 use crate::boxed::{gauge_at, root, six_calls};
 use fastmetrics::registry::{Registry, RegistryCall, RegistryError};
-use fm_test_support::support::document_of;
+use fm_test_support::support::expect_document_of;
 use fm_test_support::trees::{
-    build_below, gauge, have_numbers, is_refused, register_below, subsystem_at,
+    build_below, expect_refused, gauge, have_numbers, refuses, register_below, subsystem_at,
 };
 use std::alloc::{AllocError, Global};
 use std::test::Fail;
@@ -17,17 +17,15 @@ fn six_calls_as_a_list(rt: HostRuntime) -> Result<(), Fail> {
     let mut registry = root(alloc, "myapp", &[])?;
     let calls = six_calls(alloc)?;
     let answers = registry.run(alloc, calls)?;
-    assert_eq!(rt;
-        document_of(alloc, &registry)?.as_str(),
-        "# TYPE myapp_db_up gauge\n# HELP myapp_db_up H\nmyapp_db_up 1\n# EOF\n"
-    );
+    expect_document_of(
+        alloc,
+        &registry,
+        "# TYPE myapp_db_up gauge\n# HELP myapp_db_up H\nmyapp_db_up 1\n# EOF\n",
+    )?;
     assert!(rt; have_numbers(&answers, &[10, 0, 0, 8, 0, 4]));
-    let name = String::from_str(alloc, "db")?;
-    assert!(rt; is_refused(&answers, 0, &RegistryError::NoSuchSubsystem { name }));
-    let name = String::from_str(alloc, "1x")?;
-    assert!(rt; is_refused(&answers, 3, &RegistryError::InvalidLabelName { name }));
-    let name = String::from_str(alloc, "up")?;
-    assert!(rt; is_refused(&answers, 5, &RegistryError::AlreadyExists { name }));
+    assert!(rt; refuses(&answers, 0, 10, "db"));
+    assert!(rt; refuses(&answers, 3, 8, "1x"));
+    assert!(rt; refuses(&answers, 5, 4, "up"));
     Ok(())
 }
 
@@ -46,14 +44,13 @@ fn calls_one_by_one(rt: HostRuntime) -> Result<(), Fail> {
     let alloc = rt.alloc();
     let mut registry = built_one_by_one(alloc)?;
     let invalid = build_below(alloc, &mut registry, "db", &[("1x", "v")]);
-    let name = String::from_str(alloc, "1x")?;
-    assert_eq!(rt; invalid, Err(RegistryError::InvalidLabelName { name }));
+    expect_refused(invalid, 8, "1x")?;
     build_below(alloc, &mut registry, "db", &[("k", "v")])?;
-    assert_eq!(rt;
-        document_of(alloc, &registry)?.as_str(),
-        "# TYPE myapp_db_up gauge\n# HELP myapp_db_up H\nmyapp_db_up 1\n# EOF\n"
-    );
-    Ok(())
+    expect_document_of(
+        alloc,
+        &registry,
+        "# TYPE myapp_db_up gauge\n# HELP myapp_db_up H\nmyapp_db_up 1\n# EOF\n",
+    )
 }
 
 #[test]
@@ -61,13 +58,12 @@ fn a_gauge_registered_again(rt: HostRuntime) -> Result<(), Fail> {
     let alloc = rt.alloc();
     let mut registry = built_one_by_one(alloc)?;
     let again = register_below(alloc, &mut registry, "db", "up", gauge(alloc, 2)?);
-    assert_eq!(rt;
-        document_of(alloc, &registry)?.as_str(),
-        "# TYPE myapp_db_up gauge\n# HELP myapp_db_up H\nmyapp_db_up 1\n# EOF\n"
-    );
-    let name = String::from_str(alloc, "up")?;
-    assert_eq!(rt; again, Err(RegistryError::AlreadyExists { name }));
-    Ok(())
+    expect_document_of(
+        alloc,
+        &registry,
+        "# TYPE myapp_db_up gauge\n# HELP myapp_db_up H\nmyapp_db_up 1\n# EOF\n",
+    )?;
+    expect_refused(again, 4, "up")
 }
 
 // Calls at paths that are there, and at others that are not.
@@ -88,15 +84,14 @@ fn first_missing_name(rt: HostRuntime) -> Result<(), Fail> {
     let mut registry = Registry::default();
     let calls = calls_at_depth(alloc)?;
     let answers = registry.run(alloc, calls)?;
-    assert_eq!(rt;
-        document_of(alloc, &registry)?.as_str(),
-        "# TYPE a_b_up gauge\n# HELP a_b_up H\na_b_up 1\n# EOF\n"
-    );
+    expect_document_of(
+        alloc,
+        &registry,
+        "# TYPE a_b_up gauge\n# HELP a_b_up H\na_b_up 1\n# EOF\n",
+    )?;
     assert!(rt; have_numbers(&answers, &[0, 0, 10, 10, 10, 0]));
-    for (place, missing) in [(2, "c"), (3, "d"), (4, "b")] {
-        let name = String::from_str(alloc, missing)?;
-        let refusal = RegistryError::NoSuchSubsystem { name };
-        assert!(rt; is_refused(&answers, place, &refusal), "{missing}");
+    for (index, missing) in [(2, "c"), (3, "d"), (4, "b")] {
+        assert!(rt; refuses(&answers, index, 10, missing), "{missing}");
     }
     Ok(())
 }

@@ -2,9 +2,10 @@
 
 use crate::boxed::{gauge_at, root};
 use fastmetrics::registry::{Registry, RegistryCall, RegistryError};
-use fm_test_support::support::document_of;
+use fm_test_support::support::{document_of, expect_document_of};
 use fm_test_support::trees::{
-    are_labels, build_below, gauge, have_numbers, is_refused, labels, register_below, subsystem_at,
+    are_labels, build_below, expect_refused, gauge, have_numbers, labels, refuses, register_below,
+    subsystem_at,
 };
 use std::alloc::{AllocError, Global};
 use std::test::Fail;
@@ -24,13 +25,13 @@ fn labels_of_a_subsystem(rt: HostRuntime) -> Result<(), Fail> {
     let alloc = rt.alloc();
     let mut registry = root(alloc, "myapp", &[("env", "dev"), ("region", "us-west")])?;
     registry.run(alloc, calls_for_a_cache(alloc)?)?;
-    assert_eq!(rt;
-        document_of(alloc, &registry)?.as_str(),
+    expect_document_of(
+        alloc,
+        &registry,
         "# TYPE myapp_up gauge\n# HELP myapp_up H\nmyapp_up{env=\"dev\",region=\"us-west\"} 2\n\
          # TYPE myapp_cache_size gauge\n# HELP myapp_cache_size H\n\
-         myapp_cache_size{env=\"prod\",region=\"us-west\",type=\"redis\"} 1\n# EOF\n"
-    );
-    Ok(())
+         myapp_cache_size{env=\"prod\",region=\"us-west\",type=\"redis\"} 1\n# EOF\n",
+    )
 }
 
 #[test]
@@ -122,12 +123,7 @@ fn names_of_subsystems(rt: HostRuntime) -> Result<(), Fail> {
     for text in ["", "_", "My", "1a", "a__b", "a_", "a-b", "é"] {
         let mut registry = Registry::default();
         let answer = build_below(alloc, &mut registry, text, &[("1x", "v")]);
-        let name = String::from_str(alloc, text)?;
-        assert_eq!(rt;
-            answer,
-            Err(RegistryError::InvalidSubsystemName { name }),
-            "{text}"
-        );
+        expect_refused(answer, 7, text)?;
     }
     Ok(())
 }
@@ -152,12 +148,13 @@ fn order_of_a_document(rt: HostRuntime) -> Result<(), Fail> {
     let alloc = rt.alloc();
     let mut registry = Registry::default();
     let answers = registry.run(alloc, calls_in_turn(alloc)?)?;
-    assert_eq!(rt;
-        document_of(alloc, &registry)?.as_str(),
+    expect_document_of(
+        alloc,
+        &registry,
         "# TYPE c gauge\n# HELP c H\nc 2\n# TYPE a gauge\n# HELP a H\na 4\n\
          # TYPE x_g gauge\n# HELP x_g H\nx_g 1\n# TYPE x_a gauge\n# HELP x_a H\nx_a 6\n\
-         # TYPE x_z_g gauge\n# HELP x_z_g H\nx_z_g 5\n# TYPE b_g gauge\n# HELP b_g H\nb_g 3\n# EOF\n"
-    );
+         # TYPE x_z_g gauge\n# HELP x_z_g H\nx_z_g 5\n# TYPE b_g gauge\n# HELP b_g H\nb_g 3\n# EOF\n",
+    )?;
     assert!(rt; have_numbers(&answers, &[0, 0, 0, 0, 0, 0, 0, 0, 0]));
     Ok(())
 }
@@ -168,11 +165,11 @@ fn lent_and_lent_again(rt: HostRuntime) -> Result<(), Fail> {
     let mut registry = Registry::default();
     register_below(alloc, &mut registry, "x", "g", gauge(alloc, 1)?)?;
     register_below(alloc, &mut registry, "x", "a", gauge(alloc, 2)?)?;
-    assert_eq!(rt;
-        document_of(alloc, &registry)?.as_str(),
-        "# TYPE x_g gauge\n# HELP x_g H\nx_g 1\n# TYPE x_a gauge\n# HELP x_a H\nx_a 2\n# EOF\n"
-    );
-    Ok(())
+    expect_document_of(
+        alloc,
+        &registry,
+        "# TYPE x_g gauge\n# HELP x_g H\nx_g 1\n# TYPE x_a gauge\n# HELP x_a H\nx_a 2\n# EOF\n",
+    )
 }
 
 // The path that goes down so often.
@@ -217,8 +214,7 @@ fn deepest_registries(rt: HostRuntime) -> Result<(), Fail> {
     let answers = registry.run(alloc, calls)?;
     let accepted = answers.iter().filter(|answer| answer.is_ok()).count();
     assert_eq!(rt; (accepted, answers.len()), (65, 66));
-    let name = String::from_str(alloc, "a")?;
-    assert!(rt; is_refused(&answers, 64, &RegistryError::TooDeep { name }));
+    assert!(rt; refuses(&answers, 64, 11, "a"));
     let document = document_of(alloc, &registry)?;
     assert!(rt; document.as_str().starts_with("# TYPE root_a_a_a_a"));
     assert!(rt; document.as_str().ends_with("_a_a_a_g{k=\"v\"} 5\n# EOF\n"));
@@ -244,11 +240,8 @@ fn names_before_depth_before_labels(rt: HostRuntime) -> Result<(), Fail> {
     let alloc = rt.alloc();
     let mut registry = Registry::default();
     let answers = registry.run(alloc, invalid_calls_at_depth(alloc)?)?;
-    let name = String::from_str(alloc, "1a")?;
-    let invalid = RegistryError::InvalidSubsystemName { name };
-    assert!(rt; is_refused(&answers, 64, &invalid));
-    let name = String::from_str(alloc, "b")?;
-    assert!(rt; is_refused(&answers, 65, &RegistryError::TooDeep { name }));
+    assert!(rt; refuses(&answers, 64, 7, "1a"));
+    assert!(rt; refuses(&answers, 65, 11, "b"));
     Ok(())
 }
 
@@ -263,7 +256,5 @@ fn first_of_two_invalid_labels(rt: HostRuntime) -> Result<(), Fail> {
     assert_eq!(rt; answer, Some(RegistryError::InvalidLabelName { name }));
     let mut registry = Registry::default();
     let answer = build_below(alloc, &mut registry, "x", &pairs);
-    let name = String::from_str(alloc, "1x")?;
-    assert_eq!(rt; answer, Err(RegistryError::InvalidLabelName { name }));
-    Ok(())
+    expect_refused(answer, 8, "1x")
 }
