@@ -2,7 +2,7 @@
 use Rattle.std.proofs.Common.{◌≡◌, ℕ, zero, suc, List, [], ◌∷◌, ◌++◌, length, refl, ◌∙◌}
 use Rattle.std.specs.Prelude.{flat_map}
 use Rattle.fm_book.specs.Texts.{Text, Path}
-use Rattle.fm_book.specs.Book.{Book, metrics_at, children_at, labels_at, namespace_at, book_below}
+use Rattle.fm_book.specs.Book.{Book, metrics_at, children_at, namespace_at, book_below}
 use Rattle.fm_book.specs.Listing.{Listed, listed_with, listed_at, order_from, order}
 use Rattle.fm_book.proofs.BookLemmas.{metrics_at-calls_below, children_at-calls_below, labels_at-book_below}
 

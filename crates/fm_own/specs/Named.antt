@@ -1,5 +1,5 @@
 -- Labels by name and value, and metrics by texts.
-use Rattle.std.specs.Prelude.{◌≡◌, ◌⊎◌, List, [], ◌∷◌, Option, Result, Err}
+use Rattle.std.specs.Prelude.{◌≡◌, ◌⊎◌, [], ◌∷◌, Option, Result, Err}
 use Rattle.std.specs.Option.{option_map}
 use Rattle.fm_grammar.specs.declared.MetricType.{MetricType}
 use Rattle.fm_grammar.specs.Exposition.{Text}

@@ -3,8 +3,7 @@ use Rattle.std.proofs.Common.{◌≡◌, ◌≢◌, ℕ, zero, suc, ◌+◌, ◌
 use Rattle.std.specs.List.{AllByRecursion, list_any}
 use Rattle.std.specs.BTreeSet.{BTreeSet, contains_by, Updates}
 use Rattle.std.specs.BTreeMap.{is_at}
-use Rattle.std.proofs.lemmas.List.{take_more, take-map, length-map}
-use Rattle.std.proofs.lemmas.List.Sums.{sum_by_more_le}
+use Rattle.std.proofs.lemmas.List.{take_more}
 use Rattle.std.specs.Ordering.{nat_cmp}
 use Rattle.std.specs.Cmp.Lexicographic.{slice_cmp}
 use Rattle.std.specs.Str.{bytes_eq}
@@ -14,10 +13,9 @@ use Rattle.std.proofs.lemmas.Map.Text.{is_eq-slice_cmp}
 use Rattle.std.specs.String.{string_bytes}
 use Rattle.std.specs.declared.string.String.{String}
 use Rattle.std.specs.declared.alloc.Global.{Global}
-use Rattle.fm_grammar.specs.Exposition.{Text, Label}
-use Rattle.fm_text.specs.Samples.{label_of, labels_of}
+use Rattle.fm_grammar.specs.Exposition.{Text}
+use Rattle.fm_text.specs.Samples.{labels_of}
 use Rattle.fm_grammar.specs.Names.{AllDifferent}
-use Rattle.fm_grammar.specs.WellFormed.{code_points, label_code_points}
 use Rattle.fm_grammar.proofs.Runs.{all_append, all_middle}
 
 -- the name is in the set

@@ -1,5 +1,5 @@
 -- Two exemplars that one object hands over.
-use Rattle.std.proofs.Common.{◌≡◌, ◌≤◌, ◌<◌, ℕ, zero, suc, List, [], ◌∷◌, ◌++◌, map, length, Contains, None, Some, Result, Ok, Err, ◌⊎◌, inl, inr, refl, sym, ap, subst, ◌∙◌, append_assoc, length-append, arith}
+use Rattle.std.proofs.Common.{◌≡◌, ◌≤◌, ◌<◌, zero, suc, List, [], ◌∷◌, ◌++◌, map, length, Contains, None, Result, Ok, ◌⊎◌, inl, inr, ap, subst, ◌∙◌, append_assoc, length-append, arith}
 use Rattle.fm_grammar.specs.Exposition.{Exemplar}
 use Rattle.fm_text.specs.declared.error.EncodeError.{EncodeError}
 use Rattle.fm_text.specs.declared.error.EncodeError.TheVariants.{ExemplarTwice}
