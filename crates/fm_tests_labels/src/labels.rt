@@ -1,6 +1,4 @@
 //! Labels of members: containers, wrappers, values of all types, skipped ones and hostile ones.
-ghost use Rattle.std.specs.Prelude.{IfOk};
-ghost use Rattle.fastmetrics.specs.HasBook.{HasBook};
 
 use fastmetrics::encoder::{EncodeMetric, MetricEncoder};
 use fastmetrics::format::text::{EncodeError, encode};
@@ -12,7 +10,7 @@ use fastmetrics::registry::Registry;
 use fm_test_support::members::OneMember;
 use fm_test_support::parts::{HalfAndTrue, Perhaps, Unvisited, Visited, Word};
 use fm_test_support::support::{expect_document, expect_lines};
-use fm_test_support::trees::{labels, register};
+use fm_test_support::trees::labels;
 use std::alloc::Global;
 use std::borrow::CowStr;
 use std::collections::{BTreeMap, LinkedList, VecDeque};
@@ -273,28 +271,16 @@ fn lent_and_owned_texts(rt: HostRuntime) -> Result<(), Fail> {
     )
 }
 
-// A root with the constant label `le`.
-fn root_with_le(alloc: Global) -> Result<Registry, Fail>
-    ensures { IfOk result HasBook }
-{
+// Why a metric under the constant label `le` is refused.
+fn refusal_under_le(alloc: Global, metric: Box<dyn EncodeMetric>) -> Result<EncodeError, Fail> {
     let labels = labels(alloc, &[("le", "1")])?;
-    let registry = Registry::builder().with_const_labels(labels)?.build()?;
-    Ok(registry)
-}
-
-// Fails where a metric under the constant label `le` is not refused by this error, or where a refusal wrote something.
-fn expect_refusal_under_le(
-    alloc: Global,
-    metric: Box<dyn EncodeMetric>,
-    want: EncodeError,
-) -> Result<(), Fail> {
-    let mut registry = root_with_le(alloc)?;
-    register(alloc, &mut registry, "t", metric)?;
+    let mut registry = Registry::builder().with_const_labels(labels)?.build()?;
+    let (name, help) = (String::from_str(alloc, "t")?, String::from_str(alloc, "H")?);
+    registry.register(alloc, name, help, metric)?;
     let mut bytes = Vec::new(alloc);
-    if encode(alloc, &mut bytes, &registry) == Err(want) && bytes.is_empty() {
-        Ok(())
-    } else {
-        Err(Fail::new("another answer, or it wrote something"))
+    match encode(alloc, &mut bytes, &registry) {
+        Err(error) if bytes.is_empty() => Ok(error),
+        _ => Err(Fail::new("it was not refused, or wrote something")),
     }
 }
 
@@ -303,7 +289,10 @@ fn reserved_before_duplicate(rt: HostRuntime) -> Result<(), Fail> {
     let alloc = rt.alloc();
     let labels = [(Word("le"), 2)];
     let metric = Box::new(alloc, OneMember::gauge(labels, ConstGauge::new(5i64)))?;
-    expect_refusal_under_le(alloc, metric, EncodeError::DuplicateLabel)?;
+    assert_eq!(rt;
+        refusal_under_le(alloc, metric)?,
+        EncodeError::DuplicateLabel
+    );
     let snapshot = HistogramSnapshot::new(alloc, [Fixed::ONE].iter().copied())?;
     let metric = OneMember {
         metric_type: MetricType::Histogram,
@@ -311,5 +300,9 @@ fn reserved_before_duplicate(rt: HostRuntime) -> Result<(), Fail> {
         labels: [(Word("le"), 2)],
         point: snapshot,
     };
-    expect_refusal_under_le(alloc, Box::new(alloc, metric)?, EncodeError::ReservedLabel)
+    assert_eq!(rt;
+        refusal_under_le(alloc, Box::new(alloc, metric)?)?,
+        EncodeError::ReservedLabel
+    );
+    Ok(())
 }
