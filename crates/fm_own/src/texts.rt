@@ -6,7 +6,8 @@ ghost use Rattle.fm_raw.specs.declared.error.MetricError.TheVariants.{Memory};
 use fm_atomic::TryDefault;
 use fm_family::{DefaultFactory, Family};
 use fm_raw::MetricError;
-use std::alloc::{AllocError, Global};
+use fm_sink::owned_labels;
+use std::alloc::Global;
 use std::hash::{BuildHasherDefault, FoldHasher};
 use std::sync::Wait;
 
@@ -29,20 +30,6 @@ pub type TextFamily<M, H> = Family<
     BuildHasherDefault<FoldHasher>,
     H,
 >;
-
-// The same labels in memory of their own.
-fn owned_labels(
-    alloc: Global,
-    labels: &[(&str, &str)],
-) -> Result<Vec<(String, String)>, AllocError> {
-    let mut owned = Vec::with_capacity(alloc, labels.len())?;
-    for label in labels {
-        let name = String::from_str(alloc, label.0)?;
-        let value = String::from_str(alloc, label.1)?;
-        owned.push((name, value))?;
-    }
-    Ok(owned)
-}
 
 /// Lends the metric of these labels to `f`, and returns what `f` does. Where there is none, it is made by `try_default` and comes
 /// after the others.
