@@ -36,20 +36,21 @@ pub mod format {
 
 pub mod metrics {
     //! The types of metrics: those whose value is fixed, and those that threads count with.
-    pub use fm_handles::{info, state_set, unknown};
+    pub use fm_constant_metrics::{info, unknown};
+    pub use fm_state_set::state_set;
 
     pub mod counter {
         //! Counters: numbers that never fall.
         pub use fm_atomic::CounterValue;
-        pub use fm_handles::counter::Counter;
-        pub use fm_metrics::counter::ConstCounter;
+        pub use fm_constant_metrics::counter::ConstCounter;
+        pub use fm_shared_metrics::counter::Counter;
     }
 
     pub mod gauge {
         //! Gauges: numbers that rise and fall.
         pub use fm_atomic::GaugeValue;
-        pub use fm_handles::gauge::Gauge;
-        pub use fm_metrics::gauge::ConstGauge;
+        pub use fm_constant_metrics::gauge::ConstGauge;
+        pub use fm_shared_metrics::gauge::Gauge;
     }
 
     pub mod family {

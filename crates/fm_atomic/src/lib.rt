@@ -1,10 +1,8 @@
-//! Atomic numbers, which threads share without a lock, and default values that take memory.
+//! Atomic numbers, which threads share without a lock.
 #![tactic(auto)]
 
 pub mod atomic;
-pub mod try_default;
 pub mod value;
 
 pub use atomic::Atomic;
-pub use try_default::TryDefault;
 pub use value::{CounterValue, GaugeValue, UnknownValue};

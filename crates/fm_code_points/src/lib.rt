@@ -3,7 +3,7 @@
 
 ghost use Rattle.std.specs.Prelude.{◌≡◌, ◌≤◌, ◌↔◌, IsTrue};
 ghost use Rattle.fm_grammar.specs.WellFormed.{begins_character as byte_begins_character, code_points as text_code_points, label_code_points};
-ghost use Rattle.fm_text.specs.Samples.{labels_of};
+ghost use Rattle.fm_exposition.specs.Samples.{labels_of};
 
 // The greatest number of code points in the labels of an exemplar.
 const MAX_CODE_POINTS: usize = 128;

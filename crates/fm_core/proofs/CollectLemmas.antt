@@ -5,13 +5,13 @@ use Rattle.std.proofs.lemmas.List.{take_more, map-append}
 use Rattle.fm_grammar.specs.Names.{AllDifferent}
 use Rattle.fm_grammar.specs.Exposition.{Text, Family, Exposition}
 use Rattle.fm_grammar.specs.Reading.{IsNewName}
-use Rattle.fm_text.specs.declared.error.EncodeError.{EncodeError}
-use Rattle.fm_text.specs.declared.error.EncodeError.TheVariants.{Memory}
-use Rattle.fm_text.specs.Written.{IsWritersFault}
-use Rattle.fm_book.specs.Book.{Book}
-use Rattle.fm_book.specs.Tree.{Tree, Reads}
-use Rattle.fm_book.specs.Listing.{Listed, listed_name, IsListable, order}
-use Rattle.fm_book.proofs.NameLemmas.{printed_names-different}
+use Rattle.fm_encode_error.specs.declared.EncodeError.{EncodeError}
+use Rattle.fm_encode_error.specs.declared.EncodeError.TheVariants.{Memory}
+use Rattle.fm_exposition.specs.Written.{IsWritersFault}
+use Rattle.fm_registry_calls.specs.Book.{Book}
+use Rattle.fm_registry_calls.specs.Tree.{Tree, Reads}
+use Rattle.fm_registry_calls.specs.Listing.{Listed, listed_name, IsListable, order}
+use Rattle.fm_registry_calls.proofs.NameLemmas.{printed_names-different}
 use Rattle.fm_encoder.specs.Points.{Member}
 use Rattle.fm_encoder.specs.Gathered.{answer}
 use Rattle.fm_encoder.proofs.FaultLemmas.{MetricHasFault-not_writing}

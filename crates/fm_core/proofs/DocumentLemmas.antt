@@ -5,11 +5,11 @@ use Rattle.fm_grammar.specs.Exposition.{Text, Sample, Family}
 use Rattle.fm_grammar.specs.Names.{AllDifferent}
 use Rattle.fm_grammar.specs.Reading.{IsNewName}
 use Rattle.fm_grammar.proofs.States.{exposition_push}
-use Rattle.fm_book.specs.Listing.{listed_name}
-use Rattle.fm_text.specs.Rows.{sample_rows, family_rows, families_rows}
-use Rattle.fm_text.specs.declared.error.EncodeError.{EncodeError}
-use Rattle.fm_text.specs.declared.error.EncodeError.TheVariants.{Memory}
-use Rattle.fm_sink.specs.Output.{Output, OutputText, appended, with_lines}
+use Rattle.fm_registry_calls.specs.Listing.{listed_name}
+use Rattle.fm_exposition.specs.Rows.{sample_rows, family_rows, families_rows}
+use Rattle.fm_encode_error.specs.declared.EncodeError.{EncodeError}
+use Rattle.fm_encode_error.specs.declared.EncodeError.TheVariants.{Memory}
+use Rattle.fm_writer.specs.Output.{Output, OutputText, appended, with_lines}
 use Rattle.fm_encoder.specs.Points.{Member}
 use Rattle.fm_encoder.specs.Offers.{context_at}
 use Rattle.fm_encoder.specs.Gathered.{GatheredMembers, own_refusal}

@@ -2,9 +2,9 @@
 use Rattle.std.proofs.Common.{◌≡◌, ℕ, List, Option, Some, None, Result, Ok, Err, MatchResult, ◌⊎◌, inl, inr, refl, sym, ap, subst, ◌∙◌}
 use Rattle.fm_grammar.specs.declared.MetricType.{MetricType}
 use Rattle.fm_grammar.specs.Exposition.{Text, Label}
-use Rattle.fm_text.specs.declared.error.EncodeError.{EncodeError}
-use Rattle.fm_text.specs.declared.error.EncodeError.TheVariants.{Memory}
-use Rattle.fm_sink.specs.Output.{Output}
+use Rattle.fm_encode_error.specs.declared.EncodeError.{EncodeError}
+use Rattle.fm_encode_error.specs.declared.EncodeError.TheVariants.{Memory}
+use Rattle.fm_writer.specs.Output.{Output}
 use Rattle.fm_encoder.specs.Points.{Member, Context, members_samples}
 use Rattle.fm_encoder.specs.Offers.{MetricHasFault, context_at}
 use Rattle.fm_encoder.specs.Gathered.{GatheredMembers, OwnRefusal, own_refusal}

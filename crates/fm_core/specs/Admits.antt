@@ -2,8 +2,8 @@
 -- timestamps it may answer, whether it may be empty and whether it may answer errors of its own is what it declares.
 use Rattle.std.specs.Prelude.{◌≡◌, ℕ, List, [], ◌∷◌, ◌++◌, Option, ◌⊎◌}
 use Rattle.fm_grammar.specs.Exposition.{Family, Exposition}
-use Rattle.fm_text.specs.declared.error.EncodeError.{EncodeError}
-use Rattle.fm_book.specs.Listing.{Listed}
+use Rattle.fm_encode_error.specs.declared.EncodeError.{EncodeError}
+use Rattle.fm_registry_calls.specs.Listing.{Listed}
 use Rattle.fm_encoder.specs.Points.{Member}
 use Rattle.fm_encoder.specs.Offers.{AdmitsSamples, MetricHasFault}
 use Rattle.fm_core.specs.Heading.{Heading, heading_of}

@@ -3,9 +3,9 @@ use Rattle.std.specs.Prelude.{◌≡◌, ℕ, List, [], ◌++◌, Option, None, 
 use Rattle.fm_grammar.specs.Exposition.{Text, Family, Exposition}
 use Rattle.fm_grammar.specs.WellFormed.{IsFamily}
 use Rattle.fm_grammar.specs.Reading.{IsExposition}
-use Rattle.fm_text.specs.Rows.{head_rows, family_rows, families_rows}
-use Rattle.fm_book.specs.Listing.{Listed}
-use Rattle.fm_sink.specs.Output.{Output, OutputSamples, OutputText}
+use Rattle.fm_exposition.specs.Rows.{head_rows, family_rows, families_rows}
+use Rattle.fm_registry_calls.specs.Listing.{Listed}
+use Rattle.fm_writer.specs.Output.{Output, OutputSamples, OutputText}
 use Rattle.fm_encoder.specs.Points.{Member}
 use Rattle.fm_encoder.specs.Gathered.{GatheredMembers}
 use Rattle.fm_core.specs.Heading.{Heading, heading_of}

@@ -2,7 +2,7 @@
 use Rattle.std.specs.Prelude.{Option}
 use Rattle.fm_grammar.specs.Exposition.{Text, Exposition}
 use Rattle.fm_grammar.specs.Reading.{IsExposition}
-use Rattle.fm_text.specs.Written.{AppendsDocument, BeginsDocument}
+use Rattle.fm_exposition.specs.Written.{AppendsDocument, BeginsDocument}
 
 -- the document of an exposition that is admitted, well formed under names that differ, and of no other exposition, was appended
 pub record WritesAdmitted (IsAdmitted : Exposition → Type 0) (old new : Option Text) : Type 0 where

@@ -2,9 +2,9 @@
 use Rattle.std.specs.Prelude.{◌≡◌, ℕ, List, Option, Some, None, ◌⊎◌}
 use Rattle.fm_grammar.specs.Exposition.{Exposition}
 use Rattle.fm_raw.specs.declared.metadata.Metadata.{Metadata}
-use Rattle.fm_text.specs.declared.error.EncodeError.{EncodeError}
-use Rattle.fm_text.specs.declared.error.EncodeError.TheVariants.{Memory}
-use Rattle.fm_book.specs.Texts.{Text, Labels}
+use Rattle.fm_encode_error.specs.declared.EncodeError.{EncodeError}
+use Rattle.fm_encode_error.specs.declared.EncodeError.TheVariants.{Memory}
+use Rattle.fm_registry_calls.specs.Texts.{Text, Labels}
 use Rattle.fm_encoder.specs.Points.{Member}
 use Rattle.fm_registry.specs.View.{seen_metric}
 use Rattle.fm_core.specs.Heading.{Heading, heading_of}

@@ -3,9 +3,9 @@ use Rattle.std.specs.Prelude.{Option}
 use Rattle.fm_grammar.specs.Names.{IsSnakeCase}
 use Rattle.fm_grammar.specs.WellFormed.{UnitFits, UnitAllowed, AreLabels}
 use Rattle.fm_grammar.specs.declared.MetricType.{MetricType}
-use Rattle.fm_book.specs.Texts.{Text, Labels}
-use Rattle.fm_book.specs.Registration.{printed_unit}
-use Rattle.fm_book.specs.Listing.{Listed, listed_name}
+use Rattle.fm_registry_calls.specs.Texts.{Text, Labels}
+use Rattle.fm_registry_calls.specs.Registration.{printed_unit}
+use Rattle.fm_registry_calls.specs.Listing.{Listed, listed_name}
 
 -- the printed name, the type, the help and the unit of a family, and its constant labels
 pub record Heading : Type 0 where

@@ -3,9 +3,9 @@ pub use Rattle.fm_grammar.specs.Document
 pub use Rattle.fm_grammar.specs.WellFormed
 pub use Rattle.fm_grammar.specs.Law
 pub use Rattle.fm_grammar.specs.Reading
-pub use Rattle.fm_text.specs.Written
-pub use Rattle.fm_book.specs.Listing
-pub use Rattle.fm_book.specs.Tree
+pub use Rattle.fm_exposition.specs.Written
+pub use Rattle.fm_registry_calls.specs.Listing
+pub use Rattle.fm_registry_calls.specs.Tree
 pub use Rattle.fm_encoder.specs.Points
 pub use Rattle.fm_encoder.specs.Offers
 pub mod Admits

@@ -4,7 +4,7 @@ use Rattle.std.specs.List.{AllByRecursion}
 use Rattle.fm_grammar.specs.declared.MetricType.{MetricType}
 use Rattle.fm_grammar.specs.Exposition.{Text, Label, Sample}
 use Rattle.fm_grammar.specs.WellFormed.{IsSample}
-use Rattle.fm_sink.specs.Output.{Output, appended}
+use Rattle.fm_writer.specs.Output.{Output, appended}
 use Rattle.fm_encoder.specs.Points.{Member}
 use Rattle.fm_encoder.specs.Offers.{AdmitsSamples}
 

@@ -5,15 +5,15 @@ ghost use Rattle.std.specs.Io.KnownBytes.{Keeps};
 ghost use Rattle.fm_grammar.specs.Exposition.{Exposition};
 ghost use Rattle.fm_grammar.specs.Reading.{IsExposition};
 ghost use Rattle.fm_grammar.specs.WellFormed.{AreMillis};
-ghost use Rattle.fm_text.specs.declared.error.EncodeError.{EncodeError};
-ghost use Rattle.fm_text.specs.Rows.{document_rows};
-ghost use Rattle.fm_text.specs.Samples.{labels_of};
-ghost use Rattle.fm_text.specs.Written.{AppendsDocument, BeginsDocument, IsWritersFault};
-ghost use Rattle.fm_book.specs.Listing.{order, IsListable};
-ghost use Rattle.fm_book.specs.Tree.{Shows};
+ghost use Rattle.fm_encode_error.specs.declared.EncodeError.{EncodeError};
+ghost use Rattle.fm_exposition.specs.Rows.{document_rows};
+ghost use Rattle.fm_exposition.specs.Samples.{labels_of};
+ghost use Rattle.fm_exposition.specs.Written.{AppendsDocument, BeginsDocument, IsWritersFault};
+ghost use Rattle.fm_registry_calls.specs.Listing.{order, IsListable};
+ghost use Rattle.fm_registry_calls.specs.Tree.{Shows};
 ghost use Rattle.fm_registry.specs.Seen.{seen_list, seen_listed};
 ghost use Rattle.fm_registry.specs.HasBook.{HasBook};
-ghost use Rattle.fm_sink.specs.Output.{with_lines};
+ghost use Rattle.fm_writer.specs.Output.{with_lines};
 ghost use Rattle.fm_encoder.specs.Offers.{context_at};
 ghost use Rattle.fm_core.specs.Heading.{IsHeading};
 ghost use Rattle.fm_core.specs.Families.{heading_in};
@@ -22,11 +22,12 @@ ghost use Rattle.fm_core.specs.Documents.{heading_rows, text_in, HasLines, AddsR
 
 use crate::family::{join_name, text_of, whole_millis};
 use crate::format::text::constants_of;
+use fm_encode_error::EncodeError;
 use fm_encoder::{EncodeMetric, MetricEncoder};
+use fm_exposition::write_text;
 use fm_raw::Metadata;
 use fm_registry::{ListedMetric, Registry};
-use fm_sink::Lines;
-use fm_text::{EncodeError, write_text};
+use fm_writer::Lines;
 use std::alloc::{AllocError, Global};
 use std::io::Write;
 

@@ -6,10 +6,10 @@ ghost use Rattle.fm_grammar.specs.Names.{IsSnakeCase};
 ghost use Rattle.fm_grammar.specs.Reading.{IsNewName};
 ghost use Rattle.fm_grammar.specs.WellFormed.{AreMillis, IsSample, IsFamily};
 ghost use Rattle.fm_raw.specs.Units.{unit_text};
-ghost use Rattle.fm_text.specs.declared.error.EncodeError.{EncodeError};
-ghost use Rattle.fm_text.specs.Samples.{labels_of};
-ghost use Rattle.fm_sink.specs.Output.{AreShared};
-ghost use Rattle.fm_book.specs.Texts.{printed_name};
+ghost use Rattle.fm_encode_error.specs.declared.EncodeError.{EncodeError};
+ghost use Rattle.fm_exposition.specs.Samples.{labels_of};
+ghost use Rattle.fm_writer.specs.Output.{AreShared};
+ghost use Rattle.fm_registry_calls.specs.Texts.{printed_name};
 ghost use Rattle.fm_encoder.specs.Points.{millis};
 ghost use Rattle.fm_encoder.specs.Gathered.{answer};
 ghost use Rattle.fm_encoder.specs.Offers.{AdmitsSamples, MetricHasFault};
@@ -18,10 +18,11 @@ ghost use Rattle.fm_core.specs.Admits.{IsFamilyUnder, FaultUnder};
 ghost use Rattle.fm_core.specs.Families.{next_heading, EncodesFamily};
 ghost use Rattle.fm_core.specs.Offered.{Offered};
 
+use fm_encode_error::EncodeError;
 use fm_encoder::{EncodeMetric, MetricEncoder};
+use fm_exposition::{Exposition, FamilySamples, SampleStore, make};
 use fm_raw::{Metadata, MetricType, Unit};
-use fm_sink::Sink;
-use fm_text::{EncodeError, Exposition, FamilySamples, SampleStore, make};
+use fm_writer::Sink;
 use std::alloc::{AllocError, Global};
 use std::marker::Model;
 use std::time::Duration;
@@ -172,7 +173,7 @@ pub struct MetricFamilyEncoder<'a> {
 impl<'a> Model for MetricFamilyEncoder<'a> {
     ghost use Rattle.std.specs.Option.{option_copied};
     ghost use Rattle.fm_grammar.specs.Reading.{IsExposition};
-    ghost use Rattle.fm_text.specs.Samples.{labels_of};
+    ghost use Rattle.fm_exposition.specs.Samples.{labels_of};
     ghost use Rattle.fm_core.specs.Families.{GatheredFamilies};
 
     ghost Value = { GatheredFamilies };

@@ -9,11 +9,11 @@ use Rattle.fm_grammar.specs.declared.SampleKind.{SampleKind}
 use Rattle.fm_grammar.specs.WellFormed.{ValueFits, IsSample}
 use Rattle.fm_grammar.specs.Names.{IsLabelName}
 use Rattle.fm_bucket.specs.declared.bound.Bucket.{Bucket}
-use Rattle.fm_sink.specs.Output.{Output, appended}
-use Rattle.fm_sink.proofs.OutputLemmas.{appended-append}
+use Rattle.fm_writer.specs.Output.{Output, appended}
+use Rattle.fm_writer.proofs.OutputLemmas.{appended-append}
 use Rattle.fm_encoder.specs.Labels.{IsReserved}
 use Rattle.fm_grammar.proofs.Runs.{all_append}
-use Rattle.fm_text.specs.declared.error.EncodeError.{EncodeError}
+use Rattle.fm_encode_error.specs.declared.EncodeError.{EncodeError}
 use Rattle.fm_encoder.specs.Points.{HandedExemplar, Setting, Point, ExemplarClean, values_in, BucketsClean, BucketsFault, PartsClean, type_of, point_samples, bucket_line, bucket_sample, bucket_samples}
 use Rattle.fm_encoder.specs.Gathered.{GatheredPoints, OwnRefusal, answer}
 use Rattle.fm_encoder.specs.Hands.{SamePlace, HandsPoints, points_samples}

@@ -7,8 +7,8 @@ use Rattle.std.proofs.lemmas.List.{length-map}
 use Rattle.fm_grammar.specs.declared.MetricType.TheVariants.{Unknown}
 use Rattle.fm_grammar.specs.Exposition.{Exemplar, Label}
 use Rattle.fm_grammar.specs.WellFormed.{IsBetween, AreMillis, IsExemplar, label_code_points}
-use Rattle.fm_text.specs.declared.error.EncodeError.{EncodeError}
-use Rattle.fm_text.specs.declared.error.EncodeError.TheVariants.{ExemplarTwice}
+use Rattle.fm_encode_error.specs.declared.EncodeError.{EncodeError}
+use Rattle.fm_encode_error.specs.declared.EncodeError.TheVariants.{ExemplarTwice}
 use Rattle.fm_raw.specs.Signed.{IsSigned}
 use Rattle.fm_encoder.specs.Labels.{LabelsClean, all_written}
 use Rattle.fm_encoder.specs.Gathered.{GatheredExemplars, OwnRefusal}

@@ -1,4 +1,4 @@
-pub use Rattle.fm_sink.proofs.OutputLemmas
+pub use Rattle.fm_writer.proofs.OutputLemmas
 pub mod Cases
 pub mod NameLemmas
 pub mod PiecesLemmas

@@ -5,11 +5,11 @@ use Rattle.std.proofs.lemmas.List.{take_more}
 use Rattle.std.proofs.lemmas.Grind.{flat_map-append}
 use Rattle.fm_grammar.specs.Exposition.{Label}
 use Rattle.fm_grammar.specs.declared.MetricType.{MetricType}
-use Rattle.fm_text.specs.declared.error.EncodeError.{EncodeError}
+use Rattle.fm_encode_error.specs.declared.EncodeError.{EncodeError}
 use Rattle.fm_grammar.specs.WellFormed.{IsSample}
 use Rattle.fm_grammar.proofs.Runs.{all_append}
-use Rattle.fm_sink.specs.Output.{appended}
-use Rattle.fm_sink.proofs.OutputLemmas.{appended-append, appended-none}
+use Rattle.fm_writer.specs.Output.{appended}
+use Rattle.fm_writer.proofs.OutputLemmas.{appended-append, appended-none}
 use Rattle.fm_encoder.specs.Labels.{HandedLabel, LabelsClean, LabelsFault, all_written, handed_again}
 use Rattle.fm_encoder.specs.Points.{Point, Member, Setting, Context, PointClean, PartsFault, point_samples, MembersClean, MembersFault, member_samples, members_samples}
 use Rattle.fm_encoder.specs.Gathered.{GatheredPoints, GatheredMembers, OwnRefusal, own_refusal, answer}

@@ -7,7 +7,7 @@ use Rattle.fm_grammar.specs.declared.MetricType.{MetricType}
 use Rattle.fm_grammar.specs.Exposition.{Text, Label}
 use Rattle.fm_grammar.specs.Names.{IsLowerLetter, IsDigit, IsWord, BeginsWithLetter, further_words, IsSnakeCase, IsLabelByte, IsLabelName, AllDifferent}
 use Rattle.fm_grammar.specs.WellFormed.{AreLabels}
-use Rattle.fm_text.specs.Samples.{labels_of}
+use Rattle.fm_exposition.specs.Samples.{labels_of}
 use Rattle.fm_encoder.specs.Labels.{HandedLabel, NamePiece, ValuePiece, IsReserved, AreFree, label_names, NameFits, LabelClean, LabelsClean, written, all_written, handed_again}
 
 abbrev pub Pairs : Type 0

@@ -1,6 +1,6 @@
 -- For label sets of a user's own: labels that are handed over one after the other, each of which declares no error of its own.
 use Rattle.std.proofs.Common.{◌≡◌, ◌⊎◌, inl, inr, List, [], ◌∷◌, Result, Ok}
-use Rattle.fm_text.specs.declared.error.EncodeError.{EncodeError}
+use Rattle.fm_encode_error.specs.declared.EncodeError.{EncodeError}
 use Rattle.fm_encoder.specs.Labels.{HandedLabel}
 use Rattle.fm_encoder.specs.Gathered.{GatheredLabels}
 use Rattle.fm_encoder.specs.Hands.{HandsLabels}

@@ -2,7 +2,7 @@
 use Rattle.std.specs.Prelude.{◌≡◌, List, [], Option, Some, None}
 use Rattle.fm_grammar.specs.declared.MetricType.{MetricType}
 use Rattle.fm_grammar.specs.Exposition.{Label}
-use Rattle.fm_text.specs.declared.error.EncodeError.{EncodeError}
+use Rattle.fm_encode_error.specs.declared.EncodeError.{EncodeError}
 use Rattle.fm_encoder.specs.Labels.{LabelsClean, LabelsFault, handed_again}
 
 -- the family's type, and its constant labels

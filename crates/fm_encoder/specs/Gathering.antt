@@ -5,7 +5,7 @@ use Rattle.std.specs.Prelude.{IfSome}
 use Rattle.std.specs.String.{string_bytes}
 use Rattle.fm_grammar.specs.Names.{IsSnakeCase}
 use Rattle.fm_grammar.specs.WellFormed.{AreLabels, AreMillis}
-use Rattle.fm_sink.specs.Output.{AreShared}
+use Rattle.fm_writer.specs.Output.{AreShared}
 use Rattle.fm_encoder.specs.Labels.{AreFree}
 use Rattle.fm_encoder.specs.declared.point.PointEncoder.TheInside.{Inside}
 

@@ -5,9 +5,9 @@
 use Rattle.std.specs.Prelude.{◌≡◌, ◌≤◌, List, [], ◌∷◌, ◌++◌, map, length, Contains, Some, None, Result, Ok, Err, ◌⊎◌}
 use Rattle.std.specs.List.{AllByRecursion, flat_map}
 use Rattle.fm_grammar.specs.Exposition.{Value, Sample}
-use Rattle.fm_text.specs.declared.error.EncodeError.{EncodeError}
-use Rattle.fm_text.specs.declared.error.EncodeError.TheVariants.{Memory, ValueTwice, ExemplarTwice}
-use Rattle.fm_sink.specs.Output.{appended}
+use Rattle.fm_encode_error.specs.declared.EncodeError.{EncodeError}
+use Rattle.fm_encode_error.specs.declared.EncodeError.TheVariants.{Memory, ValueTwice, ExemplarTwice}
+use Rattle.fm_writer.specs.Output.{appended}
 use Rattle.fm_encoder.specs.Labels.{HandedLabel, PieceFault, LabelsFault, LabelsClean, all_written}
 use Rattle.fm_encoder.specs.Points.{HandedExemplar, ExemplarPartsClean, ExemplarPartsFault, written_as, Point, PointClean, HeadFault, PartsFault, point_samples, Member, MembersClean, MembersFault, members_samples}
 use Rattle.fm_encoder.specs.Gathered.{GatheredPieces, GatheredLabels, GatheredNumbers, GatheredExemplars, GatheredPoints, GatheredMembers, OwnRefusal, OwnError}

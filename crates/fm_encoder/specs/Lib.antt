@@ -1,6 +1,6 @@
 pub use Rattle.fm_grammar.specs.Exposition
 pub use Rattle.fm_grammar.specs.WellFormed
-pub use Rattle.fm_sink.specs.Output
+pub use Rattle.fm_writer.specs.Output
 pub mod Labels
 pub mod Points
 pub mod States

@@ -10,8 +10,8 @@ use Rattle.fm_grammar.specs.declared.SampleKind.TheVariants.{Plain, Total, Creat
 use Rattle.fm_grammar.specs.Exposition.{Text, Label, Value, Whole, Fixed, Millis, Exemplar, Sample}
 use Rattle.fm_grammar.specs.Numbers.{fixed_text}
 use Rattle.fm_grammar.specs.WellFormed.{label_code_points, IsSample}
-use Rattle.fm_text.specs.declared.error.EncodeError.{EncodeError}
-use Rattle.fm_text.specs.declared.error.EncodeError.TheVariants.{DuplicateLabel, KindMismatch, MissingValue, ValueTwice, ExemplarCountMismatch, BucketOverflow, ExemplarTwice, ExemplarTooLong}
+use Rattle.fm_encode_error.specs.declared.EncodeError.{EncodeError}
+use Rattle.fm_encode_error.specs.declared.EncodeError.TheVariants.{DuplicateLabel, KindMismatch, MissingValue, ValueTwice, ExemplarCountMismatch, BucketOverflow, ExemplarTwice, ExemplarTooLong}
 use Rattle.fm_bucket.specs.BoundTests.{bound_text}
 use Rattle.fm_bucket.specs.declared.bound.Bound.{Bound}
 use Rattle.fm_bucket.specs.declared.bound.Bucket.{Bucket}

@@ -1,16 +1,16 @@
 // The constant labels of a family.
 ghost use Rattle.std.specs.Prelude.{◌≡◌, ◌⊎◌, ◌++◌, [], ◌∷◌, None, OnOk, OnErr, IfOk, IfErr, MatchResult};
-ghost use Rattle.fm_text.specs.declared.error.EncodeError.{EncodeError};
-ghost use Rattle.fm_text.specs.Samples.{label_of, labels_of};
+ghost use Rattle.fm_encode_error.specs.declared.EncodeError.{EncodeError};
+ghost use Rattle.fm_exposition.specs.Samples.{label_of, labels_of};
 ghost use Rattle.fm_encoder.specs.Labels.{LabelsClean, LabelsFault, all_written, handed_again};
 ghost use Rattle.fm_encoder.specs.Gathered.{OwnRefusal};
 
 use crate::gathered::labels_behind;
 use crate::label::LabelSetEncoder;
 use crate::label_set::{EncodeLabelSet, encode_written};
+use fm_encode_error::EncodeError;
 use fm_grammar::MetricType;
-use fm_sink::LabelText;
-use fm_text::EncodeError;
+use fm_writer::LabelText;
 use std::alloc::{AllocError, Global};
 use std::marker::Model;
 

@@ -3,7 +3,7 @@ ghost use Rattle.std.specs.Prelude.{◌≡◌, ◌^◌, ◌⊎◌, List, [], ◌
 ghost use Rattle.std.specs.Option.{option_map, option_map_or};
 ghost use Rattle.fm_grammar.specs.declared.MetricType.TheVariants.{Unknown};
 ghost use Rattle.fm_grammar.specs.WellFormed.{IsBetween, IsExemplar, AreMillis};
-ghost use Rattle.fm_text.specs.Samples.{labels_of, exemplar_of};
+ghost use Rattle.fm_exposition.specs.Samples.{labels_of, exemplar_of};
 ghost use Rattle.fm_encoder.specs.Labels.{LabelsClean, LabelsFault, all_written};
 ghost use Rattle.fm_encoder.specs.Points.{HandedExemplar, ExemplarPartsClean, ExemplarPartsFault, ExemplarClean, ExemplarFault, written_as, written_exemplar, millis};
 ghost use Rattle.fm_encoder.specs.Gathered.{OwnRefusal, answer};
@@ -13,10 +13,11 @@ use crate::label::LabelSetEncoder;
 use crate::label_set::EncodeLabelSet;
 use crate::own::own_refusal;
 use fm_code_points::are_short;
+use fm_encode_error::EncodeError;
+use fm_exposition::{Exemplar, make};
 use fm_grammar::MetricType;
 use fm_raw::fixed::Fixed;
-use fm_sink::owned_labels;
-use fm_text::{EncodeError, Exemplar, make};
+use fm_writer::owned_labels;
 use std::alloc::Global;
 use std::marker::Model;
 use std::time::Duration;
@@ -60,7 +61,7 @@ impl Model for ExemplarEncoder {
     ghost use Rattle.std.specs.Prelude.{IfSome};
     ghost use Rattle.std.specs.Option.{option_to_list, option_map};
     ghost use Rattle.fm_grammar.specs.WellFormed.{IsExemplar};
-    ghost use Rattle.fm_text.specs.Samples.{exemplar_of};
+    ghost use Rattle.fm_exposition.specs.Samples.{exemplar_of};
     ghost use Rattle.fm_encoder.specs.Gathered.{GatheredExemplars};
 
     ghost Value = { GatheredExemplars };

@@ -5,8 +5,8 @@ ghost use Rattle.fm_encoder.specs.Gathered.{OwnRefusal};
 
 use crate::label::LabelSetEncoder;
 use crate::label_set::EncodeLabelSet;
-use fm_sink::LabelText;
-use fm_text::EncodeError;
+use fm_encode_error::EncodeError;
+use fm_writer::LabelText;
 
 // Puts copies of the labels before in place of the encoder's own, and behind them those that a label set hands over.
 pub(crate) fn labels_behind<LS: EncodeLabelSet>(

@@ -1,6 +1,6 @@
 //! Labels: what hands them over, and the encoders that gather them.
 ghost use Rattle.std.specs.Prelude.{◌≡◌, ◌↔◌, IsTrue, IfOk, ℕ, List, [], ◌∷◌, ◌++◌, Bool, ◌⊎◌, Some, None, Ok, Err, OnOk, MatchResult};
-ghost use Rattle.fm_text.specs.declared.error.EncodeError.{EncodeError};
+ghost use Rattle.fm_encode_error.specs.declared.EncodeError.{EncodeError};
 ghost use Rattle.fm_encoder.specs.Labels.{HandedLabel, NamePiece, ValuePiece, written};
 ghost use Rattle.fm_encoder.specs.Gathered.{GatheredPieces, GatheredLabels, answer, own_refusal};
 ghost use Rattle.fm_encoder.specs.Hands.{HandsPieces, HandsLabels};
@@ -8,10 +8,10 @@ ghost use Rattle.fm_encoder.specs.Steps.{EndsLabel};
 
 use crate::names::is_reserved;
 use crate::own::own_refusal;
+use fm_encode_error::EncodeError;
 use fm_grammar::MetricType;
 use fm_raw::name::is_label_name;
-use fm_sink::LabelText;
-use fm_text::EncodeError;
+use fm_writer::LabelText;
 use std::alloc::{AllocError, Global};
 use std::marker::Model;
 

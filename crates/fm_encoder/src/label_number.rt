@@ -6,7 +6,7 @@ ghost use Rattle.fm_encoder.specs.Gathered.{answer};
 ghost use Rattle.fm_encoder.specs.Hands.{HandsPieces};
 
 use crate::label::{EncodeLabelValue, LabelEncoder};
-use fm_text::EncodeError;
+use fm_encode_error::EncodeError;
 use itoa::{Buffer, Integer};
 
 impl LabelEncoder {

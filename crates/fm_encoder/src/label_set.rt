@@ -1,11 +1,11 @@
 //! Label sets: lists, sets and maps of labels.
 ghost use Rattle.std.specs.Prelude.{◌≡◌, ℕ, [], ◌∷◌, ◌++◌, ◌⊎◌, List, IsTrue, map, Any, Ok};
-ghost use Rattle.fm_text.specs.Samples.{labels_of};
+ghost use Rattle.fm_exposition.specs.Samples.{labels_of};
 ghost use Rattle.fm_encoder.specs.Labels.{HandedLabel, handed_again};
 ghost use Rattle.fm_encoder.specs.Hands.{HandsLabels};
 
 use crate::label::{EncodeLabel, EncodeLabelName, EncodeLabelValue, LabelSetEncoder};
-use fm_text::EncodeError;
+use fm_encode_error::EncodeError;
 use std::collections::{BTreeMap, BTreeSet, LinkedList, VecDeque};
 
 /// Something that hands over a list of labels.

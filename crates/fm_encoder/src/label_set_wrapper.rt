@@ -5,7 +5,7 @@ ghost use Rattle.std.specs.Rc.{rc_value};
 
 use crate::label::LabelSetEncoder;
 use crate::label_set::EncodeLabelSet;
-use fm_text::EncodeError;
+use fm_encode_error::EncodeError;
 use std::rc::Rc;
 use std::sync::Arc;
 

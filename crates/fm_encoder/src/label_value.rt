@@ -7,8 +7,8 @@ ghost use Rattle.fm_encoder.specs.Gathered.{answer};
 ghost use Rattle.fm_encoder.specs.Hands.{HandsPieces};
 
 use crate::label::{EncodeLabel, EncodeLabelName, EncodeLabelValue, LabelEncoder};
+use fm_encode_error::EncodeError;
 use fm_raw::fixed::{Fixed, FixedBuffer, FixedSum};
-use fm_text::EncodeError;
 
 /// Lends a text as a name or a value of a label.
 #[derive(Clone, Copy, Debug, PartialEq, Eq, PartialOrd, Ord, Hash)]

@@ -21,7 +21,7 @@ pub mod point;
 pub mod value;
 
 pub use exemplar::{EncodeExemplar, ExemplarEncoder, LabeledExemplar};
-pub use fm_text::EncodeError;
+pub use fm_encode_error::EncodeError;
 pub use label::{EncodeLabel, EncodeLabelName, EncodeLabelValue, LabelEncoder, LabelSetEncoder};
 pub use label_set::{EncodeLabelSet, LabelSlice};
 pub use label_value::{LabelStr, StaticStr};

@@ -2,7 +2,7 @@
 ghost use Rattle.std.specs.Prelude.{◌≡◌};
 ghost use Rattle.fm_encoder.specs.Gathered.{own_refusal};
 
-use fm_text::EncodeError;
+use fm_encode_error::EncodeError;
 
 pub(crate) fn own_refusal(error: EncodeError) -> EncodeError
     ensures { result ≡ own_refusal error }

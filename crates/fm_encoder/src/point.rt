@@ -5,10 +5,10 @@ ghost use Rattle.fm_grammar.specs.Names.{IsSnakeCase};
 ghost use Rattle.fm_grammar.specs.declared.MetricType.{MetricType};
 ghost use Rattle.fm_grammar.specs.WellFormed.{AreLabels, AreMillis, IsSample, kinds_of};
 ghost use Rattle.fm_grammar.specs.declared.SampleKind.TheVariants.{Total as TotalKind, Created as CreatedKind};
-ghost use Rattle.fm_text.specs.declared.error.EncodeError.{EncodeError};
-ghost use Rattle.fm_text.specs.Rows.{head_rows};
-ghost use Rattle.fm_text.specs.Samples.{shown_label, value_of, exemplar_of};
-ghost use Rattle.fm_sink.specs.Output.{AreShared, appended, with_lines};
+ghost use Rattle.fm_encode_error.specs.declared.EncodeError.{EncodeError};
+ghost use Rattle.fm_exposition.specs.Rows.{head_rows};
+ghost use Rattle.fm_exposition.specs.Samples.{shown_label, value_of, exemplar_of};
+ghost use Rattle.fm_writer.specs.Output.{AreShared, appended, with_lines};
 ghost use Rattle.fm_encoder.specs.Points.{Point, UnknownPoint, GaugePoint, CounterPoint, StateSetPoint, InfoPoint, plain_sample, state_sample, created_samples, millis};
 ghost use Rattle.fm_encoder.specs.Labels.{LabelsClean, LabelsFault, AreFree, all_written, handed_again, label_names};
 ghost use Rattle.fm_encoder.specs.States.{state_of};
@@ -26,9 +26,10 @@ use crate::value::{
     EncodeCounterValue, EncodeGaugeValue, EncodeUnknownValue, counter_number, gauge_number,
     unknown_number,
 };
+use fm_encode_error::EncodeError;
+use fm_exposition::{Exemplar, Value};
 use fm_grammar::{MetricType, SampleKind};
-use fm_sink::{LabelText, Sink};
-use fm_text::{EncodeError, Exemplar, Value};
+use fm_writer::{LabelText, Sink};
 use std::alloc::{AllocError, Global};
 use std::marker::Model;
 use std::mem;

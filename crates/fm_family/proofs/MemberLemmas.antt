@@ -10,7 +10,7 @@ use Rattle.std.proofs.Common.{Result, Ok, Err, MatchOption}
 use Rattle.fm_raw.specs.declared.error.MetricError.{MetricError}
 use Rattle.fm_family.specs.Members.{OffersFirst, OffersDifferent, GetsOrAdds, HoldsMetric}
 use Rattle.std.proofs.Math.Seq.{take-append_seam}
-use Rattle.fm_text.specs.declared.error.EncodeError.{EncodeError}
+use Rattle.fm_encode_error.specs.declared.EncodeError.{EncodeError}
 use Rattle.fm_encoder.specs.Labels.{HandedLabel}
 use Rattle.fm_encoder.specs.Points.{Point, Member}
 use Rattle.fm_encoder.specs.Gathered.{GatheredMembers, answer}

@@ -3,8 +3,7 @@ ghost use Rattle.std.specs.Prelude.{◌≡◌, ◌⊎◌, Result, MatchResult, �
 ghost use Rattle.fm_raw.specs.declared.error.MetricError.{MetricError as Refusal};
 ghost use Rattle.fm_raw.specs.declared.error.MetricError.TheVariants.{Memory};
 
-use fm_atomic::TryDefault;
-use fm_raw::MetricError;
+use fm_raw::{MetricError, TryDefault};
 use std::alloc::Global;
 use std::marker::PhantomData;
 use std::sync::Wait;

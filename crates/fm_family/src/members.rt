@@ -9,9 +9,9 @@ ghost use Rattle.fm_family.specs.MemberLends.{ends_with_member};
 ghost use Rattle.fm_family.specs.Members.{ClonesEqual, GetsOrAdds, HoldsMetric, OffersFirst, MayFault};
 
 use crate::factory::MetricFactory;
+use fm_encode_error::EncodeError;
 use fm_encoder::{EncodeLabelSet, EncodePoint, MetricEncoder};
 use fm_raw::MetricError;
-use fm_text::EncodeError;
 use indexmap::IndexMap;
 use std::alloc::Global;
 use std::hash::{BuildHasher, Hash};

@@ -13,10 +13,9 @@ ghost use Rattle.fm_histogram.specs.Shared.{created_of};
 
 use crate::sign::{Any, NotNegative, Sign};
 use crate::snapshot::{GaugeHistogramSnapshot, HistogramSnapshot, SnapshotOf};
-use fm_atomic::TryDefault;
+use fm_encode_error::EncodeError;
 use fm_encoder::{EncodeMetric, EncodePoint, MetricEncoder, PointEncoder};
-use fm_raw::{Fixed, MetricError, MetricType, TypedMetric};
-use fm_text::EncodeError;
+use fm_raw::{Fixed, MetricError, MetricType, TryDefault, TypedMetric};
 use std::alloc::{AllocError, Global};
 use std::fmt::{self, Debug, Formatter};
 use std::sync::{Arc, Mutex, Wait};

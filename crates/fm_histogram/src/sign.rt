@@ -9,9 +9,9 @@ ghost use Rattle.fm_histogram.specs.Histogram.{Histogram};
 ghost use Rattle.fm_histogram.specs.Shown.{point_of, gauge_point_of};
 
 use crate::counts::Counts;
+use fm_encode_error::EncodeError;
 use fm_encoder::{PointEncoder, encode_bare_gauge_histogram, encode_bare_histogram};
 use fm_raw::{FixedSum, MetricType};
-use fm_text::EncodeError;
 use std::time::Duration;
 
 /// Which values and bounds are taken, and the type and the point of what was counted.

@@ -13,9 +13,9 @@ use Rattle.fm_grammar.specs.Exposition.{Text, Label, Value}
 use Rattle.fm_grammar.specs.NameTests.{is_label_name}
 use Rattle.fm_grammar.specs.WellFormed.{label_code_points, IsSample}
 use Rattle.fm_raw.proofs.NameLemmas.{label_name_decides}
-use Rattle.fm_text.specs.SameLaws.{type_decides}
-use Rattle.fm_text.specs.declared.error.EncodeError.{EncodeError}
-use Rattle.fm_text.specs.declared.error.EncodeError.TheVariants.{InvalidLabelName, ReservedLabel, DuplicateLabel, MalformedLabel, MissingValue, ValueTwice, KindMismatch, ExemplarCountMismatch, BucketOverflow, ExemplarTwice, ExemplarTooLong}
+use Rattle.fm_exposition.specs.SameLaws.{type_decides}
+use Rattle.fm_encode_error.specs.declared.EncodeError.{EncodeError}
+use Rattle.fm_encode_error.specs.declared.EncodeError.TheVariants.{InvalidLabelName, ReservedLabel, DuplicateLabel, MalformedLabel, MissingValue, ValueTwice, KindMismatch, ExemplarCountMismatch, BucketOverflow, ExemplarTwice, ExemplarTooLong}
 use Rattle.fm_bucket.specs.declared.bound.Bucket.{Bucket}
 use Rattle.fm_encoder.specs.Labels.{HandedLabel, NamePiece, ValuePiece, IsReserved, IsMalformed, NameFits, NameFault, LabelClean, LabelFault, LabelsClean, LabelsFault, label_names, all_written, written}
 use Rattle.fm_encoder.specs.Points.{HandedExemplar, Point, UnknownPoint, GaugePoint, CounterPoint, StateSetPoint, InfoPoint, HistogramPoint, GaugeHistogramPoint, SummaryPoint, Member, Setting, Context, NumberClean, NumberFault, ExemplarClean, ExemplarFault, BucketsClean, BucketsFault, PartsClean, PartsFault, PointClean, PointFault, SlotsDiffer, MemberClean, MemberFault, MembersClean, MembersFault, common_handed, common_written, values_in, type_of, point_samples}

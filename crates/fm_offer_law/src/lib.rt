@@ -3,7 +3,7 @@
 
 ghost use Rattle.std.specs.Prelude.{List, ◌⊎◌, ◌↔◌};
 ghost use Rattle.fm_grammar.specs.Names.{IsSnakeCase};
-ghost use Rattle.fm_text.specs.declared.error.EncodeError.{EncodeError};
+ghost use Rattle.fm_encode_error.specs.declared.EncodeError.{EncodeError};
 ghost use Rattle.fm_encoder.specs.Points.{Context, Member, MembersClean, MembersFault};
 ghost use Rattle.fm_offer_law.specs.Ranges.{NumbersFit};
 

@@ -4,9 +4,9 @@ use Rattle.std.specs.String.{string_bytes}
 use Rattle.fm_grammar.specs.declared.MetricType.{MetricType}
 use Rattle.fm_grammar.specs.Exposition.{Text}
 use Rattle.fm_raw.specs.declared.metadata.Unit as unit
-use Rattle.fm_book.specs.Registration.{Registration}
-use Rattle.fm_book.specs.Tree.{Tree}
-use Rattle.fm_book.specs.declared.RegistryError.{RegistryError}
+use Rattle.fm_registry_calls.specs.Registration.{Registration}
+use Rattle.fm_registry_calls.specs.Tree.{Tree}
+use Rattle.fm_registry_calls.specs.declared.RegistryError.{RegistryError}
 use Rattle.fm_registry.specs.Registers.{Registers}
 use Rattle.fm_registry.specs.View.{asked_metric}
 use Rattle.fm_own.specs.Named.{named_metric, Adds}

@@ -5,10 +5,10 @@ use Rattle.fm_grammar.specs.declared.MetricType.{MetricType}
 use Rattle.fm_grammar.specs.Exposition.{Text}
 use Rattle.fm_raw.specs.declared.metadata.Unit as unit
 use Rattle.fm_raw.specs.Units.{seen_unit}
-use Rattle.fm_book.specs.Registration.{Registration}
-use Rattle.fm_book.specs.declared.RegistryError.{RegistryError}
-use Rattle.fm_book.specs.declared.RegistryError.TheVariants.{Memory}
-use Rattle.fm_book.specs.Tree.{Tree}
+use Rattle.fm_registry_calls.specs.Registration.{Registration}
+use Rattle.fm_registry_calls.specs.declared.RegistryError.{RegistryError}
+use Rattle.fm_registry_calls.specs.declared.RegistryError.TheVariants.{Memory}
+use Rattle.fm_registry_calls.specs.Tree.{Tree}
 use Rattle.fm_registry.specs.Registers.{Registers}
 use Rattle.fm_encoder.specs.Labels.{HandedLabel, NamePiece, ValuePiece}
 

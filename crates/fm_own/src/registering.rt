@@ -1,6 +1,6 @@
 //! Registering metrics by texts.
 ghost use Rattle.std.specs.Prelude.{◌≡◌, None, Some, IfOk, IfErr, string_bytes};
-ghost use Rattle.fm_book.specs.declared.RegistryError.TheVariants.{Memory};
+ghost use Rattle.fm_registry_calls.specs.declared.RegistryError.TheVariants.{Memory};
 ghost use Rattle.fm_registry.specs.HasBook.{HasBook, Grows};
 ghost use Rattle.fm_own.specs.Named.{named_metric, Adds};
 

@@ -3,10 +3,9 @@ ghost use Rattle.std.specs.Prelude.{◌≡◌, ◌⊎◌, IfOk, IfErr};
 ghost use Rattle.std.specs.Fn.{FnOnceReturnsAt};
 ghost use Rattle.fm_raw.specs.declared.error.MetricError.TheVariants.{Memory};
 
-use fm_atomic::TryDefault;
 use fm_family::{DefaultFactory, Family};
-use fm_raw::MetricError;
-use fm_sink::owned_labels;
+use fm_raw::{MetricError, TryDefault};
+use fm_writer::owned_labels;
 use std::alloc::Global;
 use std::hash::{BuildHasherDefault, FoldHasher};
 use std::sync::Wait;

@@ -2,7 +2,7 @@
 use Rattle.std.specs.Prelude.{◌≡◌, List, Option, Some, None, string_bytes, []}
 use Rattle.std.specs.declared.alloc.Global.{Global}
 use Rattle.std.specs.declared.vec.Vec.{Vec}
-use Rattle.fm_text.specs.declared.exposition.FamilySamples.{FamilySamples}
+use Rattle.fm_exposition.specs.declared.exposition.FamilySamples.{FamilySamples}
 use Rattle.fm_grammar.specs.Exposition.{Text, Sample, Family}
 use Rattle.fm_grammar.specs.declared.MetricType.{MetricType}
 use Rattle.fm_grammar.specs.Names.{IsSnakeCase}

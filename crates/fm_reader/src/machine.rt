@@ -10,9 +10,9 @@ ghost use Rattle.fm_reader.specs.Names.{names_of, state_names, HasNames, IsNoted
 ghost use Rattle.fm_reader.specs.declared.error.ReadError.TheVariants.{Memory};
 
 use crate::error::ReadError;
+use fm_exposition::{FamilySamples, SampleStore, make};
 use fm_grammar::MetricType;
 use fm_reader_lines::{ReadSample, read_help, read_sample, read_type, read_unit};
-use fm_text::{FamilySamples, SampleStore, make};
 use std::alloc::Global;
 use std::collections::BTreeSet;
 use std::marker::Model;

@@ -14,7 +14,7 @@ use Rattle.std.specs.String.{string_bytes}
 use Rattle.std.specs.declared.string.String.{String}
 use Rattle.std.specs.declared.alloc.Global.{Global}
 use Rattle.fm_grammar.specs.Exposition.{Text}
-use Rattle.fm_text.specs.Samples.{labels_of}
+use Rattle.fm_exposition.specs.Samples.{labels_of}
 use Rattle.fm_grammar.specs.Names.{AllDifferent}
 use Rattle.fm_grammar.proofs.Runs.{all_append, all_middle}
 

@@ -1,7 +1,7 @@
 -- How contracts see a sample that was read.
 use Rattle.std.specs.Option.{option_map}
 use Rattle.fm_grammar.specs.Exposition.{Sample}
-use Rattle.fm_text.specs.Samples.{labels_of, value_of, exemplar_of}
+use Rattle.fm_exposition.specs.Samples.{labels_of, value_of, exemplar_of}
 use Rattle.fm_reader_lines.specs.Parts.{Shown}
 use Rattle.fm_reader_lines.specs.declared.sample.ReadSample.{ReadSample}
 use Rattle.fm_reader_lines.specs.declared.values.ReadValues.{ReadValues}

@@ -1,16 +1,16 @@
 //! Reads exemplars.
 ghost use Rattle.std.specs.Prelude.{◌≡◌, IfOk};
 ghost use Rattle.std.specs.Option.{option_map};
-ghost use Rattle.fm_text.specs.Samples.{exemplar_of};
+ghost use Rattle.fm_exposition.specs.Samples.{exemplar_of};
 ghost use Rattle.fm_reader_lines.specs.Parts.{tail_text, FoundSmall, FoundBody, FoundExemplar, takes_exemplar as kind_takes_exemplar};
 
 use crate::labels::read_braces;
 use crate::values::{read_time, split_token};
 use fm_code_points::are_short;
+use fm_exposition::{Exemplar, make};
 use fm_grammar::SampleKind;
 use fm_raw::Fixed;
 use fm_reader_parts::number::read_fixed;
-use fm_text::{Exemplar, make};
 use std::alloc::{AllocError, Global};
 
 /// The exemplar of a sample of this kind, or `Some(None)` if `tail` is None; None if the text is not such an exemplar.

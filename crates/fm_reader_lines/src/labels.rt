@@ -1,7 +1,7 @@
 //! Reads label lists with different names.
 ghost use Rattle.std.specs.Prelude.{◌≡◌, ◌↔◌, IsTrue, IfOk, map};
 ghost use Rattle.fm_grammar.specs.Names.{AllDifferent};
-ghost use Rattle.fm_text.specs.Samples.{labels_of};
+ghost use Rattle.fm_exposition.specs.Samples.{labels_of};
 ghost use Rattle.fm_reader_parts.specs.Fronts.{seen_labels};
 ghost use Rattle.fm_reader_lines.specs.Parts.{IsBracesFront, IsBlockFront};
 

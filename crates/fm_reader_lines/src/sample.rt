@@ -8,8 +8,8 @@ ghost use Rattle.fm_reader_lines.specs.Samples.{read_sample_of};
 
 use crate::labels::read_block;
 use crate::values::read_values;
+use fm_exposition::{Exemplar, Value};
 use fm_grammar::{MetricType, SampleKind};
-use fm_text::{Exemplar, Value};
 use std::alloc::{AllocError, Global};
 
 static PLAIN: [SampleKind; 1] = [SampleKind::Plain];

@@ -1,15 +1,15 @@
 //! Reads what comes after a sample's labels: its value, its timestamp and its exemplar.
 ghost use Rattle.std.specs.Prelude.{◌≡◌, IfOk};
 ghost use Rattle.std.specs.Option.{option_map};
-ghost use Rattle.fm_text.specs.Samples.{value_of};
+ghost use Rattle.fm_exposition.specs.Samples.{value_of};
 ghost use Rattle.fm_reader_lines.specs.Parts.{tail_text, IsToken, FoundValue, FoundNumber, IsTimeFront, FoundShown};
 ghost use Rattle.fm_reader_lines.specs.Samples.{shown_of};
 
 use crate::exemplar::read_exemplar;
+use fm_exposition::{Exemplar, Value};
 use fm_grammar::SampleKind;
 use fm_raw::FixedSum;
 use fm_reader_parts::number::{read_fixed, read_millis, read_whole};
-use fm_text::{Exemplar, Value};
 use std::alloc::{AllocError, Global};
 
 /// The value, timestamp and exemplar of a sample.

@@ -8,7 +8,7 @@ use Rattle.std.specs.declared.vec.Vec.{Vec}
 use Rattle.fm_grammar.specs.Exposition.{Text, Label}
 use Rattle.fm_grammar.specs.Names.{IsLabelName}
 use Rattle.fm_grammar.specs.Spelling.{escaped, label_text, label_list_text}
-use Rattle.fm_text.specs.Samples.{label_of, labels_of}
+use Rattle.fm_exposition.specs.Samples.{label_of, labels_of}
 
 -- what may come after an escaped text: a line feed, a quote, or nothing
 abbrev pub EndsEscaped : Text → Type 0

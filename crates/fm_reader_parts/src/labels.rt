@@ -1,7 +1,7 @@
 //! Reads labels and their values.
 ghost use Rattle.std.specs.Prelude.{◌≡◌, ◌↔◌, IsTrue, IfOk, map, string_bytes};
 ghost use Rattle.fm_grammar.specs.Names.{AllDifferent};
-ghost use Rattle.fm_text.specs.Samples.{labels_of};
+ghost use Rattle.fm_exposition.specs.Samples.{labels_of};
 ghost use Rattle.fm_reader_parts.specs.Fronts.{IsEscapedFront, IsLabelFront, IsLabelsFront, seen, seen_label, seen_labels};
 
 use fm_raw::is_label_name;

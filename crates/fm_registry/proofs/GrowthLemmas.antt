@@ -1,13 +1,13 @@
 -- The books of a registry grow with each call.
 use Rattle.std.proofs.Common.{◌≡◌, List, [], ◌∷◌, ◌++◌, map, Option, None, Some, Result, Ok, Err, OnOk, OnErr, refl, sym, ap, subst, append-nil, append_assoc, ◌∙◌}
-use Rattle.fm_book.specs.Texts.{Text, Labels}
-use Rattle.fm_book.specs.Book.{Call, Book, Subsystem, with_more, in_front, book_below}
-use Rattle.fm_book.specs.Answer.{Refusal, answer, gained, after, after_if}
-use Rattle.fm_book.specs.Tree.{Tree, Reads}
-use Rattle.fm_book.specs.Steps.{with_named, with_child, with_subsystem}
-use Rattle.fm_book.specs.Loan.{LoanReads}
-use Rattle.fm_book.specs.Running.{Runs}
-use Rattle.fm_book.specs.declared.RegistryError.{RegistryError}
+use Rattle.fm_registry_calls.specs.Texts.{Text, Labels}
+use Rattle.fm_registry_calls.specs.Book.{Call, Book, Subsystem, with_more, in_front, book_below}
+use Rattle.fm_registry_calls.specs.Answer.{Refusal, answer, gained, after, after_if}
+use Rattle.fm_registry_calls.specs.Tree.{Tree, Reads}
+use Rattle.fm_registry_calls.specs.Steps.{with_named, with_child, with_subsystem}
+use Rattle.fm_registry_calls.specs.Loan.{LoanReads}
+use Rattle.fm_registry_calls.specs.Running.{Runs}
+use Rattle.fm_registry_calls.specs.declared.RegistryError.{RegistryError}
 use Rattle.fm_registry.specs.HasBook.{HasBook, Grows}
 
 module _ {M : Type 0} where

@@ -4,15 +4,15 @@ use Rattle.std.specs.Prelude.{reverse}
 use Rattle.std.specs.String.{string_bytes}
 use Rattle.std.proofs.lemmas.List.{map-append}
 use Rattle.fm_grammar.specs.declared.MetricType.{MetricType}
-use Rattle.fm_book.specs.Texts.{Text, Path}
-use Rattle.fm_book.specs.Book.{Call, Book, in_front}
-use Rattle.fm_book.specs.Tree.{Tree, Reads}
-use Rattle.fm_book.specs.Steps.{place_in}
-use Rattle.fm_book.specs.Answer.{Refusal, NoSuchSubsystem, refusal_of, after}
-use Rattle.fm_book.specs.Running.{Runs, IsReply, after_reply, path_of}
-use Rattle.fm_book.specs.declared.RegistryError.{RegistryError}
-use Rattle.fm_book.proofs.ApplyLemmas.{apply-missing}
-use Rattle.fm_book.proofs.RunLemmas.{Runs-more, path_of-++, path_of-reversed}
+use Rattle.fm_registry_calls.specs.Texts.{Text, Path}
+use Rattle.fm_registry_calls.specs.Book.{Call, Book, in_front}
+use Rattle.fm_registry_calls.specs.Tree.{Tree, Reads}
+use Rattle.fm_registry_calls.specs.Steps.{place_in}
+use Rattle.fm_registry_calls.specs.Answer.{Refusal, NoSuchSubsystem, refusal_of, after}
+use Rattle.fm_registry_calls.specs.Running.{Runs, IsReply, after_reply, path_of}
+use Rattle.fm_registry_calls.specs.declared.RegistryError.{RegistryError}
+use Rattle.fm_registry_calls.proofs.ApplyLemmas.{apply-missing}
+use Rattle.fm_registry_calls.proofs.RunLemmas.{Runs-more, path_of-++, path_of-reversed}
 use Rattle.fm_registry.specs.HasBook.{HasBook, Grows}
 use Rattle.fm_registry.specs.Request.{call_at}
 use Rattle.fm_registry.specs.Calls.{IsCall, AreCalls, RunsCall, RunsCalls, seen_path}

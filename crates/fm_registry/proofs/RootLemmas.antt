@@ -8,10 +8,10 @@ use Rattle.std.proofs.lemmas.Option.{get_or_from_slice_get, slice_get_within}
 use Rattle.fm_grammar.specs.Names.{IsSnakeCase}
 use Rattle.fm_grammar.specs.NameTests.{is_label_name}
 use Rattle.fm_raw.proofs.NameLemmas.{snake_case_is}
-use Rattle.fm_text.specs.Samples.{label_of, labels_of}
-use Rattle.fm_book.specs.Texts.{Text, Label, Labels, has_name}
-use Rattle.fm_book.specs.Answer.{Refusal, InvalidLabelName, DuplicateLabel, label_refusal_behind, labels_refusal_behind, root_labels_refusal, or_then}
-use Rattle.fm_book.proofs.RootLemmas.{labels_refusal_behind-++, root_labels_valid}
+use Rattle.fm_exposition.specs.Samples.{label_of, labels_of}
+use Rattle.fm_registry_calls.specs.Texts.{Text, Label, Labels, has_name}
+use Rattle.fm_registry_calls.specs.Answer.{Refusal, InvalidLabelName, DuplicateLabel, label_refusal_behind, labels_refusal_behind, root_labels_refusal, or_then}
+use Rattle.fm_registry_calls.proofs.RootLemmas.{labels_refusal_behind-++, root_labels_valid}
 use Rattle.fm_registry.specs.HasBook.{IsNewRoot, root_tree}
 use Rattle.fm_registry.specs.RootLabels.{takes_namespace, takes_labels, label_fault, IsRefusedAt}
 use Rattle.fm_registry.proofs.SoundLemmas.{new_root}

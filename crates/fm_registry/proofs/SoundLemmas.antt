@@ -4,16 +4,16 @@ use Rattle.std.specs.List.{AllByRecursion}
 use Rattle.fm_grammar.specs.Names.{IsSnakeCase}
 use Rattle.fm_grammar.specs.WellFormed.{AreLabels}
 use Rattle.fm_grammar.specs.declared.MetricType.{MetricType}
-use Rattle.fm_book.specs.Texts.{Text, Labels}
-use Rattle.fm_book.specs.Registration.{Registration}
-use Rattle.fm_book.specs.Book.{Book, root_book, book_below, Register}
-use Rattle.fm_book.specs.Answer.{after}
-use Rattle.fm_book.specs.Tree.{Tree}
-use Rattle.fm_book.specs.Loan.{LoanReads}
-use Rattle.fm_book.specs.Listing.{IsListable, listed_tree}
-use Rattle.fm_book.specs.declared.RegistryError.{RegistryError}
-use Rattle.fm_book.proofs.RootLemmas.{reads-root_book}
-use Rattle.fm_book.proofs.OrderLemmas.{listed_tree-fits}
+use Rattle.fm_registry_calls.specs.Texts.{Text, Labels}
+use Rattle.fm_registry_calls.specs.Registration.{Registration}
+use Rattle.fm_registry_calls.specs.Book.{Book, root_book, book_below, Register}
+use Rattle.fm_registry_calls.specs.Answer.{after}
+use Rattle.fm_registry_calls.specs.Tree.{Tree}
+use Rattle.fm_registry_calls.specs.Loan.{LoanReads}
+use Rattle.fm_registry_calls.specs.Listing.{IsListable, listed_tree}
+use Rattle.fm_registry_calls.specs.declared.RegistryError.{RegistryError}
+use Rattle.fm_registry_calls.proofs.RootLemmas.{reads-root_book}
+use Rattle.fm_registry_calls.proofs.OrderLemmas.{listed_tree-fits}
 use Rattle.fm_registry.specs.HasBook.{HasBook, IsNewRoot, root_tree}
 use Rattle.fm_registry.specs.Registers.{Registers}
 

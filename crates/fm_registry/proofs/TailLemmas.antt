@@ -12,12 +12,12 @@ use Rattle.std.proofs.lemmas.Option.{get_or_from_slice_get}
 use Rattle.std.proofs.lemmas.Slice.Eq.{bytes_eq-Decides}
 use Rattle.fm_grammar.specs.Names.{AllDifferent}
 use Rattle.fm_raw.specs.declared.metadata.Metadata.{Metadata}
-use Rattle.fm_book.specs.Texts.{Text, has_name}
-use Rattle.fm_book.specs.Registration.{Registration, is_same_metric}
-use Rattle.fm_book.specs.Taken.{tail_of, tails_of, is_below}
-use Rattle.fm_book.specs.Tree.{names_in}
-use Rattle.fm_book.specs.Answer.{AlreadyExists, NameTaken, first_of, has_metric, standing_refusal}
-use Rattle.fm_book.proofs.MetricLemmas.{one_under_tail, absent_under_tail}
+use Rattle.fm_registry_calls.specs.Texts.{Text, has_name}
+use Rattle.fm_registry_calls.specs.Registration.{Registration, is_same_metric}
+use Rattle.fm_registry_calls.specs.Taken.{tail_of, tails_of, is_below}
+use Rattle.fm_registry_calls.specs.Tree.{names_in}
+use Rattle.fm_registry_calls.specs.Answer.{AlreadyExists, NameTaken, first_of, has_metric, standing_refusal}
+use Rattle.fm_registry_calls.proofs.MetricLemmas.{one_under_tail, absent_under_tail}
 use Rattle.fm_registry.specs.Names.{refusal_beside}
 use Rattle.fm_registry.specs.View.{seen_metric, seen_metrics, forest_of}
 use Rattle.fm_registry.specs.declared.names.Tailed.{Tailed}

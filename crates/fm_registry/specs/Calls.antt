@@ -3,14 +3,14 @@ use Rattle.std.specs.Prelude.{◌≡◌, ⊤, List, [], ◌∷◌, map, Option, 
 use Rattle.std.specs.declared.alloc.Global.{Global}
 use Rattle.std.specs.String.{string_bytes}
 use Rattle.fm_grammar.specs.declared.MetricType.{MetricType}
-use Rattle.fm_text.specs.Samples.{labels_of}
-use Rattle.fm_book.specs.Texts.{Path}
-use Rattle.fm_book.specs.Book as book
-use Rattle.fm_book.specs.Book.{Book, Call}
-use Rattle.fm_book.specs.Answer.{Refusal, refusal_of, after}
-use Rattle.fm_book.specs.Tree.{Tree, Reads}
-use Rattle.fm_book.specs.Running.{Runs, IsReply}
-use Rattle.fm_book.specs.declared.RegistryError.{RegistryError}
+use Rattle.fm_exposition.specs.Samples.{labels_of}
+use Rattle.fm_registry_calls.specs.Texts.{Path}
+use Rattle.fm_registry_calls.specs.Book as book
+use Rattle.fm_registry_calls.specs.Book.{Book, Call}
+use Rattle.fm_registry_calls.specs.Answer.{Refusal, refusal_of, after}
+use Rattle.fm_registry_calls.specs.Tree.{Tree, Reads}
+use Rattle.fm_registry_calls.specs.Running.{Runs, IsReply}
+use Rattle.fm_registry_calls.specs.declared.RegistryError.{RegistryError}
 use Rattle.fm_registry.specs.View.{asked_metric}
 use Rattle.fm_registry.specs.declared.registry.run.RegistryCall as given
 

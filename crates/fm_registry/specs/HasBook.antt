@@ -1,8 +1,8 @@
 -- What holds of every registry that its calls lead to: it reads a book.
 use Rattle.std.specs.Prelude.{◌≡◌, List, [], Option}
-use Rattle.fm_book.specs.Texts.{Text, Labels}
-use Rattle.fm_book.specs.Book.{Call, Book, root_book, with_more}
-use Rattle.fm_book.specs.Tree.{Tree, Leaf, Reads}
+use Rattle.fm_registry_calls.specs.Texts.{Text, Labels}
+use Rattle.fm_registry_calls.specs.Book.{Call, Book, root_book, with_more}
+use Rattle.fm_registry_calls.specs.Tree.{Tree, Leaf, Reads}
 
 -- the tree reads some book
 pub record HasBook {M : Type 0} (t : Tree M) : Type 0 where

@@ -10,9 +10,9 @@ use Rattle.std.specs.Option.{option_map}
 use Rattle.std.specs.String.{string_bytes}
 use Rattle.std.specs.Vec.{with_item}
 use Rattle.std.specs.Borrow.{Fml, RattleType, MutBor, Lends, LendsIfOk}
-use Rattle.fm_book.specs.Texts.{Text, Labels}
-use Rattle.fm_book.specs.Tree.{Tree}
-use Rattle.fm_book.specs.Steps.{with_nth, with_named, with_subsystem}
+use Rattle.fm_registry_calls.specs.Texts.{Text, Labels}
+use Rattle.fm_registry_calls.specs.Tree.{Tree}
+use Rattle.fm_registry_calls.specs.Steps.{with_nth, with_named, with_subsystem}
 use Rattle.fm_registry.specs.Lists.{items_of}
 use Rattle.fm_registry.specs.View.{forest_of}
 use Rattle.fm_registry.specs.contracts.registry.Registry.{the_row}

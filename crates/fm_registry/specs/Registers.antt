@@ -1,11 +1,11 @@
 -- What the registration of a metric does, with the type that the metric declared.
 use Rattle.std.specs.Prelude.{◌≡◌, [], Result, OnOk, OnErr}
 use Rattle.fm_grammar.specs.declared.MetricType.{MetricType}
-use Rattle.fm_book.specs.Registration.{Registration}
-use Rattle.fm_book.specs.Book.{Book, Register}
-use Rattle.fm_book.specs.Answer.{IsAnswered, refusal_of, answer, after}
-use Rattle.fm_book.specs.Tree.{Tree, Reads}
-use Rattle.fm_book.specs.declared.RegistryError.{RegistryError}
+use Rattle.fm_registry_calls.specs.Registration.{Registration}
+use Rattle.fm_registry_calls.specs.Book.{Book, Register}
+use Rattle.fm_registry_calls.specs.Answer.{IsAnswered, refusal_of, answer, after}
+use Rattle.fm_registry_calls.specs.Tree.{Tree, Reads}
+use Rattle.fm_registry_calls.specs.declared.RegistryError.{RegistryError}
 
 -- The metric declared a type that it may declare. For every book that the registry read, the result is the book's, or
 -- there was no memory; at `Ok` the registry reads the book after the call, and at `Err` it is as it was.

@@ -1,9 +1,9 @@
 -- A call at one registry, as a call of the book.
 use Rattle.std.specs.String.{string_bytes}
-use Rattle.fm_text.specs.Samples.{labels_of}
-use Rattle.fm_book.specs.Texts.{Path}
-use Rattle.fm_book.specs.Book as book
-use Rattle.fm_book.specs.Book.{Call}
+use Rattle.fm_exposition.specs.Samples.{labels_of}
+use Rattle.fm_registry_calls.specs.Texts.{Path}
+use Rattle.fm_registry_calls.specs.Book as book
+use Rattle.fm_registry_calls.specs.Book.{Call}
 use Rattle.fm_registry.specs.View.{asked_metric}
 use Rattle.fm_registry.specs.declared.registry.run.Request as request
 

@@ -8,10 +8,10 @@ use Rattle.fm_grammar.specs.declared.MetricType.{MetricType}
 use Rattle.fm_raw.specs.declared.metadata.Metadata.{Metadata}
 use Rattle.fm_raw.specs.declared.metadata.Unit as unit
 use Rattle.fm_raw.specs.Units.{seen_unit}
-use Rattle.fm_text.specs.Samples.{labels_of}
-use Rattle.fm_book.specs.Texts.{Labels}
-use Rattle.fm_book.specs.Registration.{Registration}
-use Rattle.fm_book.specs.Tree.{Facts, Forest, Leaf, Child, Tree}
+use Rattle.fm_exposition.specs.Samples.{labels_of}
+use Rattle.fm_registry_calls.specs.Texts.{Labels}
+use Rattle.fm_registry_calls.specs.Registration.{Registration}
+use Rattle.fm_registry_calls.specs.Tree.{Facts, Forest, Leaf, Child, Tree}
 use Rattle.fm_registry.specs.Lists.{items_of}
 use Rattle.fm_registry.specs.declared.names.Tailed.{Tailed}
 use Rattle.fm_registry.specs.declared.registry.Registry.TheInside.{Inside}

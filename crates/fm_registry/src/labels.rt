@@ -5,14 +5,14 @@ ghost use Rattle.std.specs.Option.{option_map};
 ghost use Rattle.std.specs.Str.{bytes_eq};
 ghost use Rattle.std.specs.String.{string_bytes};
 ghost use Rattle.fm_grammar.specs.NameTests.{is_label_name as label_name_test};
-ghost use Rattle.fm_text.specs.Samples.{label_of, labels_of};
-ghost use Rattle.fm_book.specs.Texts.{has_name, join_name, merge_labels, set_label as label_set};
-ghost use Rattle.fm_book.specs.Answer.{refusal_of, first_bad_label, label_refusal_behind, root_labels_refusal};
+ghost use Rattle.fm_exposition.specs.Samples.{label_of, labels_of};
+ghost use Rattle.fm_registry_calls.specs.Texts.{has_name, join_name, merge_labels, set_label as label_set};
+ghost use Rattle.fm_registry_calls.specs.Answer.{refusal_of, first_bad_label, label_refusal_behind, root_labels_refusal};
 ghost use Rattle.fm_registry.specs.RootLabels.{IsRefusedAt, label_fault};
 ghost use Rattle.fm_registry.specs.View.{seen_labels};
 
-use fm_book::RegistryError;
 use fm_raw::is_label_name;
+use fm_registry_calls::RegistryError;
 use std::alloc::{AllocError, Global};
 
 // The namespace and the name, joined by an underscore.

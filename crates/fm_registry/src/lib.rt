@@ -10,7 +10,7 @@ mod lists;
 mod names;
 pub mod registry;
 
-pub use fm_book::RegistryError;
 pub use fm_raw::{MetricType, Unit};
+pub use fm_registry_calls::RegistryError;
 pub use listing::ListedMetric;
 pub use registry::{Registry, RegistryBuilder, RegistryCall, RegistrySubsystemBuilder, Subsystem};

@@ -2,7 +2,7 @@
 ghost use Rattle.std.specs.Prelude.{◌≡◌, ◌++◌, OnOk};
 ghost use Rattle.std.specs.Option.{option_map};
 ghost use Rattle.std.specs.String.{string_bytes};
-ghost use Rattle.fm_book.specs.Listing.{listed_with};
+ghost use Rattle.fm_registry_calls.specs.Listing.{listed_with};
 ghost use Rattle.fm_registry.specs.View.{seen_metrics, seen_labels};
 ghost use Rattle.fm_registry.specs.Seen.{seen_list};
 

@@ -39,15 +39,15 @@ pub struct Subsystem<M = Box<dyn EncodeMetric>> {
 }
 
 impl<M> Model for Registry<M> {
-    ghost use Rattle.fm_book.specs.Tree.{Tree};
-    ghost use Rattle.fm_book.specs.TreeCode.{tree_code};
+    ghost use Rattle.fm_registry_calls.specs.Tree.{Tree};
+    ghost use Rattle.fm_registry_calls.specs.TreeCode.{tree_code};
 
     ghost Value = { Tree M };
 
     ghost coded = { tree_code M.code };
 
     ghost use Rattle.fm_registry.specs.View.{tree_of};
-    ghost use Rattle.fm_book.specs.Tree.{tree_size};
+    ghost use Rattle.fm_registry_calls.specs.Tree.{tree_size};
 
     ghost view = { tree_of };
 
@@ -89,10 +89,10 @@ impl<M> Debug for Registry<M> {
 impl<M> Registry<M> {
     ghost use Rattle.std.specs.Prelude.{◌≡◌, ◌++◌, [], OnOk, IfOk};
     ghost use Rattle.std.specs.Option.{option_map};
-    ghost use Rattle.fm_text.specs.Samples.{labels_of};
-    ghost use Rattle.fm_book.specs.Book.{namespace_at, labels_at};
-    ghost use Rattle.fm_book.specs.Tree.{Shows};
-    ghost use Rattle.fm_book.specs.Listing.{own_metrics, listed_tree, order};
+    ghost use Rattle.fm_exposition.specs.Samples.{labels_of};
+    ghost use Rattle.fm_registry_calls.specs.Book.{namespace_at, labels_at};
+    ghost use Rattle.fm_registry_calls.specs.Tree.{Shows};
+    ghost use Rattle.fm_registry_calls.specs.Listing.{own_metrics, listed_tree, order};
     ghost use Rattle.fm_registry.specs.HasBook.{HasBook};
     ghost use Rattle.fm_registry.specs.Seen.{seen_list};
 

@@ -1,6 +1,6 @@
 -- A last label whose value may be left out.
 use Rattle.std.proofs.Common.{◌⊎◌, inl, inr, [], ◌∷◌, Option, None, Some, MatchOption, Result}
-use Rattle.fm_text.specs.declared.error.EncodeError.{EncodeError}
+use Rattle.fm_encode_error.specs.declared.EncodeError.{EncodeError}
 use Rattle.fm_encoder.specs.Labels.{HandedLabel}
 use Rattle.fm_encoder.specs.Gathered.{GatheredLabels}
 use Rattle.fm_encoder.specs.Hands.{HandsLabels}

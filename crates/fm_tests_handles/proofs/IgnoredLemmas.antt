@@ -1,7 +1,7 @@
 -- Metrics that go on after a refusal, and answer `Ok`.
 use Rattle.std.proofs.Common.{◌≡◌, ◌∙◌, ◌++◌, inl, inr, List, [], ◌∷◌, Result, Ok, refl, sym, ap}
 use Rattle.fm_encoder.proofs.Cases.{option_cases}
-use Rattle.fm_text.specs.declared.error.EncodeError.{EncodeError}
+use Rattle.fm_encode_error.specs.declared.EncodeError.{EncodeError}
 use Rattle.fm_encoder.specs.Points.{Member, Context, MembersFault}
 use Rattle.fm_encoder.specs.Gathered.{GatheredMembers, answer}
 use Rattle.fm_encoder.specs.Hands.{HandsMembers, Joined}

@@ -1,6 +1,6 @@
 -- What is promised of points, under a weaker declaration of errors.
 use Rattle.std.proofs.Common.{inl, inr, List, Result}
-use Rattle.fm_text.specs.declared.error.EncodeError.{EncodeError}
+use Rattle.fm_encode_error.specs.declared.EncodeError.{EncodeError}
 use Rattle.fm_encoder.specs.Points.{Point}
 use Rattle.fm_encoder.specs.Gathered.{GatheredPoints}
 use Rattle.fm_encoder.specs.Hands.{HandsPoints}

@@ -3,7 +3,7 @@ ghost use Rattle.std.specs.Prelude.{◌≡◌, [], ◌∷◌, decimal, replicate
 ghost use Rattle.std.specs.String.{string_bytes};
 ghost use Rattle.fastmetrics.specs.Labels.{NamePiece, ValuePiece};
 ghost use Rattle.fastmetrics.specs.Buckets.{slots_of};
-ghost use Rattle.fm_text.specs.declared.error.EncodeError.{EncodeError};
+ghost use Rattle.fm_encode_error.specs.declared.EncodeError.{EncodeError};
 ghost use Rattle.fm_tests_histograms.specs.OwnBuckets.{own_point};
 
 use fastmetrics::encoder::{EncodeError, EncodeMetric, EncodePoint, MetricEncoder, PointEncoder};

@@ -1,8 +1,8 @@
 -- Two exemplars that one object hands over.
 use Rattle.std.proofs.Common.{◌≡◌, ◌≤◌, ◌<◌, zero, suc, List, [], ◌∷◌, ◌++◌, map, length, Contains, None, Result, Ok, ◌⊎◌, inl, inr, ap, subst, ◌∙◌, append_assoc, length-append, arith}
 use Rattle.fm_grammar.specs.Exposition.{Exemplar}
-use Rattle.fm_text.specs.declared.error.EncodeError.{EncodeError}
-use Rattle.fm_text.specs.declared.error.EncodeError.TheVariants.{ExemplarTwice}
+use Rattle.fm_encode_error.specs.declared.EncodeError.{EncodeError}
+use Rattle.fm_encode_error.specs.declared.EncodeError.TheVariants.{ExemplarTwice}
 use Rattle.fm_encoder.specs.Points.{HandedExemplar, ExemplarPartsFault, written_as}
 use Rattle.fm_encoder.specs.Gathered.{GatheredExemplars, OwnRefusal}
 use Rattle.fm_encoder.specs.Hands.{HandsExemplars}

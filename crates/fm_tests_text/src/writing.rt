@@ -2,12 +2,13 @@ ghost use Rattle.std.specs.Prelude.{◌≡◌, ◌++◌, [], IfOk, OnOk};
 ghost use Rattle.std.specs.List.{AllByRecursion};
 ghost use Rattle.fm_grammar.specs.WellFormed.{AreLabels, IsSample};
 ghost use Rattle.fm_grammar.specs.declared.MetricType.TheVariants.{Counter};
-ghost use Rattle.fm_text.specs.Samples.{label_of, labels_of};
+ghost use Rattle.fm_exposition.specs.Samples.{label_of, labels_of};
 
+use fm_encode_error::EncodeError;
+use fm_exposition::{Exposition, SampleStore, Value, make};
 use fm_grammar::{MetricType, SampleKind};
 use fm_raw::fixed::Fixed;
-use fm_sink::encode_exposition;
-use fm_text::{EncodeError, Exposition, SampleStore, Value, make};
+use fm_writer::encode_exposition;
 use std::alloc::{AllocError, Global};
 use std::io::{self, ErrorKind, Write};
 use std::sync::Arc;

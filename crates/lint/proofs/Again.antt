@@ -5,7 +5,7 @@ use Rattle.fm_grammar.specs.Exposition.{Text, Exposition}
 use Rattle.fm_grammar.specs.Document.{IsDocument}
 use Rattle.fm_grammar.specs.Reading.{IsExposition}
 use Rattle.fm_grammar.proofs.Spellings.{document_spelling}
-use Rattle.fm_text.specs.Written.{AppendsDocument}
+use Rattle.fm_exposition.specs.Written.{AppendsDocument}
 use Rattle.lint.specs.Documents.{PrintsAgain}
 
 pub again : (old new : Option Text) (text : Text) (e : Exposition) → IsExposition e × IsDocument text e → AppendsDocument old new e → PrintsAgain old new text

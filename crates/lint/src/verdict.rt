@@ -3,7 +3,7 @@ ghost use Rattle.std.specs.Prelude.{◌≡◌, ◌≤◌};
 ghost use Rattle.lint.specs.Documents.{PrintsAgain};
 
 use fm_reader::{ReadError, read};
-use fm_sink::encode_exposition;
+use fm_writer::encode_exposition;
 use std::alloc::Global;
 use std::io::Write;
 use std::str;

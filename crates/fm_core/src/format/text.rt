@@ -3,11 +3,11 @@ ghost use Rattle.std.specs.Prelude.{◌≡◌, ◌⊎◌, None, OnOk, IfOk, IfEr
 ghost use Rattle.std.specs.Option.{option_copied};
 ghost use Rattle.std.specs.Io.KnownBytes.{Keeps};
 ghost use Rattle.fm_grammar.specs.Reading.{IsNewName};
-ghost use Rattle.fm_text.specs.declared.error.EncodeError.{EncodeError};
-ghost use Rattle.fm_text.specs.Samples.{labels_of};
-ghost use Rattle.fm_text.specs.Written.{IsWritersFault};
-ghost use Rattle.fm_book.specs.Listing.{listed_name, order, IsListable};
-ghost use Rattle.fm_book.specs.Tree.{Shows};
+ghost use Rattle.fm_encode_error.specs.declared.EncodeError.{EncodeError};
+ghost use Rattle.fm_exposition.specs.Samples.{labels_of};
+ghost use Rattle.fm_exposition.specs.Written.{IsWritersFault};
+ghost use Rattle.fm_registry_calls.specs.Listing.{listed_name, order, IsListable};
+ghost use Rattle.fm_registry_calls.specs.Tree.{Shows};
 ghost use Rattle.fm_registry.specs.Seen.{seen_listed};
 ghost use Rattle.fm_registry.specs.View.{seen_labels};
 ghost use Rattle.fm_registry.specs.HasBook.{HasBook};
@@ -18,12 +18,13 @@ ghost use Rattle.fm_core.specs.Encoded.{WritesAdmitted, BeginsAdmitted};
 
 use crate::document::{document_lines, write_lines};
 use crate::family::MetricFamilyEncoder;
+pub use fm_encode_error::EncodeError;
 use fm_encoder::EncodeMetric;
+pub use fm_exposition::{Exemplar, Exposition, FamilySamples, Sample, Value};
 pub use fm_grammar::SampleKind;
 use fm_raw::Metadata;
 use fm_registry::{ListedMetric, Registry};
-pub use fm_sink::encode_exposition;
-pub use fm_text::{EncodeError, Exemplar, Exposition, FamilySamples, Sample, Value};
+pub use fm_writer::encode_exposition;
 use std::alloc::Global;
 use std::io::Write;
 

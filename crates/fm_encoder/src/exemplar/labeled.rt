@@ -5,8 +5,8 @@ ghost use Rattle.fm_encoder.specs.Points.{millis};
 
 use crate::exemplar::{EncodeExemplar, ExemplarEncoder};
 use crate::label_set::EncodeLabelSet;
+use fm_encode_error::EncodeError;
 use fm_raw::fixed::Fixed;
-use fm_text::EncodeError;
 use std::time::Duration;
 
 /// An observation under labels, mostly of the trace that it belongs to.

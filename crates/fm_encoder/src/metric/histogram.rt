@@ -10,8 +10,8 @@ use crate::exemplar::EncodeExemplar;
 use crate::metric::MetricEncoder;
 use crate::point::{EncodePoint, PointEncoder};
 use fm_bucket::Bucket;
+use fm_encode_error::EncodeError;
 use fm_raw::fixed::FixedSum;
-use fm_text::EncodeError;
 use std::time::Duration;
 
 // The point of a histogram's parts.

@@ -8,8 +8,8 @@ ghost use Rattle.fm_encoder.specs.Hands.{HandsMembers};
 use crate::metric::MetricEncoder;
 use crate::point::{EncodePoint, PointEncoder};
 use fm_bucket::Quantile;
+use fm_encode_error::EncodeError;
 use fm_raw::fixed::FixedSum;
-use fm_text::EncodeError;
 use std::time::Duration;
 
 // The point of a summary's parts.

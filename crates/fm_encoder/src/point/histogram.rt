@@ -5,7 +5,7 @@ ghost use Rattle.fm_grammar.specs.declared.MetricType.{MetricType};
 ghost use Rattle.fm_grammar.specs.WellFormed.{IsExemplar};
 ghost use Rattle.fm_grammar.specs.Exposition.{Whole};
 ghost use Rattle.fm_grammar.specs.declared.SampleKind.TheVariants.{Bucket as BucketKind};
-ghost use Rattle.fm_text.specs.Samples.{exemplar_of};
+ghost use Rattle.fm_exposition.specs.Samples.{exemplar_of};
 ghost use Rattle.fm_encoder.specs.Points.{HistogramPoint, GaugeHistogramPoint, millis, plain_sample, bound_label};
 ghost use Rattle.fm_encoder.specs.Gathered.{answer};
 ghost use Rattle.fm_encoder.specs.Hands.{HandsPoints};
@@ -15,9 +15,10 @@ ghost use Rattle.fm_encoder.specs.Buckets.{HasBuckets, slots_of, MaySlotsFault, 
 use crate::exemplar::{EncodeExemplar, exemplar_if_any};
 use crate::point::PointEncoder;
 use fm_bucket::{BUCKET_LABEL, Bound, Bucket};
+use fm_encode_error::EncodeError;
+use fm_exposition::{Exemplar, Value};
 use fm_grammar::{MetricType, SampleKind};
 use fm_raw::fixed::{FixedBuffer, FixedSum};
-use fm_text::{EncodeError, Exemplar, Value};
 use std::time::Duration;
 
 pub mod bare;

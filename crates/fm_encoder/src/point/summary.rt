@@ -9,9 +9,10 @@ ghost use Rattle.fm_encoder.specs.Steps.{PushesSample, PushesSamples};
 
 use crate::point::PointEncoder;
 use fm_bucket::{QUANTILE_LABEL, Quantile};
+use fm_encode_error::EncodeError;
+use fm_exposition::Value;
 use fm_grammar::{MetricType, SampleKind};
 use fm_raw::fixed::{FixedBuffer, FixedSum};
-use fm_text::{EncodeError, Value};
 use std::time::Duration;
 
 impl PointEncoder {

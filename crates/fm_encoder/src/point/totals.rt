@@ -4,16 +4,17 @@ ghost use Rattle.std.specs.Option.{option_map};
 ghost use Rattle.fm_grammar.specs.declared.MetricType.{MetricType};
 ghost use Rattle.fm_grammar.specs.WellFormed.{ValueFits};
 ghost use Rattle.fm_grammar.specs.Exposition.{Whole, Fixed as Millionths};
-ghost use Rattle.fm_text.specs.declared.exposition.Value.TheVariants.{Whole as WholeValue, Fixed as FixedValue};
+ghost use Rattle.fm_exposition.specs.declared.exposition.Value.TheVariants.{Whole as WholeValue, Fixed as FixedValue};
 ghost use Rattle.fm_encoder.specs.Points.{millis, count_sample, sum_sample, total_samples};
 ghost use Rattle.fm_encoder.specs.Gathered.{answer};
 ghost use Rattle.fm_encoder.specs.Steps.{PushesSamples};
 ghost use Rattle.fm_encoder.specs.Buckets.{HasTotals};
 
 use crate::point::PointEncoder;
+use fm_encode_error::EncodeError;
+use fm_exposition::Value;
 use fm_grammar::SampleKind;
 use fm_raw::fixed::FixedSum;
-use fm_text::{EncodeError, Value};
 use std::time::Duration;
 
 // The value of a count.

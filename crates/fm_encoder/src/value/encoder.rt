@@ -1,15 +1,16 @@
 //! The encoders of one number, which differ in the calls that they have.
 ghost use Rattle.std.specs.Prelude.{◌≡◌, ◌⊎◌, pos, [], ◌∷◌, MatchResult, None, Some, Ok, Err};
 ghost use Rattle.fm_grammar.specs.Exposition.{Whole, Fixed as Millionths};
-ghost use Rattle.fm_text.specs.declared.error.EncodeError.{EncodeError};
-ghost use Rattle.fm_text.specs.Samples.{value_of};
+ghost use Rattle.fm_encode_error.specs.declared.EncodeError.{EncodeError};
+ghost use Rattle.fm_exposition.specs.Samples.{value_of};
 ghost use Rattle.fm_encoder.specs.Gathered.{answer, own_refusal};
 ghost use Rattle.fm_encoder.specs.Hands.{HandsNumbers};
 ghost use Rattle.fm_encoder.specs.Steps.{IsNumber};
 
 use crate::own::own_refusal;
+use fm_encode_error::EncodeError;
+use fm_exposition::Value;
 use fm_raw::fixed::{Fixed, FixedSum};
-use fm_text::{EncodeError, Value};
 use std::marker::{Model, PhantomData};
 
 /// A counter, whose value is not negative.
@@ -46,7 +47,7 @@ pub struct ValueEncoder<K> {
 impl<K> Model for ValueEncoder<K> {
     ghost use Rattle.std.specs.Prelude.{IfSome};
     ghost use Rattle.std.specs.Option.{option_to_list, option_map};
-    ghost use Rattle.fm_text.specs.Samples.{value_of};
+    ghost use Rattle.fm_exposition.specs.Samples.{value_of};
     ghost use Rattle.fm_encoder.specs.Gathered.{GatheredNumbers};
     ghost use Rattle.fm_encoder.specs.Steps.{IsNumber};
 

@@ -1,13 +1,14 @@
 //! The value of a gauge.
 ghost use Rattle.std.specs.Prelude.{◌≡◌, pos, List, [], ◌∷◌, MatchResult};
 ghost use Rattle.fm_grammar.specs.Exposition.{Value as Number, Whole, Fixed as Millionths};
-ghost use Rattle.fm_text.specs.Samples.{value_of};
+ghost use Rattle.fm_exposition.specs.Samples.{value_of};
 ghost use Rattle.fm_encoder.specs.Hands.{HandsNumbers};
 ghost use Rattle.fm_encoder.specs.Steps.{NumberRefusal, IsNumber};
 
 use crate::value::encoder::{OfGauge, ValueEncoder};
+use fm_encode_error::EncodeError;
+use fm_exposition::Value;
 use fm_raw::fixed::Fixed;
-use fm_text::{EncodeError, Value};
 
 /// Takes the value of a gauge: just one number.
 pub type GaugeValueEncoder = ValueEncoder<OfGauge>;

@@ -4,11 +4,11 @@ ghost use Rattle.std.specs.Option.{option_map};
 ghost use Rattle.std.specs.String.{string_bytes};
 ghost use Rattle.fm_raw.specs.Units.{seen_unit};
 ghost use Rattle.indexmap.specs.IndexMap.{get};
-ghost use Rattle.fm_book.specs.Registration.{is_same_metric, takes_no_unit as has_no_unit};
-ghost use Rattle.fm_book.specs.Answer.{refusal_of, name_refusal, has_metric, standing_refusal, metric_refusal, IsAnswered, answer, after};
-ghost use Rattle.fm_book.specs.Book.{Register};
-ghost use Rattle.fm_book.specs.Tree.{Reads, names_in};
-ghost use Rattle.fm_book.specs.Steps.{with_metric};
+ghost use Rattle.fm_registry_calls.specs.Registration.{is_same_metric, takes_no_unit as has_no_unit};
+ghost use Rattle.fm_registry_calls.specs.Answer.{refusal_of, name_refusal, has_metric, standing_refusal, metric_refusal, IsAnswered, answer, after};
+ghost use Rattle.fm_registry_calls.specs.Book.{Register};
+ghost use Rattle.fm_registry_calls.specs.Tree.{Reads, names_in};
+ghost use Rattle.fm_registry_calls.specs.Steps.{with_metric};
 ghost use Rattle.fm_registry.specs.Names.{refusal_beside};
 ghost use Rattle.fm_registry.specs.contracts.names.TailedPartialEq.TheImpl.{ghosts as tailed};
 ghost use Rattle.fm_registry.specs.View.{metrics_in, seen_metric, seen_metrics, asked, asked_metric};
@@ -17,9 +17,9 @@ ghost use Rattle.fm_registry.specs.Registers.{Registers};
 
 use super::Registry;
 use crate::names::Tailed;
-use fm_book::RegistryError;
 use fm_encoder::EncodeMetric;
 use fm_raw::{Metadata, MetricType, Unit, is_snake_case, is_unit_text};
+use fm_registry_calls::RegistryError;
 use indexmap::IndexMap;
 use std::alloc::Global;
 

@@ -1,21 +1,21 @@
 //! Registry calls made one after the other.
 ghost use Rattle.std.specs.Prelude.{◌≡◌, OnOk, OnErr, IfOk, None, true, [], map};
 ghost use Rattle.std.specs.String.{string_bytes};
-ghost use Rattle.fm_text.specs.Samples.{labels_of};
-ghost use Rattle.fm_book.specs.Answer.{refusal_of, asking_refusal, subsystem_refusal, after, IsAnswered};
-ghost use Rattle.fm_book.specs.Book.{Subsystem as AskSubsystem};
-ghost use Rattle.fm_book.specs.Texts.{has_name};
-ghost use Rattle.fm_book.specs.Tree.{Reads, names_in};
-ghost use Rattle.fm_book.specs.Steps.{with_subsystem};
-ghost use Rattle.fm_book.specs.Running.{IsReply, path_of};
+ghost use Rattle.fm_exposition.specs.Samples.{labels_of};
+ghost use Rattle.fm_registry_calls.specs.Answer.{refusal_of, asking_refusal, subsystem_refusal, after, IsAnswered};
+ghost use Rattle.fm_registry_calls.specs.Book.{Subsystem as AskSubsystem};
+ghost use Rattle.fm_registry_calls.specs.Texts.{has_name};
+ghost use Rattle.fm_registry_calls.specs.Tree.{Reads, names_in};
+ghost use Rattle.fm_registry_calls.specs.Steps.{with_subsystem};
+ghost use Rattle.fm_registry_calls.specs.Running.{IsReply, path_of};
 ghost use Rattle.fm_registry.specs.Request.{call_at};
 ghost use Rattle.fm_registry.specs.Calls.{RunsCall, RunsCalls};
 ghost use Rattle.fm_registry.specs.HasBook.{HasBook, Grows};
 
 use super::Registry;
-use fm_book::RegistryError;
 use fm_encoder::EncodeMetric;
 use fm_raw::{MetricType, Unit};
+use fm_registry_calls::RegistryError;
 use std::alloc::Global;
 
 /// A call at the registry that a path of subsystem names leads to, starting from the registry that runs the call.

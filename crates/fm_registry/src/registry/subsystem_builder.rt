@@ -2,22 +2,22 @@
 ghost use Rattle.std.specs.Prelude.{◌≡◌, true, IfOk, []};
 ghost use Rattle.std.specs.Borrow.{sem};
 ghost use Rattle.std.specs.String.{string_bytes};
-ghost use Rattle.fm_text.specs.Samples.{labels_of};
-ghost use Rattle.fm_book.specs.Answer.{refusal_of, name_or_depth_refusal, asking_refusal, subsystem_refusal, first_bad_label, after, IsAnswered};
-ghost use Rattle.fm_book.specs.Book.{Subsystem as AskSubsystem};
-ghost use Rattle.fm_book.specs.Texts.{has_name};
-ghost use Rattle.fm_book.specs.Tree.{Reads, names_in};
-ghost use Rattle.fm_book.specs.Steps.{with_subsystem};
-ghost use Rattle.fm_book.specs.Loan.{LoanReads};
+ghost use Rattle.fm_exposition.specs.Samples.{labels_of};
+ghost use Rattle.fm_registry_calls.specs.Answer.{refusal_of, name_or_depth_refusal, asking_refusal, subsystem_refusal, first_bad_label, after, IsAnswered};
+ghost use Rattle.fm_registry_calls.specs.Book.{Subsystem as AskSubsystem};
+ghost use Rattle.fm_registry_calls.specs.Texts.{has_name};
+ghost use Rattle.fm_registry_calls.specs.Tree.{Reads, names_in};
+ghost use Rattle.fm_registry_calls.specs.Steps.{with_subsystem};
+ghost use Rattle.fm_registry_calls.specs.Loan.{LoanReads};
 ghost use Rattle.fm_registry.specs.Building.{rests_if_refused, builder_rests, lends_built};
 ghost use Rattle.fm_registry.specs.HasBook.{HasBook};
 
 use super::subsystems::DEPTH_LIMIT;
 use super::{Registry, Subsystem};
 use crate::labels::tested_labels;
-use fm_book::RegistryError;
 use fm_encoder::EncodeMetric;
 use fm_raw::is_snake_case;
+use fm_registry_calls::RegistryError;
 use std::alloc::Global;
 
 /// Sets up a subsystem of a registry. It borrows the registry until the subsystem is built.

@@ -1,6 +1,6 @@
 use Rattle.std.proofs.Common.{sym, subst}
 use Rattle.std.specs.Option.{option_copied}
-use Rattle.fm_text.specs.Samples.{labels_of}
+use Rattle.fm_exposition.specs.Samples.{labels_of}
 use Rattle.fm_core.specs.Families.{heading_in}
 use Rattle.fm_core.proofs.DocumentLemmas.{family_added}
 use Rattle.fm_core.proofs.document.add_family.Goals as goal

@@ -1,6 +1,6 @@
-use Rattle.fm_text.specs.Written.{IsWritersFault}
-use Rattle.fm_text.proofs.ResultLemmas.{on_ok_more, if_err_more}
-use Rattle.fm_text.proofs.RowLemmas.{document_written}
+use Rattle.fm_exposition.specs.Written.{IsWritersFault}
+use Rattle.fm_exposition.proofs.ResultLemmas.{on_ok_more, if_err_more}
+use Rattle.fm_exposition.proofs.RowLemmas.{document_written}
 use Rattle.fm_core.proofs.document.write_lines.Goals as goal
 
 pub returns-clause-document : goal.returns-clause-document

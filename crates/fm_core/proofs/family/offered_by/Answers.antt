@@ -1,5 +1,5 @@
 use Rattle.std.proofs.Common.{Ok, Err, String, Global, sym, subst, string_bytes}
-use Rattle.fm_sink.specs.Output.{SinkState}
+use Rattle.fm_writer.specs.Output.{SinkState}
 use Rattle.fm_core.proofs.OfferedLemmas.{offered_made}
 use Rattle.fm_core.proofs.family.offered_by.Goals as goal
 

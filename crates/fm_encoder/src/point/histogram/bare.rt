@@ -8,9 +8,9 @@ ghost use Rattle.fm_encoder.specs.Buckets.{HasBuckets, PushesBuckets};
 
 use crate::point::PointEncoder;
 use fm_bucket::Bucket;
+use fm_encode_error::EncodeError;
 use fm_grammar::{MetricType, SampleKind};
 use fm_raw::fixed::FixedSum;
-use fm_text::EncodeError;
 use std::time::Duration;
 
 /// Hands over a histogram's point as `PointEncoder::encode_histogram` does where each slot is empty, and takes no list of such slots.

@@ -1,6 +1,6 @@
 use Rattle.std.proofs.Common.{◌≤◌, sym, subst, true≢false}
 use Rattle.fm_grammar.specs.WellFormed.{label_code_points}
-use Rattle.fm_text.specs.Samples.{labels_of}
+use Rattle.fm_exposition.specs.Samples.{labels_of}
 use Rattle.fm_reader_lines.proofs.Exemplars.{body_long, body_no_value, body_no_time, body_more, tail_some}
 use Rattle.fm_reader_lines.proofs.exemplar.read_body.Goals as goal
 

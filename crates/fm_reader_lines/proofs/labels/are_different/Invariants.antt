@@ -1,6 +1,6 @@
 use Rattle.std.proofs.Common.{take, map}
 use Rattle.fm_grammar.specs.Names.{AllDifferent}
-use Rattle.fm_text.specs.Samples.{labels_of}
+use Rattle.fm_exposition.specs.Samples.{labels_of}
 use Rattle.fm_reader_lines.proofs.NameSets.{Holds}
 use Rattle.fm_reader_lines.proofs.labels.are_different.Given as goal
 

@@ -1,6 +1,6 @@
 use Rattle.std.proofs.Common.{None, Some, lit<, ap, arith}
 use Rattle.std.proofs.lemmas.Str.Pattern.{strip_prefix_char}
-use Rattle.fm_text.specs.Samples.{label_of, labels_of}
+use Rattle.fm_exposition.specs.Samples.{label_of, labels_of}
 use Rattle.fm_reader_lines.proofs.Blocks.{no_block, block_no_braces, block_empty, block_found, empty_list, not_empty_list, map_empty}
 use Rattle.fm_reader_lines.proofs.labels.read_block.Goals as goal
 

@@ -1,7 +1,7 @@
 use Rattle.std.proofs.Common.{None, lit<, sym, subst, ◌∙◌, map, true≢false}
 use Rattle.std.proofs.lemmas.Str.Pattern.{strip_prefix_char}
 use Rattle.fm_grammar.specs.Names.{AllDifferent}
-use Rattle.fm_text.specs.Samples.{labels_of}
+use Rattle.fm_exposition.specs.Samples.{labels_of}
 use Rattle.fm_reader_lines.proofs.Blocks.{braces_twice, braces_no_space}
 use Rattle.fm_reader_lines.proofs.labels.read_braces.Goals as goal
 

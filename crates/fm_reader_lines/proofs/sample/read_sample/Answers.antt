@@ -1,5 +1,5 @@
 use Rattle.std.proofs.Common.{Some}
-use Rattle.fm_text.specs.Samples.{labels_of}
+use Rattle.fm_exposition.specs.Samples.{labels_of}
 use Rattle.fm_reader_lines.specs.Samples.{shown_of}
 use Rattle.fm_reader_lines.proofs.HelpLines.{strip_prefix_text}
 use Rattle.fm_reader_lines.proofs.SampleLines.{other_block, other_values, sample_found}

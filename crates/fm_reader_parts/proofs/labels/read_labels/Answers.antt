@@ -1,7 +1,7 @@
 use Rattle.std.proofs.Common.{ap, ◌∙◌, ◌≡◌, Some, None, lit<, rules}
 use Rattle.std.proofs.lemmas.List.{map-append}
 use Rattle.std.proofs.lemmas.Str.Pattern.{strip_prefix_char}
-use Rattle.fm_text.specs.Samples.{label_of, labels_of}
+use Rattle.fm_exposition.specs.Samples.{label_of, labels_of}
 use Rattle.fm_reader_parts.proofs.LabelLists.{no_label, no_end, labels_end, labels_named, labels_more, start_named, start_text}
 use Rattle.fm_reader_parts.proofs.labels.read_labels.Goals as goal
 

@@ -3,7 +3,7 @@ use Rattle.std.specs.Option.{option_map}
 use Rattle.std.specs.String.{string_bytes}
 use Rattle.fm_registry.specs.View.{seen_metrics, seen_labels}
 use Rattle.fm_registry.specs.Seen.{seen_list}
-use Rattle.fm_book.specs.Listing.{listed_with}
+use Rattle.fm_registry_calls.specs.Listing.{listed_with}
 use Rattle.fm_registry.proofs.listing.list_metrics.Given as goal
 
 abbrev pub invariant-loop-index : goal.invariant-loop-index

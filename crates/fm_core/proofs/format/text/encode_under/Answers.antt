@@ -1,6 +1,6 @@
 use Rattle.std.proofs.Common.{◌≡◌, None, ap, ◌∙◌}
 use Rattle.std.specs.Option.{option_copied}
-use Rattle.fm_text.specs.Samples.{labels_of}
+use Rattle.fm_exposition.specs.Samples.{labels_of}
 use Rattle.fm_core.specs.Families.{heading_in, next_heading}
 use Rattle.fm_core.proofs.CollectLemmas.{refused_under}
 use Rattle.fm_core.proofs.format.text.encode_under.Goals as goal

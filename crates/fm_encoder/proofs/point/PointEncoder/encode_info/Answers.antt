@@ -1,5 +1,5 @@
 use Rattle.std.proofs.Common.{◌++◌, ℕ, ap, ◌∙◌, drop, length, map}
-use Rattle.fm_text.specs.Samples.{shown_label}
+use Rattle.fm_exposition.specs.Samples.{shown_label}
 use Rattle.fm_encoder.specs.Labels.{all_written}
 use Rattle.fm_encoder.proofs.NameLemmas.{AreLabels-behind, own_of_all}
 use Rattle.fm_encoder.proofs.point.PointEncoder.encode_info.Goals as goal

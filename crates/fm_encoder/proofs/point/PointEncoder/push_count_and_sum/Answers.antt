@@ -1,6 +1,6 @@
 use Rattle.std.proofs.Common.{◌∷◌, [], ap, subst, sym}
 use Rattle.fm_grammar.specs.declared.MetricType.{MetricType}
-use Rattle.fm_text.specs.Samples.{value_of}
+use Rattle.fm_exposition.specs.Samples.{value_of}
 use Rattle.fm_encoder.specs.Points.{Setting, plain_sample, count_sample, sum_sample}
 use Rattle.fm_encoder.specs.Buckets.{HasTotals}
 use Rattle.fm_encoder.proofs.Cases.{none_from_answer}

@@ -1,6 +1,6 @@
 use Rattle.std.proofs.Common.{◌++◌, subst, sym, map}
 use Rattle.fm_grammar.specs.WellFormed.{AreLabels}
-use Rattle.fm_text.specs.Samples.{shown_label}
+use Rattle.fm_exposition.specs.Samples.{shown_label}
 use Rattle.fm_encoder.specs.Labels.{AreFree}
 use Rattle.fm_encoder.specs.Gathered.{GatheredPoints}
 use Rattle.fm_encoder.proofs.point.PointEncoder.push_labeled.Goals as goal

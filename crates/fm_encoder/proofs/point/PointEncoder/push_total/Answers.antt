@@ -2,7 +2,7 @@ use Rattle.std.proofs.Common.{List, [], refl}
 use Rattle.fm_grammar.specs.Exposition.{Label}
 use Rattle.std.specs.Option.{option_map}
 use Rattle.fm_grammar.specs.declared.SampleKind.TheVariants.{Total}
-use Rattle.fm_text.specs.Samples.{value_of, exemplar_of}
+use Rattle.fm_exposition.specs.Samples.{value_of, exemplar_of}
 use Rattle.fm_encoder.specs.Points.{Setting, millis, plain_sample, created_samples}
 use Rattle.fm_encoder.proofs.Cases.{none_from_answer}
 use Rattle.fm_encoder.proofs.BucketLemmas.{PushesSamples-after}

@@ -1,11 +1,11 @@
 use Rattle.std.proofs.Common.{sym, ap, ◌∙◌}
 use Rattle.std.specs.String.{string_bytes}
-use Rattle.fm_book.specs.Steps.{place_in}
-use Rattle.fm_book.specs.Answer.{refusal_of}
-use Rattle.fm_book.specs.Running.{path_of}
+use Rattle.fm_registry_calls.specs.Steps.{place_in}
+use Rattle.fm_registry_calls.specs.Answer.{refusal_of}
+use Rattle.fm_registry_calls.specs.Running.{path_of}
 use Rattle.fm_registry.specs.Request.{call_at}
-use Rattle.fm_book.proofs.ForestLemmas.{place_in-IsPlace}
-use Rattle.fm_book.proofs.ApplyLemmas.{apply-reply, apply-ok, apply-err}
+use Rattle.fm_registry_calls.proofs.ForestLemmas.{place_in-IsPlace}
+use Rattle.fm_registry_calls.proofs.ApplyLemmas.{apply-reply, apply-ok, apply-err}
 use Rattle.fm_registry.proofs.RequestLemmas.{call_at-pop, request-missing}
 use Rattle.fm_registry.proofs.registry.Registry.+apply.Goals as goal
 

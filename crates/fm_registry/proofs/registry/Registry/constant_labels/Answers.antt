@@ -1,5 +1,5 @@
 use Rattle.std.proofs.Common.{[], sym, ap, ◌∙◌}
-use Rattle.fm_text.specs.Samples.{labels_of}
+use Rattle.fm_exposition.specs.Samples.{labels_of}
 use Rattle.fm_registry.specs.View.{seen_labels}
 use Rattle.fm_registry.proofs.registry.Registry.constant_labels.Goals as goal
 

@@ -1,0 +1,68 @@
+use Rattle.std.proofs.Common.{rules, ◌≡◌, ◌+◌, ◌^◌, ◌<◌, ◌++◌, ◌∷◌, [], length, true, refl, sym, subst}
+use Rattle.fm_exposition.specs.declared.store.SampleStore.TheInside.{Inside}
+use Rattle.fm_exposition.specs.Points.{IsCut}
+use Rattle.fm_exposition.specs.Samples.{shared_labels}
+use Rattle.fm_exposition.proofs.PointLemmas.{cut_begun, cut_pushed, last_count}
+use Rattle.fm_exposition.proofs.store.SampleStore.push.Goals as goal
+use Rattle.fm_exposition.proofs.store.SampleStore.push.Goals.{then-not-self+in_ok-push, else-not-self}
+
+-- a point is current
+abbrev HasPoint : Inside → Type 0
+HasPoint s = (s.is_under_way ≡ true) × IsCut (shared_labels s.common) true s.counts.items s.samples.items
+
+pub invariant_of-self-in_err-common : goal.invariant_of-self-in_err-common
+invariant_of-self-in_err-common c =
+    let inside = c.self.inside in
+    let has : HasPoint c.if-not-self.self-inside = elim c.if-not-self.branch as (λ _. HasPoint c.if-not-self.self-inside) [
+      | then-not-self+in_ok-push w ↦
+          (let more : w.push.new.self.items ≡ inside.counts.items ++ 0 ∷ [] = search rules in
+          subst HasPoint (sym w.self-inside-is) (refl, rw more (cut_begun (shared_labels inside.common) inside.is_under_way inside.counts.items inside.samples.items c.self.invariant)))
+      | else-not-self w ↦
+          (let begun : inside.is_under_way ≡ true = search rules in
+          subst HasPoint (sym w.self-inside-is) (begun, rw begun at c.self.invariant))
+    ] in
+    rw has.0 has.1
+
+pub invariant_of-self-in_err-push-2 : goal.invariant_of-self-in_err-push-2
+invariant_of-self-in_err-push-2 c =
+    let inside = c.self.inside in
+    let has : HasPoint c.if-not-self.self-inside = elim c.if-not-self.branch as (λ _. HasPoint c.if-not-self.self-inside) [
+      | then-not-self+in_ok-push w ↦
+          (let more : w.push.new.self.items ≡ inside.counts.items ++ 0 ∷ [] = search rules in
+          subst HasPoint (sym w.self-inside-is) (refl, rw more (cut_begun (shared_labels inside.common) inside.is_under_way inside.counts.items inside.samples.items c.self.invariant)))
+      | else-not-self w ↦
+          (let begun : inside.is_under_way ≡ true = search rules in
+          subst HasPoint (sym w.self-inside-is) (begun, rw begun at c.self.invariant))
+    ] in
+    let same : c.push-2.new.self.items ≡ c.if-not-self.self-inside.samples.items = search rules in
+    rw (has.0, same) has.1
+
+pub count_one-requires : goal.count_one-requires
+count_one-requires c =
+    let inside = c.self.inside in
+    let has : HasPoint c.if-not-self.self-inside = elim c.if-not-self.branch as (λ _. HasPoint c.if-not-self.self-inside) [
+      | then-not-self+in_ok-push w ↦
+          (let more : w.push.new.self.items ≡ inside.counts.items ++ 0 ∷ [] = search rules in
+          subst HasPoint (sym w.self-inside-is) (refl, rw more (cut_begun (shared_labels inside.common) inside.is_under_way inside.counts.items inside.samples.items c.self.invariant)))
+      | else-not-self w ↦
+          (let begun : inside.is_under_way ≡ true = search rules in
+          subst HasPoint (sym w.self-inside-is) (begun, rw begun at c.self.invariant))
+    ] in
+    let s = c.if-not-self.self-inside in
+    let fits : length s.samples.items + 1 < 2 ^ 64 = search rules in
+    last_count (shared_labels s.common) s.counts.items s.samples.items has.1 fits
+
+pub invariant_of-self-2 : goal.invariant_of-self-2
+invariant_of-self-2 c =
+    let inside = c.self.inside in
+    let has : HasPoint c.if-not-self.self-inside = elim c.if-not-self.branch as (λ _. HasPoint c.if-not-self.self-inside) [
+      | then-not-self+in_ok-push w ↦
+          (let more : w.push.new.self.items ≡ inside.counts.items ++ 0 ∷ [] = search rules in
+          subst HasPoint (sym w.self-inside-is) (refl, rw more (cut_begun (shared_labels inside.common) inside.is_under_way inside.counts.items inside.samples.items c.self.invariant)))
+      | else-not-self w ↦
+          (let begun : inside.is_under_way ≡ true = search rules in
+          subst HasPoint (sym w.self-inside-is) (begun, rw begun at c.self.invariant))
+    ] in
+    let s = c.if-not-self.self-inside in
+    let same : shared_labels c.in_ok-common.common ≡ shared_labels s.common = search rules in
+    rw (has.0, c.in_ok-push-2.ensures.items) (cut_pushed (shared_labels s.common) s.counts.items c.count_one.new.counts.items s.samples.items _ has.1 same c.count_one.ensures)

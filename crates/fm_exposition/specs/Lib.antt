@@ -1,0 +1,11 @@
+pub use Rattle.fm_grammar.specs.Exposition
+pub use Rattle.fm_grammar.specs.WellFormed
+pub use Rattle.fm_grammar.specs.Document
+pub use Rattle.fm_grammar.specs.Law
+pub mod Samples
+pub mod Points
+pub mod Families
+pub mod Same
+pub mod SameLaws
+pub mod Rows
+pub mod Written

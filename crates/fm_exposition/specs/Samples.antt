@@ -1,0 +1,62 @@
+-- How contracts see labels, values, exemplars and samples.
+use Rattle.std.specs.Prelude.{List, ◌++◌, map}
+use Rattle.std.specs.Arc.{arc_value}
+use Rattle.std.specs.Option.{option_map}
+use Rattle.std.specs.String.{string_bytes}
+use Rattle.std.specs.Borrow.{Bor}
+use Rattle.std.specs.declared.string.String.{String}
+use Rattle.std.specs.declared.alloc.Global.{Global}
+use Rattle.std.specs.declared.sync.Arc.{Arc}
+use Rattle.std.specs.declared.vec.Vec.{Vec}
+use Rattle.fm_grammar.specs.Exposition as grammar
+use Rattle.fm_grammar.specs.Exposition.{Text, Label}
+use Rattle.fm_exposition.specs.declared.exposition.Value.{Value}
+use Rattle.fm_exposition.specs.declared.exposition.Value.TheVariants.{Whole, Fixed, Millis}
+use Rattle.fm_exposition.specs.declared.exposition.Exemplar.{Exemplar}
+use Rattle.fm_exposition.specs.declared.exposition.Sample.{Sample}
+
+-- a label kept as two strings
+abbrev pub label_of : String Global × String Global → Label
+label_of pair = record { name = string_bytes pair.0; value = string_bytes pair.1 }
+
+abbrev pub labels_of : List (String Global × String Global) → List Label
+labels_of pairs = map label_of pairs
+
+-- a label borrowed as two texts
+abbrev pub shown_label : Bor Text × Bor Text → Label
+shown_label pair = record { name = pair.0.now; value = pair.1.now }
+
+abbrev pub value_of : Value → grammar.Value
+value_of (Whole z) = grammar.Whole z
+value_of (Fixed z) = grammar.Fixed z
+value_of (Millis t) = grammar.Millis t
+
+abbrev pub exemplar_of : Exemplar → grammar.Exemplar
+exemplar_of exemplar = record { labels = labels_of exemplar.labels.items; value = exemplar.value; time = exemplar.time }
+
+-- a borrowed exemplar
+abbrev pub exemplar_at : Bor Exemplar → grammar.Exemplar
+exemplar_at exemplar = exemplar_of exemplar.now
+
+-- labels that samples share
+abbrev pub shared_labels : Arc (Vec (String Global × String Global) Global) Global → List Label
+shared_labels shared = labels_of (arc_value shared).items
+
+-- the labels that a sample shares with its point's other samples
+abbrev pub common_labels : Sample → List Label
+common_labels sample = shared_labels sample.common
+
+abbrev pub own_labels : Sample → List Label
+own_labels sample = labels_of sample.own.items
+
+abbrev pub sample_of : Sample → grammar.Sample
+sample_of sample = record {
+  kind = sample.kind;
+  labels = common_labels sample ++ own_labels sample;
+  value = value_of sample.value;
+  time = sample.time;
+  exemplar = option_map exemplar_of sample.exemplar;
+}
+
+abbrev pub samples_of : List Sample → List grammar.Sample
+samples_of samples = map sample_of samples

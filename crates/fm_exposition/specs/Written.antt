@@ -1,0 +1,39 @@
+-- What a call has written into a writer.
+use Rattle.std.specs.Prelude.{◌≡◌, ◌++◌, Option}
+use Rattle.std.specs.Io.KnownBytes.{Appends}
+use Rattle.fm_grammar.specs.Exposition.{Text, Exposition}
+use Rattle.fm_grammar.specs.Law.{IsDocumentOf}
+use Rattle.fm_encode_error.specs.declared.EncodeError.{EncodeError}
+use Rattle.fm_encode_error.specs.declared.EncodeError.TheVariants.{Memory, Write, WriteZero}
+
+-- the whole text was appended, except for the rest
+pub record AppendsAllBut (rest : Text) (old new : Option Text) (whole : Text) : Type 0 where
+  pub front : Text
+  pub appended : Appends old new front
+  pub is : front ++ rest ≡ whole
+
+-- a beginning of the text was appended
+pub record AppendsBeginning (old new : Option Text) (whole : Text) : Type 0 where
+  pub rest : Text
+  pub appended : AppendsAllBut rest old new whole
+
+-- the errors of a writer
+abbrev pub IsWritersFault : EncodeError → Type 0
+IsWritersFault Write = Unit {0}
+IsWritersFault WriteZero = Unit {0}
+IsWritersFault _ = ⊥
+
+-- the document was appended
+abbrev pub AppendsDocument : Option Text → Option Text → Exposition → Type 0
+AppendsDocument old new e = (text : Text) × IsDocumentOf text e × Appends old new text
+
+-- a beginning of the document was appended
+abbrev pub BeginsDocument : Option Text → Option Text → Exposition → Type 0
+BeginsDocument old new e = (text : Text) × IsDocumentOf text e × AppendsBeginning old new text
+
+-- the errors of a call that writes
+abbrev pub IsWritingRefusal : EncodeError → Type 0
+IsWritingRefusal Memory = Unit {0}
+IsWritingRefusal Write = Unit {0}
+IsWritingRefusal WriteZero = Unit {0}
+IsWritingRefusal _ = ⊥

@@ -1,0 +1,245 @@
+//! Expositions: families, their samples and the samples' exemplars.
+ghost use Rattle.std.specs.Prelude.{◌≡◌, ◌++◌, length, slice_get};
+ghost use Rattle.std.specs.Option.{option_copied, option_map};
+ghost use Rattle.fm_grammar.specs.Reading.{IsExposition};
+ghost use Rattle.fm_exposition.specs.Points.{AreInPoints};
+ghost use Rattle.fm_exposition.specs.Samples.{labels_of, value_of, exemplar_of, sample_of, samples_of, shown_label, exemplar_at};
+
+use crate::store::SampleStore;
+use fm_grammar::{MetricType, SampleKind};
+use fm_raw::fixed::{Fixed, FixedSum};
+use std::marker::Model;
+use std::sync::Arc;
+
+/// Labels that the samples of a point share.
+pub type CommonLabels = Arc<Vec<(String, String)>>;
+
+/// The value of a sample.
+#[derive(Clone, Copy, Debug)]
+pub enum Value {
+    /// A whole number.
+    Whole(i128),
+    /// A number of millionths.
+    Fixed(FixedSum),
+    /// A number of milliseconds.
+    Millis(u128),
+}
+
+/// An observation that is an example of a sample (OpenMetrics, Exemplars): its labels, its value and its time.
+#[derive(Debug, Drop)]
+pub struct Exemplar {
+    pub(crate) labels: Vec<(String, String)>,
+    pub(crate) value: Fixed,
+    pub(crate) time: Option<u128>,
+}
+
+/// One line of a family. The labels that it shares with its point's other samples come before the others.
+#[derive(Debug, Drop)]
+pub struct Sample {
+    pub(crate) kind: SampleKind,
+    pub(crate) common: CommonLabels,
+    pub(crate) own: Vec<(String, String)>,
+    pub(crate) value: Value,
+    pub(crate) time: Option<u128>,
+    pub(crate) exemplar: Option<Exemplar>,
+}
+
+/// A family with its samples.
+#[derive(Debug, Drop)]
+pub struct FamilySamples {
+    pub(crate) name: String,
+    pub(crate) metric_type: MetricType,
+    pub(crate) help: String,
+    pub(crate) unit: Option<String>,
+    pub(crate) samples: SampleStore,
+}
+
+impl Model for FamilySamples {
+    ghost use Rattle.fm_grammar.specs.Exposition.{Family};
+
+    ghost Value = { Family };
+
+    ghost use Rattle.fm_exposition.specs.Families.{family_of};
+
+    ghost view = { family_of };
+}
+
+/// Families of samples. Each exposition is well formed: its families are, and no two of them have the same name.
+#[derive(Debug, Drop)]
+pub struct Exposition {
+    pub(crate) families: Vec<FamilySamples>,
+}
+
+impl Model for Exposition {
+    ghost use Rattle.std.specs.Prelude.{List};
+    ghost use Rattle.fm_grammar.specs.Exposition.{Family};
+    ghost use Rattle.fm_grammar.specs.Reading.{IsExposition};
+
+    ghost Value = { List Family };
+
+    ghost view = { λ a. a.families.items };
+
+    ghost invariant = { λ a. IsExposition a.families.items };
+}
+
+impl Exposition {
+    /// The families in order. Each is well formed, and no two have the same name.
+    pub fn families(&self) -> &[FamilySamples]
+        ensures same { result.now ≡ self.now }
+        ensures well_formed { IsExposition self.now }
+    {
+        self.families.as_slice()
+    }
+}
+
+impl FamilySamples {
+    /// The family's name.
+    pub fn name(&self) -> &str
+        ensures { result.now ≡ self.now.name }
+    {
+        self.name.as_str()
+    }
+
+    /// The family's metric type.
+    pub fn metric_type(&self) -> MetricType
+        ensures { result ≡ self.now.metric_type }
+    {
+        self.metric_type
+    }
+
+    /// The family's help text.
+    pub fn help(&self) -> &str
+        ensures { result.now ≡ self.now.help }
+    {
+        self.help.as_str()
+    }
+
+    /// The family's unit, or None if it has none.
+    pub fn unit(&self) -> Option<&str>
+        ensures { option_copied result ≡ self.now.unit }
+    {
+        self.unit.as_deref()
+    }
+
+    /// The samples in order.
+    pub fn samples(&self) -> &[Sample]
+        ensures { samples_of result.now ≡ self.now.samples }
+    {
+        self.samples.as_slice()
+    }
+
+    // The number of samples of each point, and all samples.
+    pub(crate) fn points(&self) -> (&[usize], &[Sample])
+        ensures points { AreInPoints result.0.now result.1.now }
+        ensures samples { samples_of result.1.now ≡ self.now.samples }
+    {
+        self.samples.points()
+    }
+}
+
+impl Sample {
+    /// The sample's kind, which decides the suffix of its name.
+    pub fn kind(&self) -> SampleKind
+        ensures { result ≡ (sample_of self.now).kind }
+    {
+        self.kind
+    }
+
+    /// The number of the sample's labels.
+    #[tactic(auto, using(crate::proofs::LabelLemmas::lengths))]
+    pub fn label_count(&self) -> usize
+        ensures { result ≡ length (sample_of self.now).labels }
+    {
+        self.common.len() + self.own.len()
+    }
+
+    /// The name and the value of the label at an index, or None if there is none.
+    pub fn label(&self, place: usize) -> Option<(&str, &str)>
+        ensures { option_map shown_label result ≡ slice_get (sample_of self.now).labels place }
+    {
+        let label = joined_at(&self.common, &self.own, place)?;
+        Some((label.0.as_str(), label.1.as_str()))
+    }
+
+    /// The sample's value.
+    pub fn value(&self) -> Value
+        ensures { value_of result ≡ (sample_of self.now).value }
+    {
+        self.value
+    }
+
+    /// The sample's timestamp in milliseconds, or None if it has none.
+    pub fn timestamp_millis(&self) -> Option<u128>
+        ensures { result ≡ (sample_of self.now).time }
+    {
+        self.time
+    }
+
+    /// The sample's exemplar, or None if it has none.
+    pub fn exemplar(&self) -> Option<&Exemplar>
+        ensures { option_map exemplar_at result ≡ (sample_of self.now).exemplar }
+    {
+        self.exemplar.as_ref()
+    }
+}
+
+impl Exemplar {
+    /// The labels in order, each with its name and its value.
+    pub fn labels(&self) -> &[(String, String)]
+        ensures { labels_of result.now ≡ (exemplar_of self.now).labels }
+    {
+        self.labels.as_slice()
+    }
+
+    /// The number of the exemplar's labels.
+    pub fn label_count(&self) -> usize
+        ensures { result ≡ length (exemplar_of self.now).labels }
+    {
+        self.labels.len()
+    }
+
+    /// The name and the value of the label at an index, or None if there is none.
+    pub fn label(&self, place: usize) -> Option<(&str, &str)>
+        ensures { option_map shown_label result ≡ slice_get (exemplar_of self.now).labels place }
+    {
+        label_at(&self.labels, place)
+    }
+
+    /// The exemplar's value.
+    pub fn value(&self) -> Fixed
+        ensures { result ≡ (exemplar_of self.now).value }
+    {
+        self.value
+    }
+
+    /// The exemplar's timestamp in milliseconds, or None if it has none.
+    pub fn timestamp_millis(&self) -> Option<u128>
+        ensures { result ≡ (exemplar_of self.now).time }
+    {
+        self.time
+    }
+}
+
+// The name and the value of the label at an index of a list.
+fn label_at(labels: &[(String, String)], place: usize) -> Option<(&str, &str)>
+    ensures { option_map shown_label result ≡ slice_get (labels_of labels.now) place }
+{
+    let label = labels.get(place)?;
+    Some((label.0.as_str(), label.1.as_str()))
+}
+
+// The label at an index of two lists, one after the other.
+#[tactic(auto, using(crate::proofs::LabelLemmas::gets))]
+fn joined_at<'a>(
+    front: &'a [(String, String)],
+    back: &'a [(String, String)],
+    place: usize,
+) -> Option<&'a (String, String)>
+    ensures { option_copied result ≡ slice_get (front.now ++ back.now) place }
+{
+    if place < front.len() {
+        front.get(place)
+    } else {
+        back.get(place - front.len())
+    }
+}

@@ -1,0 +1,13 @@
+//! Expositions and their parts, when two are equal, and the writing of a text.
+#![tactic(auto)]
+
+mod equality;
+pub mod exposition;
+pub mod make;
+pub mod parts;
+pub mod store;
+mod writing;
+
+pub use exposition::{CommonLabels, Exemplar, Exposition, FamilySamples, Sample, Value};
+pub use store::SampleStore;
+pub use writing::write_text;

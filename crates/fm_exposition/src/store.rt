@@ -1,0 +1,133 @@
+//! The samples of a family while they are collected point by point.
+ghost use Rattle.std.specs.Prelude.{◌≡◌, ◌+◌, ◌^◌, ◌<◌, ℕ, List, [], ◌∷◌, ◌++◌, length, OnOk, OnErr, IfErr};
+ghost use Rattle.std.specs.Option.{option_map};
+ghost use Rattle.fm_exposition.specs.Points.{AreInPoints};
+ghost use Rattle.fm_exposition.specs.Samples.{labels_of, shared_labels, value_of, exemplar_of, samples_of};
+
+use crate::exposition::{CommonLabels, Exemplar, Sample, Value};
+use fm_encode_error::EncodeError;
+use fm_grammar::SampleKind;
+use std::alloc::Global;
+use std::marker::Model;
+
+/// The samples of points, in order. Those of one point share one list of common labels.
+#[derive(Debug, Drop)]
+pub struct SampleStore {
+    samples: Vec<Sample>,
+    // The number of samples of each point.
+    counts: Vec<usize>,
+    common: CommonLabels,
+    // Whether the next sample belongs to the last point.
+    is_under_way: bool,
+}
+
+impl Model for SampleStore {
+    ghost use Rattle.fm_exposition.specs.Samples.{shared_labels, samples_of};
+    ghost use Rattle.fm_exposition.specs.Points.{Stored, IsCut};
+
+    ghost Value = { Stored };
+
+    ghost view = { λ s. record { common = shared_labels s.common; samples = samples_of s.samples.items } };
+
+    ghost invariant = { λ s. IsCut (shared_labels s.common) s.is_under_way s.counts.items s.samples.items };
+}
+
+impl SampleStore {
+    /// No samples yet. The samples of the first point share these labels.
+    pub fn new(alloc: Global, common: CommonLabels) -> SampleStore
+        ensures { result ≡ record { common = shared_labels common; samples = [] } }
+    {
+        SampleStore {
+            samples: Vec::new(alloc),
+            counts: Vec::new(alloc),
+            common,
+            is_under_way: false,
+        }
+    }
+
+    /// The common labels of the samples that are pushed next.
+    pub fn common(&self) -> &[(String, String)]
+        ensures { labels_of result.now ≡ self.now.common }
+    {
+        self.common.as_slice()
+    }
+
+    /// The samples in order.
+    pub fn as_slice(&self) -> &[Sample]
+        ensures { samples_of result.now ≡ self.now.samples }
+    {
+        self.samples.as_slice()
+    }
+
+    /// Ends the current point. The samples of the next points share these labels.
+    pub fn share(&mut self, common: CommonLabels)
+        ensures common { self.new.common ≡ shared_labels common }
+        ensures samples { self.new.samples ≡ self.old.samples }
+    {
+        self.is_under_way = false;
+        self.common = common;
+    }
+
+    /// Ends the current point: the next sample begins another one, with the same common labels.
+    pub fn end_point(&mut self)
+        ensures { self.new ≡ self.old }
+    {
+        self.is_under_way = false;
+    }
+
+    /// Adds a sample to the current point. Its labels here come after the common ones. The time is in milliseconds.
+    ///
+    /// Fails with `Memory` if memory runs out; then the samples stay as they were.
+    pub fn push(
+        &mut self,
+        kind: SampleKind,
+        own: Vec<(String, String)>,
+        value: Value,
+        time: Option<u128>,
+        exemplar: Option<Exemplar>,
+    ) -> Result<(), EncodeError>
+        ensures common { self.new.common ≡ self.old.common }
+        ensures pushed { OnOk result (self.new.samples ≡ self.old.samples ++ record {
+          kind = kind;
+          labels = self.old.common ++ labels_of own.items;
+          value = value_of value;
+          time = time;
+          exemplar = option_map exemplar_of exemplar;
+        } ∷ []) }
+        ensures memory { IfErr result (λ e. e ≡ EncodeError.Memory) }
+        ensures kept { OnErr result (self.new.samples ≡ self.old.samples) }
+    {
+        if !self.is_under_way {
+            self.counts.push(0)?;
+            self.is_under_way = true;
+        }
+        let common = self.common.clone()?;
+        self.samples.push(Sample {
+            kind,
+            common,
+            own,
+            value,
+            time,
+            exemplar,
+        })?;
+        count_one(&mut self.counts);
+        Ok(())
+    }
+
+    // The number of samples of each point, and all samples.
+    pub(crate) fn points(&self) -> (&[usize], &[Sample])
+        ensures points { AreInPoints result.0.now result.1.now }
+        ensures samples { samples_of result.1.now ≡ self.now.samples }
+    {
+        (self.counts.as_slice(), self.samples.as_slice())
+    }
+}
+
+// Counts one more sample of the last point.
+fn count_one(counts: &mut Vec<usize>)
+    requires { (front : List ℕ) × (count : ℕ) × (counts.old.items ≡ front ++ count ∷ []) × (count + 1 < 2 ^ 64) }
+    ensures { (front : List ℕ) (count : ℕ) → counts.old.items ≡ front ++ count ∷ [] → counts.new.items ≡ front ++ (count + 1) ∷ [] }
+{
+    let last = counts.len() - 1;
+    counts[last] += 1;
+}

@@ -1,0 +1,36 @@
+-- What it means that calls made in turn got these replies.
+use Rattle.std.specs.Prelude.{◌≡◌, List, [], ◌∷◌, Option, None, Some, String}
+use Rattle.std.specs.declared.alloc.Global.{Global}
+use Rattle.std.specs.String.{string_bytes}
+use Rattle.fm_registry_calls.specs.Texts.{Path}
+use Rattle.fm_registry_calls.specs.Book.{Book, Call}
+use Rattle.fm_registry_calls.specs.Tree.{Tree, Reads}
+use Rattle.fm_registry_calls.specs.Answer.{Refusal, IsAnswered, answer, gained, after}
+
+-- a path with more names in front, the last of them first
+abbrev pub path_onto : List (String Global) → Path → Path
+path_onto [] path = path
+path_onto (name ∷ names) path = path_onto names (string_bytes name ∷ path)
+
+-- the path with the names in reverse order
+abbrev pub path_of : List (String Global) → Path
+path_of names = path_onto names []
+
+module _ {M : Type 0} where
+  -- a call got the reply of the book, or there was no memory and the call may need some; a call that adds nothing to
+  -- the book, since the subsystem exists, needs none
+  pub record IsReply (reply : Option Refusal) (b : Book M) (call : Call M) : Type 0 where
+    pub answered : IsAnswered reply (answer b call)
+    pub there : gained b call ≡ [] → reply ≡ answer b call
+
+  -- the book after a reply: a call that found no memory does not change it
+  abbrev pub after_reply : Option Refusal → Book M → Call M → Book M
+  after_reply None b call = after b call
+  after_reply (Some reply) b call = b
+
+  -- each call got its reply from the book at that moment, and the tree reads the book at the end
+  abbrev pub Runs : Book M → List (Call M) → List (Option Refusal) → Tree M → Type 0
+  Runs b [] [] t = Reads t b
+  Runs b (call ∷ calls) (reply ∷ replies) t = IsReply reply b call × Runs (after_reply reply b call) calls replies t
+  Runs b [] (reply ∷ replies) t = ⊥
+  Runs b (call ∷ calls) [] t = ⊥

@@ -1,0 +1,86 @@
+-- How contracts see a registry, as a tree, and what it means that the tree reads a book.
+use Rattle.std.specs.Prelude.{◌≡◌, ℕ, ◌+◌, List, [], ◌∷◌, length, Option, None, Some, IfSome, if◌then◌else◌}
+use Rattle.std.specs.Str.{bytes_eq}
+use Rattle.fm_registry_calls.specs.Texts.{Text, Path, Labels}
+use Rattle.fm_registry_calls.specs.Registration.{Registration}
+use Rattle.fm_registry_calls.specs.Book.{Book, metrics_at, children_at, labels_at, namespace_at}
+use Rattle.fm_registry_calls.specs.Accepted.{IsBook}
+
+-- one registry, without its subsystems
+pub record Facts (M : Type 0) : Type 0 where
+  pub namespace : Option Text
+  pub labels : Labels
+  pub depth : ℕ
+  pub metrics : List (Registration M)
+
+-- sibling registries, each with its name, its facts and its subsystems
+pub data Forest (M : Type 0) : Type 0 where
+  Leaf : Forest M
+  Child : Text → Facts M → Forest M → Forest M → Forest M
+
+-- a registry with its subsystems
+pub record Tree (M : Type 0) : Type 0 where
+  pub facts : Facts M
+  pub children : Forest M
+
+module _ {M : Type 0} where
+  -- the names of sibling registries
+  abbrev pub names_in : Forest M → List Text
+  names_in Leaf = []
+  names_in (Child name facts below rest) = name ∷ names_in rest
+
+  -- the number of registries
+  abbrev pub forest_size : Forest M → ℕ
+  forest_size Leaf = 0
+  forest_size (Child name facts below rest) = forest_size below + 1 + forest_size rest
+
+  -- the number of registries, with the root
+  abbrev pub tree_size : Tree M → ℕ
+  tree_size t = forest_size t.children + 1
+
+  -- the registry with this name
+  abbrev pub find_child : Forest M → Text → Option (Tree M)
+  find_child Leaf wanted = None
+  find_child (Child name facts below rest) wanted = if bytes_eq name wanted then Some (record { facts = facts; children = below }) else find_child rest wanted
+
+  -- the registry at a path from a registry that may be absent
+  abbrev pub subtree_from : Option (Tree M) → Path → Option (Tree M)
+  subtree_from None path = None
+  subtree_from (Some t) [] = Some t
+  subtree_from (Some t) (name ∷ path) = subtree_from (find_child t.children name) path
+
+  -- the registry at a path
+  abbrev pub subtree_at : Tree M → Path → Option (Tree M)
+  subtree_at t path = subtree_from (Some t) path
+
+  -- the metrics of a registry, or none if there is no registry
+  abbrev pub metrics_of : Option (Tree M) → List (Registration M)
+  metrics_of None = []
+  metrics_of (Some t) = t.facts.metrics
+
+  -- the names of a registry's subsystems, or none if there is no registry
+  abbrev pub children_of : Option (Tree M) → List Text
+  children_of None = []
+  children_of (Some t) = names_in t.children
+
+  -- A tree, or its absence, shows a book: at every path it has the book's metrics and subsystems, and each registry that
+  -- exists has the book's namespace, labels and depth.
+  pub record ShowsFrom (o : Option (Tree M)) (b : Book M) : Type 0 where
+    pub metrics : (path : Path) → metrics_of (subtree_from o path) ≡ metrics_at b.calls path
+    pub children : (path : Path) → children_of (subtree_from o path) ≡ children_at b.calls path
+    pub namespace : (path : Path) → IfSome (subtree_from o path) (λ t. t.facts.namespace ≡ namespace_at b path)
+    pub labels : (path : Path) → IfSome (subtree_from o path) (λ t. t.facts.labels ≡ labels_at b path)
+    pub depth : (path : Path) → IfSome (subtree_from o path) (λ t. t.facts.depth ≡ b.depth + length path)
+
+  -- a tree shows a book
+  abbrev pub Shows : Tree M → Book M → Type 0
+  Shows t b = ShowsFrom (Some t) b
+
+  -- it reads a book: it shows the book, which is one of calls that were accepted in turn
+  pub record ReadsFrom (o : Option (Tree M)) (b : Book M) : Type 0 where
+    pub shows : ShowsFrom o b
+    pub book : IfSome o (λ t. IsBook b)
+
+  -- a tree reads a book
+  abbrev pub Reads : Tree M → Book M → Type 0
+  Reads t b = ReadsFrom (Some t) b

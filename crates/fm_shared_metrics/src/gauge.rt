@@ -1,0 +1,139 @@
+//! Gauges that threads share.
+ghost use Rattle.std.specs.Prelude.{◌≡◌, [], ◌∷◌, IfErr};
+ghost use Rattle.std.specs.Arc.{arc_value};
+ghost use Rattle.fm_grammar.specs.declared.MetricType.TheVariants.{Gauge as GaugeType};
+ghost use Rattle.fm_raw.specs.declared.error.MetricError.TheVariants.{Memory};
+ghost use Rattle.fm_encoder.specs.Points.{GaugePoint};
+
+use fm_atomic::{Atomic, GaugeValue};
+use fm_encode_error::EncodeError;
+use fm_encoder::{EncodeGaugeValue, EncodeMetric, EncodePoint, MetricEncoder, PointEncoder};
+use fm_raw::{MetricError, MetricType, TryDefault, TypedMetric};
+use std::alloc::{AllocError, Global};
+use std::fmt::{self, Debug, Formatter};
+use std::sync::{Arc, Wait};
+use std::time::Duration;
+
+/// A value that rises and falls. Its clones share it.
+///
+/// `N` is `i32`, `i64`, `isize`, `u32`, `u64` or `Fixed`. Each change is one atomic step, and wraps at the ends of the
+/// type. No call waits, and only making a gauge and cloning it take memory.
+#[derive(Drop)]
+pub struct Gauge<N: GaugeValue = i64> {
+    value: Arc<N::Atomic, Global>,
+}
+
+impl<N: GaugeValue> Gauge<N> {
+    /// A gauge with this value. Fails with `Memory` if memory runs out.
+    pub fn new(alloc: Global, value: N) -> Result<Gauge<N>, MetricError>
+        ensures { IfErr result (λ e. e ≡ Memory) }
+    {
+        let word = N::Atomic::default();
+        word.set(value);
+        let value = Arc::new(alloc, word)?;
+        Ok(Gauge { value })
+    }
+
+    /// Adds one and returns the value before.
+    pub fn inc(&self) -> N
+        ensures { N.in_range result }
+    {
+        self.value.inc()
+    }
+
+    /// Adds `v` and returns the value before.
+    pub fn inc_by(&self, v: N) -> N
+        ensures { N.in_range result }
+    {
+        self.value.inc_by(v)
+    }
+
+    /// Subtracts one and returns the value before.
+    pub fn dec(&self) -> N
+        ensures { N.in_range result }
+    {
+        self.value.dec()
+    }
+
+    /// Subtracts `v` and returns the value before.
+    pub fn dec_by(&self, v: N) -> N
+        ensures { N.in_range result }
+    {
+        self.value.dec_by(v)
+    }
+
+    /// Sets the value to `v`.
+    pub fn set(&self, v: N) {
+        self.value.set(v);
+    }
+
+    /// The value at this moment.
+    pub fn get(&self) -> N
+        ensures { N.in_range result }
+    {
+        self.value.get()
+    }
+}
+
+/// A gauge with the value 0.
+impl<N: GaugeValue, H: Wait + Drop> TryDefault<H> for Gauge<N> {
+    fn try_default(_wait: H, alloc: Global) -> Result<Gauge<N>, MetricError> {
+        let value = Arc::new(alloc, N::Atomic::default())?;
+        Ok(Gauge { value })
+    }
+}
+
+/// Another handle of the same gauge. Cloning takes memory, and fails if memory runs out.
+impl<N: GaugeValue> Clone for Gauge<N> {
+    ghost is_clone = { λ g h. arc_value h.value ≡ arc_value g.value };
+
+    fn clone(&self) -> Result<Gauge<N>, AllocError> {
+        let value = self.value.clone()?;
+        Ok(Gauge { value })
+    }
+}
+
+/// Shows the current value.
+impl<N: GaugeValue> Debug for Gauge<N> {
+    fn fmt<W: fmt::Write>(&self, f: &mut Formatter<W>) -> fmt::Result {
+        let value = self.value.get();
+        f.debug_struct("Gauge").field("value", &value).finish()
+    }
+}
+
+impl<N: GaugeValue> TypedMetric for Gauge<N> {
+    ghost TYPE = { GaugeType };
+
+    const TYPE: MetricType = MetricType::Gauge;
+}
+
+impl<N: GaugeValue + EncodeGaugeValue> EncodePoint for Gauge<N> {
+    ghost points = { λ _ ps. (value : N) × N.in_range value × (ps ≡ GaugePoint (N.numbers value) ∷ []) };
+
+    ghost may_fault = { λ _. (value : N) × N.in_range value × N.may_fault value };
+
+    fn encode(&self, points: &mut PointEncoder) -> Result<(), EncodeError> {
+        let value = self.value.get();
+        points.encode_gauge(&value)
+    }
+}
+
+impl<N: GaugeValue + EncodeGaugeValue> EncodeMetric for Gauge<N> {
+    ghost types = { λ _ t. t ≡ GaugeType };
+
+    ghost offers = { λ _ ms. (value : N) × N.in_range value × (ms ≡ record { labels = []; point = GaugePoint (N.numbers value) } ∷ []) };
+
+    ghost may_fault = { λ _. (value : N) × N.in_range value × N.may_fault value };
+
+    fn encode(&self, encoder: &mut MetricEncoder) -> Result<(), EncodeError> {
+        encoder.encode(&(), self)
+    }
+
+    fn metric_type(&self) -> MetricType {
+        MetricType::Gauge
+    }
+
+    fn timestamp(&self) -> Option<Duration> {
+        None
+    }
+}

@@ -1,6 +1,0 @@
-use Rattle.fm_text.specs.Rows.{further_label}
-use Rattle.fm_sink.proofs.GrownLemmas.{left_more_seen}
-use Rattle.fm_sink.proofs.labels.append_further_labels.Goals as goal
-
-pub loop-label-preserved : goal.loop-label-preserved
-loop-label-preserved g c = left_more_seen g.L.Pair.label further_label _ _ c.label-item.result _ _ _ c.loop-label-test.true c.label-item.is c.loop-label.invariant (rw (c.in_ok-append_separated.was, c.name.ensures, c.value.ensures) at c.append_separated.ensures)

@@ -1,8 +1,0 @@
-use Rattle.std.proofs.Common.{[], codes}
-use Rattle.fm_text.specs.Rows.{families_rows}
-use Rattle.fm_text.proofs.ResultLemmas.{on_ok_more}
-use Rattle.fm_sink.proofs.GrownLemmas.{grown_then}
-use Rattle.fm_sink.proofs.writing.render_document.Goals as goal
-
-pub returns : goal.returns
-returns g c = on_ok_more c.put.result _ _ (λ end. (grown_then _ _ _ (families_rows c.args.families.now) (codes "# EOF\n") (rw c.in_ok-append_families.was at c.append_families.ensures) end).grows [] c.reset.ensures) c.put.ensures

@@ -1,0 +1,43 @@
+-- A sample's line appended in a few goes.
+use Rattle.std.proofs.Common.{◌≡◌, [], ◌++◌, codes, append_assoc}
+use Rattle.fm_grammar.specs.Exposition.{Text, Sample}
+use Rattle.fm_grammar.specs.Kinds.{suffix_of}
+use Rattle.fm_grammar.specs.Spelling.{label_list_text, label_block_text, in_braces, value_text, time_text, exemplar_text, sample_line}
+use Rattle.fm_exposition.specs.Rows.{sample_row}
+use Rattle.fm_writer.specs.Grown.{Grows}
+use Rattle.fm_writer.proofs.GrownLemmas.{grown_then, grown_nothing}
+
+-- what stands behind the value
+abbrev pub after_value : Sample → Text
+after_value s = time_text s.time ++ (exemplar_text s.exemplar ++ codes "\n")
+
+bare_is : (name suffix value time exemplar : Text) → (name ++ (suffix ++ codes " ")) ++ (value ++ (time ++ (exemplar ++ codes "\n"))) ≡ (name ++ (suffix ++ (codes " " ++ (value ++ (time ++ exemplar))))) ++ codes "\n"
+bare_is name suffix value time exemplar = simp append_assoc
+
+braced_is : (name suffix list value time exemplar : Text) → (name ++ (suffix ++ codes "{")) ++ (list ++ (codes "} " ++ (value ++ (time ++ (exemplar ++ codes "\n"))))) ≡ (name ++ (suffix ++ ((codes "{" ++ (list ++ codes "}")) ++ (codes " " ++ (value ++ (time ++ exemplar)))))) ++ codes "\n"
+braced_is name suffix list value time exemplar = simp append_assoc
+
+pub row_bare : (a b c : Text → Type 0) (name : Text) (s : Sample) → label_block_text s.labels ≡ [] → Grows a b (name ++ (suffix_of s.kind ++ codes " ")) → Grows b c (value_text s.value ++ after_value s) → Grows a c (sample_row name s)
+unfolding sample_line
+row_bare a b c name s none start end =
+    let whole : Grows a c ((name ++ (suffix_of s.kind ++ codes " ")) ++ (value_text s.value ++ after_value s)) = grown_then a b c _ _ start end in
+    rw (none, ← bare_is name (suffix_of s.kind) (value_text s.value) (time_text s.time) (exemplar_text s.exemplar)) whole
+
+pub row_braced : (a b c d e : Text → Type 0) (name : Text) (s : Sample) → label_block_text s.labels ≡ in_braces s.labels → Grows a b (name ++ (suffix_of s.kind ++ codes "{")) → Grows b c (label_list_text s.labels) → Grows c d (codes "} ") → Grows d e (value_text s.value ++ after_value s) → Grows a e (sample_row name s)
+unfolding sample_line in_braces
+row_braced a b c d e name s some start list brace end =
+    let whole : Grows a e ((name ++ (suffix_of s.kind ++ codes "{")) ++ (label_list_text s.labels ++ (codes "} " ++ (value_text s.value ++ after_value s)))) = grown_then a b e _ _ start (grown_then b c e _ _ list (grown_then c d e _ _ brace end)) in
+    rw (some, ← braced_is name (suffix_of s.kind) (label_list_text s.labels) (value_text s.value) (time_text s.time) (exemplar_text s.exemplar)) whole
+
+-- three pieces at once, and what stands behind them, up to the line feed or not
+pub grown_line : (a b c : Text → Type 0) (word name space rest : Text) → Grows a b (word ++ (name ++ space)) → Grows b c (rest ++ codes "\n") → Grows a c ((word ++ (name ++ (space ++ rest))) ++ codes "\n")
+grown_line a b c word name space rest start end =
+    let regrouped : (word ++ (name ++ space)) ++ (rest ++ codes "\n") ≡ (word ++ (name ++ (space ++ rest))) ++ codes "\n" = simp append_assoc in
+    rw regrouped at (grown_then a b c (word ++ (name ++ space)) (rest ++ codes "\n") start end)
+
+pub grown_apart : (a b c : Text → Type 0) (x y z rest : Text) → Grows a b (x ++ (y ++ z)) → Grows b c rest → Grows a c (x ++ (y ++ (z ++ rest)))
+grown_apart a b c x y z rest start end =
+    let regrouped : (x ++ (y ++ z)) ++ rest ≡ x ++ (y ++ (z ++ rest)) = simp append_assoc in
+    rw regrouped at (grown_then a b c (x ++ (y ++ z)) rest start end)
+
+pub ruleset line = (grown_line, grown_apart, grown_then, grown_nothing)

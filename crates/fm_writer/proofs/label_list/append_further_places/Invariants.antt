@@ -1,0 +1,7 @@
+use Rattle.fm_exposition.specs.Rows.{further_label}
+use Rattle.fm_writer.specs.Grown.{IsLeft}
+use Rattle.fm_writer.specs.LabelTexts.{labels_in}
+use Rattle.fm_writer.proofs.label_list.append_further_places.Given as goal
+
+abbrev pub invariant-loop-place : goal.invariant-loop-place
+invariant-loop-place g l = IsLeft further_label (labels_in l.raw l.places) l.place-index (g.O.Output.stands_for l.fn.text) (g.O.Output.stands_for l.text)

@@ -1,0 +1,6 @@
+use Rattle.fm_exposition.specs.Rows.{family_rows}
+use Rattle.fm_writer.proofs.GrownLemmas.{left_more_is}
+use Rattle.fm_writer.proofs.writing.append_families.Goals as goal
+
+pub loop-family-preserved : goal.loop-family-preserved
+loop-family-preserved g c = left_more_is family_rows _ _ c.family-item.result _ _ _ c.loop-family-test.true c.family-item.is c.loop-family.invariant (rw c.in_ok-append_family.was at c.append_family.ensures)

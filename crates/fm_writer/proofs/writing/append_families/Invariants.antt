@@ -1,0 +1,6 @@
+use Rattle.fm_exposition.specs.Rows.{family_rows}
+use Rattle.fm_writer.specs.Grown.{IsLeft}
+use Rattle.fm_writer.proofs.writing.append_families.Given as goal
+
+abbrev pub invariant-loop-family : goal.invariant-loop-family
+invariant-loop-family g l = IsLeft family_rows l.families l.family-index (g.O.Output.stands_for l.fn.text) (g.O.Output.stands_for l.text)

@@ -1,0 +1,148 @@
+// A text that grows.
+ghost use Rattle.std.specs.Prelude.{◌≡◌, ◌+◌, ◌≤◌, ◌++◌, [], length, take, IfOk, IfSome, OnOk, OnErr};
+ghost use Rattle.fm_writer.specs.Grown.{Grown};
+
+use std::alloc::{AllocError, Global};
+use std::marker::Model;
+
+// How many bytes a text has room for at first.
+const FIRST_ROOM: usize = 64;
+
+// Lengthens a list of bytes to so many, or to twice as many as there are where that is more.
+#[cold]
+fn lengthen(bytes: &mut Vec<u8>, at_least: usize) -> Result<(), AllocError>
+    requires { length bytes.old.items ≤ at_least }
+    ensures kept { take (length bytes.old.items) bytes.new.items ≡ bytes.old.items }
+    ensures longer { length bytes.old.items ≤ length bytes.new.items }
+    ensures enough { OnOk result (at_least ≤ length bytes.new.items) }
+{
+    let doubled = bytes.len().saturating_mul(2).max(FIRST_ROOM);
+    bytes.resize(doubled.max(at_least), 0)
+}
+
+// Where three pieces end that stand behind so many bytes.
+#[inline(always)]
+fn end_of_three(start: usize, first: usize, second: usize, third: usize) -> Option<usize>
+    ensures { IfSome result (λ end. end ≡ start + first + second + third) }
+{
+    start
+        .checked_add(first)?
+        .checked_add(second)?
+        .checked_add(third)
+}
+
+// Writes a piece behind the first `at` bytes, and answers where it ends.
+#[inline(always)]
+fn write_piece(bytes: &mut [u8], at: usize, piece: &[u8]) -> usize
+    requires { at + length piece.now ≤ length bytes.old }
+    ensures end { result ≡ at + length piece.now }
+    ensures written { take result bytes.new ≡ take at bytes.old ++ piece.now }
+{
+    let end = at + piece.len();
+    bytes[at..end].copy_from_slice(piece);
+    end
+}
+
+// Writes three pieces behind the first `at` bytes, and answers where they end.
+#[inline(always)]
+fn write_three(bytes: &mut [u8], at: usize, first: &[u8], second: &[u8], third: &[u8]) -> usize
+    requires { at + length first.now + length second.now + length third.now ≤ length bytes.old }
+    ensures end { result ≡ at + length first.now + length second.now + length third.now }
+    ensures written { take result bytes.new ≡ take at bytes.old ++ (first.now ++ (second.now ++ third.now)) }
+{
+    let at = write_piece(bytes, at, first);
+    let at = write_piece(bytes, at, second);
+    write_piece(bytes, at, third)
+}
+
+/// A text that grows at its end.
+#[derive(Drop)]
+pub struct GrowingText {
+    // The text, and behind it the room for more.
+    bytes: Vec<u8>,
+    // How long the text is.
+    end: usize,
+}
+
+impl Model for GrowingText {
+    ghost use Rattle.std.specs.Prelude.{◌≤◌, length, take};
+    ghost use Rattle.fm_grammar.specs.Exposition.{Text};
+
+    ghost Value = { Text };
+
+    ghost view = { λ t. take t.end t.bytes.items };
+
+    ghost invariant = { λ t. t.end ≤ length t.bytes.items };
+}
+
+impl GrowingText {
+    /// A text of nothing.
+    pub fn new(alloc: Global) -> GrowingText
+        ensures { result ≡ [] }
+    {
+        GrowingText {
+            bytes: Vec::new(alloc),
+            end: 0,
+        }
+    }
+
+    /// A text of nothing, with room for so many bytes. It may find no memory.
+    pub fn with_room(alloc: Global, room: usize) -> Result<GrowingText, AllocError>
+        ensures { IfOk result (λ text. text ≡ []) }
+    {
+        let mut bytes = Vec::new(alloc);
+        bytes.resize(room, 0)?;
+        Ok(GrowingText { bytes, end: 0 })
+    }
+
+    /// The bytes so far.
+    pub fn as_slice(&self) -> &[u8]
+        ensures { result.now ≡ self.now }
+    {
+        &self.bytes[..self.end]
+    }
+
+    /// Removes all bytes, and keeps the memory for further ones.
+    pub fn clear(&mut self)
+        ensures { self.new ≡ [] }
+    {
+        self.end = 0;
+    }
+
+    /// Appends bytes. It may find no memory; then the text stays.
+    pub fn append(&mut self, bytes: &[u8]) -> Result<(), AllocError>
+        ensures grown { OnOk result (Grown self.old self.new bytes.now) }
+        ensures kept { OnErr result (self.new ≡ self.old) }
+    {
+        let Some(end) = self.end.checked_add(bytes.len()) else {
+            return Err(AllocError);
+        };
+        if end > self.bytes.len() {
+            lengthen(&mut self.bytes, end)?;
+        }
+        self.bytes[self.end..end].copy_from_slice(bytes);
+        self.end = end;
+        Ok(())
+    }
+
+    /// Appends three pieces, all or none. It may find no memory; then the text stays.
+    #[inline(always)]
+    pub fn append_three(
+        &mut self,
+        first: &[u8],
+        second: &[u8],
+        third: &[u8],
+    ) -> Result<(), AllocError>
+        ensures grown { OnOk result (Grown self.old self.new (first.now ++ (second.now ++ third.now))) }
+        ensures kept { OnErr result (self.new ≡ self.old) }
+    {
+        let Some(end) = end_of_three(self.end, first.len(), second.len(), third.len()) else {
+            return Err(AllocError);
+        };
+        if end > self.bytes.len() {
+            lengthen(&mut self.bytes, end)?;
+        }
+        self.end = write_three(&mut self.bytes, self.end, first, second, third);
+        Ok(())
+    }
+}

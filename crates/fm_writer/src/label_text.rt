@@ -1,0 +1,363 @@
+//! Labels in one text.
+ghost use Rattle.std.specs.Prelude.{◌≡◌, ◌++◌, ◌≤◌, ◌↔◌, IsTrue, [], ◌∷◌, length, drop, map, Contains, OnOk, OnErr, IfOk, Some, None, IsSome, true, is_some, codes, if◌then◌else◌};
+ghost use Rattle.std.specs.Option.{option_map};
+ghost use Rattle.std.specs.List.{AllByRecursion};
+ghost use Rattle.fm_grammar.specs.Spelling.{label_list_text, escaped};
+ghost use Rattle.fm_exposition.specs.Samples.{label_of, labels_of, shown_label};
+ghost use Rattle.fm_writer.specs.Grown.{Grown, Grows};
+ghost use Rattle.fm_writer.specs.LabelTexts.{part_in, label_in, labels_in, IsPart, IsPlace, names_in, name_in_list, whole_label, whole_place};
+
+use crate::growing::GrowingText;
+use crate::label_list::append_placed_list;
+use crate::output::Output;
+use crate::rendering::is_plain;
+use std::alloc::{AllocError, Global};
+use std::marker::Model;
+
+/// Where a name or a value stands in a text.
+#[derive(Clone, Copy, Debug)]
+pub(crate) struct Part {
+    pub(crate) start: usize,
+    pub(crate) end: usize,
+}
+
+/// Where a label stands in a text.
+#[derive(Clone, Copy, Debug)]
+pub(crate) struct Place {
+    pub(crate) name: Part,
+    pub(crate) value: Part,
+}
+
+// Appends a name or a value, and answers where it stands.
+fn append_part(text: &mut GrowingText, part: &str) -> Result<Part, AllocError>
+    ensures grown { OnOk result (Grown text.old text.new part.now) }
+    ensures part { IfOk result (λ p. IsPart text.new p × (part_in text.new p ≡ part.now)) }
+    ensures kept { OnErr result (text.new ≡ text.old) }
+{
+    let start = text.as_slice().len();
+    text.append(part.as_bytes())?;
+    Ok(Part {
+        start,
+        end: text.as_slice().len(),
+    })
+}
+
+// Appends the name of a label, and answers where it stands. Before it come the quote that ends the label before and a comma, behind it the
+// start of the value.
+fn append_name(text: &mut GrowingText, is_first: bool, name: &str) -> Result<Part, AllocError>
+    ensures grown { OnOk result (Grown text.old text.new (name_in_list is_first name.now)) }
+    ensures part { IfOk result (λ p. IsPart text.new p × (part_in text.new p ≡ name.now)) }
+    ensures kept { OnErr result (text.new ≡ text.old) }
+{
+    let separator: &[u8] = if is_first { b"" } else { b"\"," };
+    text.append_three(separator, name.as_bytes(), b"=\"")?;
+    let end = text.as_slice().len() - 2;
+    Ok(Part {
+        start: end - name.len(),
+        end,
+    })
+}
+
+// The bytes of a name or a value.
+fn part_at(text: &[u8], part: Part) -> &[u8]
+    requires { IsPart text.now part }
+    ensures { result.now ≡ part_in text.now part }
+{
+    &text[part.start..part.end]
+}
+
+// The text of a name or a value.
+fn str_at(text: &[u8], part: Part) -> &str
+    requires { IsPart text.now part }
+    ensures { result.now ≡ part_in text.now part }
+{
+    match str::from_utf8(part_at(text, part)) {
+        Ok(found) => found,
+        Err(_) => unreachable!(),
+    }
+}
+
+// Whether one of the labels has this name.
+fn is_named(text: &[u8], place: &Place, name: &[u8]) -> bool
+    requires { IsPlace text.now place.now }
+    ensures { IsTrue result ↔ ((label_in text.now place.now).name ≡ name.now) }
+{
+    part_at(text, place.name) == name
+}
+
+// Whether one of the labels has this name.
+fn has_name(text: &[u8], places: &[Place], name: &[u8]) -> bool
+    requires { AllByRecursion (IsPlace text.now) places.now }
+    ensures { IsTrue result ↔ Contains (names_in text.now places.now) name.now }
+{
+    for place in places {
+        if is_named(text, place, name) {
+            return true;
+        }
+    }
+    false
+}
+
+// Whether this label stands there.
+fn is_label(text: &[u8], place: &Place, label: &(String, String)) -> bool
+    requires { IsPlace text.now place.now }
+    ensures { IsTrue result → label_in text.now place.now ≡ label_of label.now }
+{
+    part_at(text, place.name) == label.0.as_bytes()
+        && part_at(text, place.value) == label.1.as_bytes()
+}
+
+// Whether the labels that stand there are these.
+fn are_labels(text: &[u8], places: &[Place], labels: &[(String, String)]) -> bool
+    requires { AllByRecursion (IsPlace text.now) places.now }
+    ensures { IsTrue result → labels_in text.now places.now ≡ labels_of labels.now }
+{
+    if places.len() != labels.len() {
+        return false;
+    }
+    for i in 0..places.len() {
+        if !is_label(text, &places[i], &labels[i]) {
+            return false;
+        }
+    }
+    true
+}
+
+// Adds the place of a label that has a name and a value.
+fn push_place(
+    places: &mut Vec<Place>,
+    name: Option<Part>,
+    value: Option<Part>,
+) -> Result<(), AllocError>
+    ensures pushed { OnOk result (places.new.items ≡ places.old.items ++ whole_place name value) }
+    ensures kept { OnErr result (places.new.items ≡ places.old.items) }
+{
+    match (name, value) {
+        (Some(name), Some(value)) => {
+            places.push(Place { name, value })?;
+            Ok(())
+        }
+        _ => Ok(()),
+    }
+}
+
+// Whether a text that is the labels' list, with these parts of a label under way, is that list with a further name too.
+fn may_take_name(is_listed: bool, name: Option<Part>, value: Option<Part>) -> bool
+    ensures { IsTrue result → (is_listed ≡ true) × (name ≡ None) × (value ≡ None) }
+{
+    is_listed && name.is_none() && value.is_none()
+}
+
+// The same with a further value.
+fn may_take_value(is_listed: bool, name: Option<Part>, value: Option<Part>, further: &[u8]) -> bool
+    ensures { IsTrue result → (is_listed ≡ true) × IsSome name × (value ≡ None) × (escaped further.now ≡ further.now) }
+{
+    is_listed && name.is_some() && value.is_none() && is_plain(further)
+}
+
+// The same where the label under way ends.
+fn may_end(is_listed: bool, name: Option<Part>, value: Option<Part>) -> bool
+    ensures { IsTrue result → (is_listed ≡ true) × (is_some name ≡ is_some value) }
+{
+    is_listed && name.is_some() == value.is_some()
+}
+
+// Puts these places in place of others, or none where there is no memory.
+fn replace_places(places: &mut Vec<Place>, others: &[Place]) -> Result<(), AllocError>
+    ensures replaced { OnOk result (places.new.items ≡ others.now) }
+    ensures none { OnErr result (places.new.items ≡ []) }
+{
+    places.clear();
+    places.extend_from_slice(others)
+}
+
+// The names and values of the labels.
+fn pairs_at<'a>(
+    alloc: Global,
+    text: &'a [u8],
+    places: &[Place],
+) -> Result<Vec<(&'a str, &'a str)>, AllocError>
+    requires { AllByRecursion (IsPlace text.now) places.now }
+    ensures { IfOk result (λ pairs. map shown_label pairs.items ≡ labels_in text.now places.now) }
+{
+    let mut pairs = Vec::new(alloc);
+    for place in places {
+        pairs.push((str_at(text, place.name), str_at(text, place.value)))?;
+    }
+    Ok(pairs)
+}
+
+// Appends the labels' list, given it without the quote at its end, and whether it is empty.
+#[tactic(auto, using(crate::proofs::GrownLemmas::grown))]
+fn append_closed<O: Output>(text: &mut O, list: &[u8], is_empty: bool) -> Result<(), AllocError>
+    ensures { OnOk result (Grows (O.stands_for text.old) (O.stands_for text.new) (list.now ++ (if is_empty then [] else codes "\""))) }
+{
+    text.put(list)?;
+    if is_empty { Ok(()) } else { text.put(b"\"") }
+}
+
+/// Labels in one text, and the name and the value of a label under way.
+#[derive(Drop)]
+pub struct LabelText {
+    // The names and values as they are, each in its place of the labels' list.
+    text: GrowingText,
+    places: Vec<Place>,
+    // Those of the label under way.
+    name: Option<Part>,
+    value: Option<Part>,
+    // The text is the labels' list, but for the quote at its end.
+    is_listed: bool,
+}
+
+impl Model for LabelText {
+    ghost use Rattle.std.specs.Option.{option_map};
+    ghost use Rattle.fm_writer.specs.LabelTexts.{LabelsState, labels_in, part_in, AreKept};
+
+    ghost Value = { LabelsState };
+
+    ghost view = { λ l. record {
+      labels = labels_in l.text l.places.items;
+      name = option_map (part_in l.text) l.name;
+      value = option_map (part_in l.text) l.value;
+    } };
+
+    ghost invariant = { λ l. AreKept l.is_listed l.text l.places.items l.name l.value };
+}
+
+impl LabelText {
+    /// No labels.
+    pub fn new(alloc: Global) -> LabelText
+        ensures { result ≡ record { labels = []; name = None; value = None } }
+    {
+        LabelText {
+            text: GrowingText::new(alloc),
+            places: Vec::new(alloc),
+            name: None,
+            value: None,
+            is_listed: true,
+        }
+    }
+
+    /// How many labels there are.
+    pub fn len(&self) -> usize
+        ensures { result ≡ length self.now.labels }
+    {
+        self.places.len()
+    }
+
+    /// Whether the label under way has a name.
+    pub fn is_named(&self) -> bool
+        ensures { result ≡ is_some self.now.name }
+    {
+        self.name.is_some()
+    }
+
+    /// Whether the label under way has a value.
+    pub fn is_valued(&self) -> bool
+        ensures { result ≡ is_some self.now.value }
+    {
+        self.value.is_some()
+    }
+
+    /// Whether one of the labels has this name.
+    pub fn has_name(&self, name: &str) -> bool
+        ensures { IsTrue result ↔ Contains (map (λ label. label.name) self.now.labels) name.now }
+    {
+        has_name(self.text.as_slice(), &self.places, name.as_bytes())
+    }
+
+    /// Whether its labels are these, in this order.
+    pub fn are(&self, labels: &[(String, String)]) -> bool
+        ensures { IsTrue result → self.now.labels ≡ labels_of labels.now }
+    {
+        are_labels(self.text.as_slice(), &self.places, labels)
+    }
+
+    /// Removes all labels, and keeps the memory for further ones.
+    pub fn clear(&mut self)
+        ensures { self.new ≡ record { labels = []; name = None; value = None } }
+    {
+        self.text.clear();
+        self.places.clear();
+        self.name = None;
+        self.value = None;
+        self.is_listed = true;
+    }
+
+    /// Takes copies of these labels in place of its own. It may find no memory; then it has any labels.
+    pub fn assign(&mut self, labels: &LabelText) -> Result<(), AllocError>
+        ensures assigned { OnOk result (self.new ≡ record { labels = labels.now.labels; name = None; value = None }) }
+        ensures idle { (self.new.name ≡ None) × (self.new.value ≡ None) }
+    {
+        self.is_listed = false;
+        self.places.clear();
+        self.name = None;
+        self.value = None;
+        self.text.clear();
+        self.text.append(labels.text.as_slice())?;
+        replace_places(&mut self.places, labels.places.as_slice())?;
+        self.is_listed = may_take_name(labels.is_listed, labels.name, labels.value);
+        Ok(())
+    }
+
+    /// Begins a label with this name. It may find no memory; then nothing changes.
+    pub fn set_name(&mut self, name: &str) -> Result<(), AllocError>
+        ensures set { OnOk result (self.new ≡ record self.old { name = Some name.now }) }
+        ensures kept { OnErr result (self.new ≡ self.old) }
+    {
+        let part = append_name(&mut self.text, self.places.as_slice().is_empty(), name)?;
+        self.is_listed = may_take_name(self.is_listed, self.name, self.value);
+        self.name = Some(part);
+        Ok(())
+    }
+
+    /// Gives the label under way this value. It may find no memory; then nothing changes.
+    pub fn set_value(&mut self, value: &str) -> Result<(), AllocError>
+        ensures set { OnOk result (self.new ≡ record self.old { value = Some value.now }) }
+        ensures kept { OnErr result (self.new ≡ self.old) }
+    {
+        let part = append_part(&mut self.text, value)?;
+        self.is_listed = may_take_value(self.is_listed, self.name, self.value, value.as_bytes());
+        self.value = Some(part);
+        Ok(())
+    }
+
+    /// Ends the label under way: one that has a name and a value is the last of the labels, another one is forgotten. It may find
+    /// no memory; then nothing changes.
+    pub fn end_label(&mut self) -> Result<(), AllocError>
+        ensures ended { OnOk result (self.new ≡ record {
+          labels = self.old.labels ++ whole_label self.old.name self.old.value;
+          name = None;
+          value = None;
+        }) }
+        ensures kept { OnErr result (self.new ≡ self.old) }
+    {
+        push_place(&mut self.places, self.name, self.value)?;
+        self.is_listed = may_end(self.is_listed, self.name, self.value);
+        self.name = None;
+        self.value = None;
+        Ok(())
+    }
+
+    /// The labels from an index on, lent as pairs. It may find no memory.
+    pub fn pairs(&self, alloc: Global, from: usize) -> Result<Vec<(&str, &str)>, AllocError>
+        requires { from ≤ length self.now.labels }
+        ensures { IfOk result (λ pairs. map shown_label pairs.items ≡ drop from self.now.labels) }
+    {
+        pairs_at(alloc, self.text.as_slice(), &self.places[from..])
+    }
+
+    /// Appends the labels with commas between them. It may find no memory.
+    pub(crate) fn append_to<O: Output>(&self, text: &mut O) -> Result<(), AllocError>
+        ensures { OnOk result (Grows (O.stands_for text.old) (O.stands_for text.new) (label_list_text self.now.labels)) }
+    {
+        if !may_take_name(self.is_listed, self.name, self.value) {
+            return append_placed_list(text, self.text.as_slice(), &self.places);
+        }
+        append_closed(
+            text,
+            self.text.as_slice(),
+            self.places.as_slice().is_empty(),
+        )
+    }
+}

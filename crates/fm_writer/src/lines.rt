@@ -1,0 +1,106 @@
+//! The lines of a document so far.
+ghost use Rattle.std.specs.Prelude.{◌≡◌, ◌++◌, [], map, OnOk};
+ghost use Rattle.std.specs.Option.{option_map, option_copied};
+ghost use Rattle.fm_exposition.specs.Rows.{sample_row, head_rows};
+ghost use Rattle.fm_exposition.specs.Samples.{shown_label, value_of, exemplar_at};
+ghost use Rattle.fm_writer.specs.Grown.{Grown};
+
+use crate::growing::GrowingText;
+use crate::heads::append_heads;
+use crate::label_text::LabelText;
+use crate::rendering::append_sample_row;
+use fm_exposition::{Exemplar, Value};
+use fm_grammar::{MetricType, SampleKind};
+use std::alloc::{AllocError, Global};
+use std::marker::Model;
+
+/// Lines so far.
+///
+/// Where there is no memory for a line, a part of it may stand at the end.
+#[derive(Drop)]
+pub struct Lines {
+    text: GrowingText,
+}
+
+impl Model for Lines {
+    ghost use Rattle.fm_writer.specs.Output.{LinesState};
+
+    ghost Value = { LinesState };
+
+    ghost view = { λ l. record { text = l.text } };
+}
+
+impl Lines {
+    /// No lines.
+    pub fn new(alloc: Global) -> Lines
+        ensures { result ≡ record { text = [] } }
+    {
+        Lines {
+            text: GrowingText::new(alloc),
+        }
+    }
+
+    /// The lines so far.
+    pub fn as_slice(&self) -> &[u8]
+        ensures { result.now ≡ self.now.text }
+    {
+        self.text.as_slice()
+    }
+
+    /// Appends bytes. It may find no memory.
+    pub fn append(&mut self, bytes: &[u8]) -> Result<(), AllocError>
+        ensures { OnOk result (Grown self.old.text self.new.text bytes.now) }
+    {
+        self.text.append(bytes)
+    }
+
+    /// Appends the lines of a family that stand before its samples. It may find no memory.
+    pub fn append_heads(
+        &mut self,
+        name: &str,
+        metric_type: MetricType,
+        help: &str,
+        unit: Option<&str>,
+    ) -> Result<(), AllocError>
+        ensures { OnOk result (Grown self.old.text self.new.text (head_rows (record {
+          name = name.now;
+          metric_type = metric_type;
+          help = help.now;
+          unit = option_copied unit.entry;
+          samples = [];
+        }))) }
+    {
+        append_heads(&mut self.text, name, metric_type, help, unit)
+    }
+
+    /// Appends the line of a sample whose own labels come after the common ones. It may find no memory.
+    pub fn push(
+        &mut self,
+        name: &str,
+        kind: SampleKind,
+        common: &LabelText,
+        own: &[(&str, &str)],
+        value: Value,
+        time: Option<u128>,
+        exemplar: Option<&Exemplar>,
+    ) -> Result<(), AllocError>
+        ensures { OnOk result (Grown self.old.text self.new.text (sample_row name.now (record {
+          kind = kind;
+          labels = common.now.labels ++ map shown_label own.now;
+          value = value_of value;
+          time = time;
+          exemplar = option_map exemplar_at exemplar.entry;
+        }))) }
+    {
+        append_sample_row(
+            &mut self.text,
+            name,
+            kind,
+            common,
+            own,
+            &value,
+            time,
+            exemplar,
+        )
+    }
+}

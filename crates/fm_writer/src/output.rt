@@ -1,0 +1,100 @@
+// What a text is rendered to: a text that grows, or its size alone.
+ghost use Rattle.std.specs.Prelude.{◌≡◌, ◌+◌, ◌-◌, ◌^◌, ◌++◌, [], min, OnOk};
+ghost use Rattle.fm_grammar.specs.Exposition.{Text};
+ghost use Rattle.fm_writer.specs.Grown.{Grows, size_of};
+
+use crate::growing::GrowingText;
+use std::alloc::AllocError;
+
+// What a text is rendered to.
+pub(crate) trait Output {
+    // The texts that it may stand for.
+    ghost stands_for: { Self → Text → Type 0 };
+
+    // Appends bytes. It may find no memory.
+    fn put(&mut self, bytes: &[u8]) -> Result<(), AllocError>
+        ensures { OnOk result (Grows (stands_for self.old) (stands_for self.new) bytes.now) };
+
+    // Appends three pieces. It may find no memory.
+    fn put_three(&mut self, first: &[u8], second: &[u8], third: &[u8]) -> Result<(), AllocError>
+        ensures { OnOk result (Grows (stands_for self.old) (stands_for self.new) (first.now ++ (second.now ++ third.now))) };
+
+    // Appends what another output stands for. It may find no memory.
+    fn put_output(&mut self, other: &Self) -> Result<(), AllocError>
+        ensures { (text : Text) → stands_for other.now text → OnOk result (Grows (stands_for self.old) (stands_for self.new) text) };
+
+    // Takes all away.
+    fn reset(&mut self)
+        ensures { stands_for self.new [] };
+}
+
+impl Output for GrowingText {
+    ghost stands_for = { λ output text. output ≡ text };
+
+    fn put(&mut self, bytes: &[u8]) -> Result<(), AllocError> {
+        self.append(bytes)
+    }
+
+    fn put_three(&mut self, first: &[u8], second: &[u8], third: &[u8]) -> Result<(), AllocError> {
+        self.append_three(first, second, third)
+    }
+
+    fn put_output(&mut self, other: &GrowingText) -> Result<(), AllocError> {
+        self.append(other.as_slice())
+    }
+
+    fn reset(&mut self) {
+        self.clear();
+    }
+}
+
+// The size of a text. A size that passes `usize` counts as the greatest `usize`.
+#[derive(Drop)]
+pub(crate) struct Size {
+    // The size of the text so far.
+    pub(crate) size: usize,
+    // The greatest size so far, also of what was taken away.
+    pub(crate) greatest: usize,
+}
+
+impl Size {
+    // The size of nothing.
+    pub(crate) fn new() -> Size {
+        Size {
+            size: 0,
+            greatest: 0,
+        }
+    }
+
+    fn add(&mut self, count: usize)
+        ensures { self.new.size ≡ min (self.old.size + count) (2 ^ 64 - 1) }
+    {
+        self.size = self.size.saturating_add(count);
+        self.greatest = self.greatest.max(self.size);
+    }
+}
+
+impl Output for Size {
+    ghost stands_for = { λ output text. output.size ≡ size_of text };
+
+    fn put(&mut self, bytes: &[u8]) -> Result<(), AllocError> {
+        self.add(bytes.len());
+        Ok(())
+    }
+
+    #[tactic(auto, using(crate::proofs::GrownLemmas::grown))]
+    fn put_three(&mut self, first: &[u8], second: &[u8], third: &[u8]) -> Result<(), AllocError> {
+        self.put(first)?;
+        self.put(second)?;
+        self.put(third)
+    }
+
+    fn put_output(&mut self, other: &Size) -> Result<(), AllocError> {
+        self.add(other.size);
+        Ok(())
+    }
+
+    fn reset(&mut self) {
+        self.size = 0;
+    }
+}

@@ -1,0 +1,168 @@
+// The texts of the parts of a sample's line, appended to an output.
+ghost use Rattle.std.specs.Prelude.{◌≡◌, ◌⊎◌, ◌≤◌, ◌++◌, [], ◌∷◌, length, take, map, codes, IsTrue, OnOk, None};
+ghost use Rattle.std.specs.Option.{option_map};
+ghost use Rattle.fm_grammar.specs.Spelling.{escape, escaped, value_text, time_text, exemplar_text};
+ghost use Rattle.fm_exposition.specs.Rows.{sample_row};
+ghost use Rattle.fm_exposition.specs.Samples.{value_of, exemplar_at};
+ghost use Rattle.fm_writer.specs.Grown.{Grows};
+
+use crate::labels::{Front, Pair, append_in_braces, append_joined_list};
+use crate::output::Output;
+use fm_exposition::{Exemplar, Value};
+use fm_grammar::SampleKind;
+use fm_raw::fixed::{FixedBuffer, FixedSum};
+use itoa::Buffer;
+use std::alloc::AllocError;
+
+// Appends a byte with its escape.
+#[tactic(auto, unfolding(fm_grammar::specs::Spelling::escape))]
+fn append_escape<O: Output>(text: &mut O, byte: u8) -> Result<(), AllocError>
+    ensures { OnOk result (Grows (O.stands_for text.old) (O.stands_for text.new) (escape byte)) }
+{
+    match byte {
+        b'\n' => text.put(b"\\n"),
+        b'"' => text.put(b"\\\""),
+        b'\\' => text.put(b"\\\\"),
+        other => text.put(&[other]),
+    }
+}
+
+// Whether a byte is written with an escape.
+#[tactic(auto, unfolding(fm_grammar::specs::Spelling::escape))]
+fn has_escape(byte: u8) -> bool
+    ensures { IsTrue result ⊎ (escape byte ≡ byte ∷ []) }
+{
+    (byte == b'\n') | (byte == b'"') | (byte == b'\\')
+}
+
+// How many bytes stand before the first one that is written with an escape.
+fn plain_len(raw: &[u8]) -> usize
+    ensures within { result ≤ length raw.now }
+    ensures plain { escaped (take result raw.now) ≡ take result raw.now }
+{
+    for i in 0..raw.len() {
+        if has_escape(raw[i]) {
+            return i;
+        }
+    }
+    raw.len()
+}
+
+// Whether each byte of a text is written as it is. It asks each of them, so that several are asked at once.
+pub(crate) fn is_plain(raw: &[u8]) -> bool
+    ensures { IsTrue result → escaped raw.now ≡ raw.now }
+{
+    let mut escapes = false;
+    for byte in raw {
+        escapes |= has_escape(*byte);
+    }
+    !escapes
+}
+
+// Appends a text with its escapes: what stands between two of them at once.
+pub(crate) fn append_escaped<O: Output>(text: &mut O, raw: &[u8]) -> Result<(), AllocError>
+    ensures { OnOk result (Grows (O.stands_for text.old) (O.stands_for text.new) (escaped raw.now)) }
+{
+    let mut rest = raw;
+    loop {
+        let (plain, others) = rest.split_at(plain_len(rest));
+        text.put(plain)?;
+        let Some((first, after)) = others.split_first() else {
+            return Ok(());
+        };
+        append_escape(text, *first)?;
+        rest = after;
+    }
+}
+
+// Appends a value.
+fn append_value<O: Output>(text: &mut O, value: &Value) -> Result<(), AllocError>
+    ensures { OnOk result (Grows (O.stands_for text.old) (O.stands_for text.new) (value_text (value_of value.now))) }
+{
+    match value {
+        Value::Whole(whole) => text.put(Buffer::new().format(*whole).as_bytes()),
+        Value::Fixed(sum) => text.put(FixedBuffer::new().format(*sum).as_bytes()),
+        Value::Millis(millis) => text.put(FixedBuffer::new().format_millis(*millis).as_bytes()),
+    }
+}
+
+// Appends a space and a timestamp, and nothing for none.
+#[tactic(auto, using(crate::proofs::GrownLemmas::grown))]
+fn append_time<O: Output>(text: &mut O, time: Option<u128>) -> Result<(), AllocError>
+    ensures { OnOk result (Grows (O.stands_for text.old) (O.stands_for text.new) (time_text time)) }
+{
+    match time {
+        Some(millis) => {
+            let mut buffer = FixedBuffer::new();
+            text.put(b" ")?;
+            text.put(buffer.format_millis(millis).as_bytes())
+        }
+        None => Ok(()),
+    }
+}
+
+// Appends an exemplar, and nothing for none.
+#[tactic(auto, using(crate::proofs::GrownLemmas::grown))]
+fn append_exemplar<O: Output>(text: &mut O, exemplar: Option<&Exemplar>) -> Result<(), AllocError>
+    ensures { OnOk result (Grows (O.stands_for text.old) (O.stands_for text.new) (exemplar_text (option_map exemplar_at exemplar.entry))) }
+{
+    match exemplar {
+        Some(exemplar) => {
+            let mut buffer = FixedBuffer::new();
+            text.put(b" # ")?;
+            append_in_braces(text, exemplar.labels())?;
+            text.put(b" ")?;
+            text.put(buffer.format(FixedSum::from(exemplar.value())).as_bytes())?;
+            append_time(text, exemplar.timestamp_millis())
+        }
+        None => Ok(()),
+    }
+}
+
+// Appends a value, a timestamp, an exemplar and a line feed.
+#[tactic(auto, using(crate::proofs::GrownLemmas::grown))]
+#[inline(always)]
+fn append_reading<O: Output>(
+    text: &mut O,
+    value: &Value,
+    time: Option<u128>,
+    exemplar: Option<&Exemplar>,
+) -> Result<(), AllocError>
+    ensures { OnOk result (Grows (O.stands_for text.old) (O.stands_for text.new) (value_text (value_of value.now) ++ (time_text time ++ (exemplar_text (option_map exemplar_at exemplar.entry) ++ codes "\n")))) }
+{
+    append_value(text, value)?;
+    append_time(text, time)?;
+    append_exemplar(text, exemplar)?;
+    text.put(b"\n")
+}
+
+// Appends a sample's line.
+pub(crate) fn append_sample_row<O: Output, F: Front<O>, L: Pair>(
+    text: &mut O,
+    name: &str,
+    kind: SampleKind,
+    common: &F,
+    own: &[L],
+    value: &Value,
+    time: Option<u128>,
+    exemplar: Option<&Exemplar>,
+) -> Result<(), AllocError>
+    requires { F.is_ready common.now }
+    ensures { OnOk result (Grows (O.stands_for text.old) (O.stands_for text.new) (sample_row name.now (record {
+      kind = kind;
+      labels = F.labels common.now ++ map L.label own.now;
+      value = value_of value.now;
+      time = time;
+      exemplar = option_map exemplar_at exemplar.entry;
+    }))) }
+{
+    let (name, suffix) = (name.as_bytes(), kind.suffix().as_bytes());
+    if common.len() == 0 && own.is_empty() {
+        text.put_three(name, suffix, b" ")?;
+        return append_reading(text, value, time, exemplar);
+    }
+    text.put_three(name, suffix, b"{")?;
+    append_joined_list(text, common, own)?;
+    text.put(b"} ")?;
+    append_reading(text, value, time, exemplar)
+}

@@ -1,0 +1,206 @@
+//! Where encoders put the samples of a family.
+ghost use Rattle.std.specs.Prelude.{◌≡◌, ◌++◌, None, Some, [], ◌∷◌, map, OnOk, OnErr, IfOk, IfErr};
+ghost use Rattle.std.specs.Option.{option_map, option_copied};
+ghost use Rattle.fm_encode_error.specs.declared.EncodeError.{EncodeError};
+ghost use Rattle.fm_exposition.specs.Rows.{head_rows};
+ghost use Rattle.fm_exposition.specs.Samples.{labels_of, shared_labels, shown_label, value_of, exemplar_of};
+ghost use Rattle.fm_writer.specs.Output.{OutputSamples, OutputText, AreShared, appended, with_lines, samples_in, lines_in};
+
+use crate::label_text::LabelText;
+use crate::lines::Lines;
+use fm_encode_error::EncodeError;
+use fm_exposition::{CommonLabels, Exemplar, SampleStore, Value};
+use fm_grammar::{MetricType, SampleKind};
+use std::alloc::{AllocError, Global};
+use std::marker::Model;
+use std::sync::Arc;
+
+#[derive(Drop)]
+enum Form {
+    // The samples, and whether the next ones share the store's common labels.
+    Samples(SampleStore, bool),
+    Lines(Lines),
+}
+
+/// Labels of their own memory, equal to the lent ones. It may find no memory.
+pub fn owned_labels(
+    alloc: Global,
+    labels: &[(&str, &str)],
+) -> Result<Vec<(String, String)>, AllocError>
+    ensures { IfOk result (λ owned. labels_of owned.items ≡ map shown_label labels.now) }
+{
+    let mut owned = Vec::new(alloc);
+    for label in labels {
+        owned.push((
+            String::from_str(alloc, label.0)?,
+            String::from_str(alloc, label.1)?,
+        ))?;
+    }
+    Ok(owned)
+}
+
+// The labels, for samples to share.
+fn shared(alloc: Global, labels: &LabelText) -> Result<CommonLabels, AllocError>
+    ensures { IfOk result (λ shared. shared_labels shared ≡ labels.now.labels) }
+{
+    let pairs = labels.pairs(alloc, 0)?;
+    let shared = Arc::new(alloc, owned_labels(alloc, &pairs)?)?;
+    Ok(shared)
+}
+
+/// Keeps samples, or appends their lines to a text.
+#[derive(Drop)]
+pub struct Sink {
+    alloc: Global,
+    form: Form,
+}
+
+impl Model for Sink {
+    ghost use Rattle.fm_writer.specs.Output.{SinkState};
+    ghost use Rattle.fm_writer.specs.Forms.{state_of};
+
+    ghost Value = { SinkState };
+
+    ghost view = { λ s. state_of s.form };
+}
+
+impl Sink {
+    /// A sink that keeps samples. The next ones share no labels. It may find no memory.
+    pub fn samples(alloc: Global) -> Result<Sink, AllocError>
+        ensures { IfOk result (λ sink. sink ≡ record { shared = Some []; output = OutputSamples [] }) }
+    {
+        let common = Arc::new(alloc, Vec::new(alloc))?;
+        Ok(Sink {
+            alloc,
+            form: Form::Samples(SampleStore::new(alloc, common), true),
+        })
+    }
+
+    /// A sink that appends lines.
+    pub fn lines(alloc: Global, lines: Lines) -> Sink
+        ensures { result ≡ record { shared = None; output = OutputText lines.text } }
+    {
+        Sink {
+            alloc,
+            form: Form::Lines(lines),
+        }
+    }
+
+    /// Appends the lines of a family that stand before its samples; a sink that keeps samples has none. It may find no memory.
+    pub fn append_heads(
+        &mut self,
+        name: &str,
+        metric_type: MetricType,
+        help: &str,
+        unit: Option<&str>,
+    ) -> Result<(), AllocError>
+        ensures shared { self.new.shared ≡ self.old.shared }
+        ensures grown { OnOk result (self.new.output ≡ with_lines self.old.output (head_rows (record {
+          name = name.now;
+          metric_type = metric_type;
+          help = help.now;
+          unit = option_copied unit.entry;
+          samples = [];
+        }))) }
+    {
+        match &mut self.form {
+            Form::Samples(_, _) => Ok(()),
+            Form::Lines(lines) => lines.append_heads(name, metric_type, help, unit),
+        }
+    }
+
+    /// Ends the point. The next samples have these common labels, of which samples that are kept share a copy. Where there is no
+    /// memory the sink takes no samples until labels are shared again.
+    pub fn share(&mut self, common: &LabelText) -> Result<(), AllocError>
+        ensures output { self.new.output ≡ self.old.output }
+        ensures shared { OnOk result (AreShared common.now.labels self.new.shared) }
+        ensures none { OnErr result (self.new.shared ≡ None) }
+    {
+        self.unshare();
+        if let Form::Samples(store, is_shared) = &mut self.form {
+            store.share(shared(self.alloc, common)?);
+            *is_shared = true;
+        }
+        Ok(())
+    }
+
+    /// A sink that keeps samples takes none until labels are shared again.
+    pub fn unshare(&mut self)
+        ensures { self.new ≡ record self.old { shared = None } }
+    {
+        if let Form::Samples(_, is_shared) = &mut self.form {
+            *is_shared = false;
+        }
+    }
+
+    /// Ends the point: the next sample begins another one, under the same common labels.
+    pub fn end_point(&mut self)
+        ensures { self.new ≡ self.old }
+    {
+        if let Form::Samples(store, _) = &mut self.form {
+            store.end_point();
+        }
+    }
+
+    /// Takes a sample of the family with this printed name. Its own labels come after the common ones, which are those that were
+    /// shared; the time is in milliseconds.
+    ///
+    /// It may find no memory; then a part of a line may stand at the end of a text.
+    pub fn push(
+        &mut self,
+        name: &str,
+        kind: SampleKind,
+        common: &LabelText,
+        own: &[(&str, &str)],
+        value: Value,
+        time: Option<u128>,
+        exemplar: Option<Exemplar>,
+    ) -> Result<(), EncodeError>
+        requires shared { AreShared common.now.labels self.old.shared }
+        ensures shared { self.new.shared ≡ self.old.shared }
+        ensures pushed { OnOk result (self.new.output ≡ appended name.now self.old.output (record {
+          kind = kind;
+          labels = common.now.labels ++ map shown_label own.now;
+          value = value_of value;
+          time = time;
+          exemplar = option_map exemplar_of exemplar;
+        } ∷ [])) }
+        ensures memory { IfErr result (λ e. e ≡ EncodeError.Memory) }
+    {
+        match &mut self.form {
+            Form::Samples(_, false) => Err(EncodeError::Memory),
+            Form::Samples(store, true) => match owned_labels(self.alloc, own) {
+                Ok(own) => store.push(kind, own, value, time, exemplar),
+                Err(_) => Err(EncodeError::Memory),
+            },
+            Form::Lines(lines) => {
+                match lines.push(name, kind, common, own, value, time, exemplar.as_ref()) {
+                    Ok(()) => Ok(()),
+                    Err(_) => Err(EncodeError::Memory),
+                }
+            }
+        }
+    }
+
+    /// The samples, or None where the sink appends lines.
+    pub fn into_samples(self) -> Option<SampleStore>
+        ensures { option_map (λ stored. stored.samples) result ≡ samples_in self.output }
+    {
+        let Sink { form, .. } = self;
+        match form {
+            Form::Samples(store, _) => Some(store),
+            Form::Lines(_) => None,
+        }
+    }
+
+    /// The lines, or None where the sink keeps samples.
+    pub fn into_lines(self) -> Option<Lines>
+        ensures { result ≡ lines_in self.output }
+    {
+        let Sink { form, .. } = self;
+        match form {
+            Form::Samples(_, _) => None,
+            Form::Lines(lines) => Some(lines),
+        }
+    }
+}

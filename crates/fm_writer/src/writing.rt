@@ -1,0 +1,192 @@
+// Writing an exposition as its document.
+ghost use Rattle.std.specs.Prelude.{◌≡◌, List, IfOk, OnOk, IfErr};
+ghost use Rattle.std.specs.Io.KnownBytes.{Keeps};
+ghost use Rattle.fm_grammar.specs.Exposition.{Label};
+ghost use Rattle.fm_grammar.specs.Spelling.{label_list_text};
+ghost use Rattle.fm_exposition.specs.Points.{HaveInCommon, AreInPoints};
+ghost use Rattle.fm_exposition.specs.Rows.{sample_row, sample_rows, family_rows, families_rows, document_rows};
+ghost use Rattle.fm_exposition.specs.Samples.{common_labels, sample_of, samples_of};
+ghost use Rattle.fm_exposition.specs.Written.{AppendsDocument, BeginsDocument, IsWritersFault, IsWritingRefusal};
+ghost use Rattle.fm_writer.specs.Grown.{Grows, size_of};
+
+use crate::growing::GrowingText;
+use crate::heads::append_heads;
+use crate::labels::{Rendered, render_label_list};
+use crate::output::{Output, Size};
+use crate::rendering::append_sample_row;
+use fm_encode_error::EncodeError;
+use fm_exposition::{Exposition, FamilySamples, Sample, parts, write_text};
+use std::alloc::{AllocError, Global};
+use std::io::Write;
+
+// Appends the line of a sample, given the text of its common labels.
+fn append_sample<O: Output>(
+    text: &mut O,
+    common_text: &O,
+    name: &str,
+    sample: &Sample,
+) -> Result<(), AllocError>
+    requires { O.stands_for common_text.now (label_list_text (common_labels sample.now)) }
+    ensures { OnOk result (Grows (O.stands_for text.old) (O.stands_for text.new) (sample_row name.now (sample_of sample.now))) }
+{
+    let common = Rendered {
+        labels: parts::common(sample),
+        text: common_text,
+    };
+    append_sample_row(
+        text,
+        name,
+        sample.kind(),
+        &common,
+        parts::own(sample),
+        &sample.value(),
+        sample.timestamp_millis(),
+        sample.exemplar(),
+    )
+}
+
+// Appends the lines of samples that share common labels, given the text of these.
+fn append_samples<O: Output>(
+    text: &mut O,
+    common_text: &O,
+    name: &str,
+    samples: &[Sample],
+) -> Result<(), AllocError>
+    requires { (labels : List Label) × O.stands_for common_text.now (label_list_text labels) × HaveInCommon labels samples.now }
+    ensures { OnOk result (Grows (O.stands_for text.old) (O.stands_for text.new) (sample_rows name.now (samples_of samples.now))) }
+{
+    for sample in samples {
+        append_sample(text, common_text, name, sample)?;
+    }
+    Ok(())
+}
+
+// Appends the lines of a point's samples, whose common labels are rendered once.
+#[tactic(auto, using(crate::proofs::GrownLemmas::grown, fm_exposition::proofs::PointLemmas::points))]
+fn append_point<O: Output>(
+    text: &mut O,
+    common_text: &mut O,
+    name: &str,
+    samples: &[Sample],
+) -> Result<(), AllocError>
+    requires { (labels : List Label) × HaveInCommon labels samples.now }
+    ensures { OnOk result (Grows (O.stands_for text.old) (O.stands_for text.new) (sample_rows name.now (samples_of samples.now))) }
+{
+    let Some(first) = samples.first() else {
+        return Ok(());
+    };
+    render_label_list(common_text, parts::common(first))?;
+    append_samples(text, common_text, name, samples)
+}
+
+// Appends the lines of samples point by point.
+fn append_points<O: Output>(
+    text: &mut O,
+    common_text: &mut O,
+    name: &str,
+    points: &[usize],
+    samples: &[Sample],
+) -> Result<(), AllocError>
+    requires { AreInPoints points.now samples.now }
+    ensures { OnOk result (Grows (O.stands_for text.old) (O.stands_for text.new) (sample_rows name.now (samples_of samples.now))) }
+{
+    let mut rest = samples;
+    for count in points {
+        let (point, others) = rest.split_at(*count);
+        append_point(text, common_text, name, point)?;
+        rest = others;
+    }
+    Ok(())
+}
+
+// Appends the lines of a family.
+#[tactic(auto, using(crate::proofs::GrownLemmas::grown))]
+fn append_family<O: Output>(
+    text: &mut O,
+    common_text: &mut O,
+    family: &FamilySamples,
+) -> Result<(), AllocError>
+    ensures { OnOk result (Grows (O.stands_for text.old) (O.stands_for text.new) (family_rows family.now)) }
+{
+    append_heads(
+        text,
+        family.name(),
+        family.metric_type(),
+        family.help(),
+        family.unit(),
+    )?;
+    let (points, samples) = parts::points(family);
+    append_points(text, common_text, family.name(), points, samples)
+}
+
+// Appends the lines of families.
+fn append_families<O: Output>(
+    text: &mut O,
+    common_text: &mut O,
+    families: &[FamilySamples],
+) -> Result<(), AllocError>
+    ensures { OnOk result (Grows (O.stands_for text.old) (O.stands_for text.new) (families_rows families.now)) }
+{
+    for family in families {
+        append_family(text, common_text, family)?;
+    }
+    Ok(())
+}
+
+// Makes an output the document of families. The common labels of each point are rendered to the second output.
+fn render_document<O: Output>(
+    text: &mut O,
+    common_text: &mut O,
+    families: &[FamilySamples],
+) -> Result<(), AllocError>
+    ensures { OnOk result (O.stands_for text.new (document_rows families.now)) }
+{
+    text.reset();
+    append_families(text, common_text, families)?;
+    text.put(b"# EOF\n")
+}
+
+// The size of a document, and that of the common labels of its points.
+fn measured(families: &[FamilySamples]) -> Result<(Size, Size), AllocError>
+    ensures { IfOk result (λ sizes. sizes.0.size ≡ size_of (document_rows families.now)) }
+{
+    let mut text = Size::new();
+    let mut common_text = Size::new();
+    render_document(&mut text, &mut common_text, families)?;
+    Ok((text, common_text))
+}
+
+// The document's text, for which there is room before its first byte is rendered.
+fn rendered(alloc: Global, families: &[FamilySamples]) -> Result<GrowingText, AllocError>
+    ensures { IfOk result (λ text. text ≡ document_rows families.now) }
+{
+    let (size, common_size) = measured(families)?;
+    let mut text = GrowingText::with_room(alloc, size.size)?;
+    let mut common_text = GrowingText::with_room(alloc, common_size.greatest)?;
+    render_document(&mut text, &mut common_text, families)?;
+    Ok(text)
+}
+
+/// Appends the document of an exposition to what a writer holds.
+///
+/// It asks at most twice for memory, for the document and for the common labels of a point, and before the
+/// first byte: `Memory` says that there was none and that nothing was written. `Write` says that the writer answered an error, and
+/// `WriteZero` that it took no byte. No call is tried again, and the writer is not flushed.
+pub fn encode_exposition<W: Write>(
+    alloc: Global,
+    writer: &mut W,
+    exposition: &Exposition,
+) -> Result<(), EncodeError>
+    // After an Ok just the document was appended.
+    ensures document { OnOk result (AppendsDocument (W.contents writer.old) (W.contents writer.new) exposition.now) }
+    // Without memory nothing was written.
+    ensures memory { IfErr result (λ e. e ≡ EncodeError.Memory → Keeps (W.contents writer.old) (W.contents writer.new)) }
+    // After a writer's fault a beginning of the document was appended.
+    ensures stopped { IfErr result (λ e. IsWritersFault e → BeginsDocument (W.contents writer.old) (W.contents writer.new) exposition.now) }
+    ensures refusals { IfErr result IsWritingRefusal }
+{
+    let Ok(text) = rendered(alloc, exposition.families()) else {
+        return Err(EncodeError::Memory);
+    };
+    write_text(writer, text.as_slice())
+}
