@@ -98,12 +98,13 @@ pub mod metrics {
 
 pub mod raw {
     //! Numbers, atomic words, units, metadata, the buckets of histograms, and the quantiles of summaries.
-    pub use fm_atomic::{Atomic, CounterValue, GaugeValue, TryDefault, UnknownValue, atomic};
+    pub use fm_atomic::{Atomic, CounterValue, GaugeValue, UnknownValue, atomic};
     pub use fm_bucket as bucket;
     pub use fm_bucket::quantile;
     pub use fm_raw::{
-        Fixed, FixedBuffer, FixedSum, Metadata, MetricError, MetricType, Number, TypedMetric, Unit,
-        error, fixed, is_label_name, is_snake_case, is_unit_text, metadata, name, number, types,
+        Fixed, FixedBuffer, FixedSum, Metadata, MetricError, MetricType, Number, TryDefault,
+        TypedMetric, Unit, error, fixed, is_label_name, is_snake_case, is_unit_text, metadata,
+        name, number, types,
     };
 }
 
