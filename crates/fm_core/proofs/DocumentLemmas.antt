@@ -17,8 +17,8 @@ use Rattle.fm_encoder.specs.Hands.{HandsMembers}
 use Rattle.fm_registry.specs.Seen.{seen_list, seen_listed}
 use Rattle.fm_registry.specs.declared.listing.ListedMetric.{ListedMetric}
 use Rattle.fm_core.specs.Heading.{Heading, IsHeading}
-use Rattle.fm_core.specs.Offered.{Offered}
-use Rattle.fm_core.specs.Documents.{heading_rows, text_in, HasLines, AddsRows, AddsNextRows, IsTextOf}
+use Rattle.fm_core.specs.inside.Offered.{Offered}
+use Rattle.fm_core.specs.inside.Documents.{heading_rows, text_in, HasLines, AddsRows, AddsNextRows, IsTextOf}
 use Rattle.fm_core.specs.Admits.{FaultUnder}
 use Rattle.fm_core.proofs.OfferedLemmas.{Ends, Makes, offered_made}
 use Rattle.fm_core.proofs.CollectLemmas.{Admits-next, next_new}

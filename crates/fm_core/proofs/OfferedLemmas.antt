@@ -11,7 +11,7 @@ use Rattle.fm_encoder.specs.Gathered.{GatheredMembers, OwnRefusal, own_refusal}
 use Rattle.fm_encoder.specs.Hands.{HandsMembers}
 use Rattle.fm_encoder.proofs.LabelSetLemmas.{own_refusal_is}
 use Rattle.fm_encoder.proofs.MemberLemmas.{MembersClean-formed}
-use Rattle.fm_core.specs.Offered.{Offered}
+use Rattle.fm_core.specs.inside.Offered.{Offered}
 
 module _ (Offers : List Member → Type 0) (Stamps : Option ℕ → Type 0) (MayFault : Type 0) (name : Text) (type : MetricType) (constants : List Label) (stamp : Option ℕ) (output : Output) where
   abbrev context : Context

@@ -9,8 +9,7 @@ pub use Rattle.fm_registry_calls.specs.Tree
 pub use Rattle.fm_encoder.specs.Points
 pub use Rattle.fm_encoder.specs.Offers
 pub mod Admits
-pub mod Documents
 pub mod Encoded
 pub mod Families
 pub mod Heading
-pub mod Offered
+pub mod inside

@@ -18,7 +18,7 @@ ghost use Rattle.fm_encoder.specs.Offers.{context_at};
 ghost use Rattle.fm_core.specs.Heading.{IsHeading};
 ghost use Rattle.fm_core.specs.Families.{heading_in};
 ghost use Rattle.fm_core.specs.Admits.{Admits, FaultOf, Fault, FaultUnder};
-ghost use Rattle.fm_core.specs.Documents.{heading_rows, text_in, HasLines, AddsRows, AddsNextRows};
+ghost use Rattle.fm_core.specs.inside.Documents.{heading_rows, text_in, HasLines, AddsRows, AddsNextRows};
 
 use crate::family::{join_name, text_of, whole_millis};
 use crate::format::text::constants_of;

@@ -16,7 +16,7 @@ ghost use Rattle.fm_encoder.specs.Offers.{AdmitsSamples, MetricHasFault};
 ghost use Rattle.fm_core.specs.Heading.{IsHeading};
 ghost use Rattle.fm_core.specs.Admits.{IsFamilyUnder, FaultUnder};
 ghost use Rattle.fm_core.specs.Families.{next_heading, EncodesFamily};
-ghost use Rattle.fm_core.specs.Offered.{Offered};
+ghost use Rattle.fm_core.specs.inside.Offered.{Offered};
 
 use fm_encode_error::EncodeError;
 use fm_encoder::{EncodeMetric, MetricEncoder};

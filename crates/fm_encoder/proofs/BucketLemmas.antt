@@ -17,7 +17,7 @@ use Rattle.fm_encode_error.specs.declared.EncodeError.{EncodeError}
 use Rattle.fm_encoder.specs.Points.{HandedExemplar, Setting, Point, ExemplarClean, values_in, BucketsClean, BucketsFault, PartsClean, type_of, point_samples, bucket_line, bucket_sample, bucket_samples}
 use Rattle.fm_encoder.specs.Gathered.{GatheredPoints, OwnRefusal, answer}
 use Rattle.fm_encoder.specs.Hands.{SamePlace, HandsPoints, points_samples}
-use Rattle.fm_encoder.specs.Steps.{FitsType, PushesSample, PushesSamples}
+use Rattle.fm_encoder.specs.inside.Steps.{FitsType, PushesSample, PushesSamples}
 use Rattle.fm_encoder.specs.Buckets.{HasBuckets, HasTotals, slots_of, BeginsBuckets, PushesBucket, PushesBuckets}
 use Rattle.std.proofs.lemmas.List.{take_more, length-map}
 use Rattle.std.proofs.lemmas.List.Sums.{sum_by-append, sum_by-cons, sum_by_more_le}

@@ -7,7 +7,7 @@ use Rattle.fm_grammar.specs.Exposition.{Label}
 use Rattle.fm_encoder.specs.Labels.{HandedLabel, NameFits, PieceFault, LabelFault, pieces_of, written}
 use Rattle.fm_encoder.specs.Gathered.{GatheredPieces, GatheredLabels, OwnRefusal, own_refusal, answer}
 use Rattle.fm_encoder.specs.Hands.{HandsPieces, HandsLabels}
-use Rattle.fm_encoder.specs.Steps.{EndsLabel}
+use Rattle.fm_encoder.specs.inside.Steps.{EndsLabel}
 use Rattle.fm_encoder.proofs.Cases.{option_cases, answer_cases}
 
 -- what a label set encoder shows of its label encoder

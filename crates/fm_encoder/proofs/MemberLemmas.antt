@@ -14,7 +14,7 @@ use Rattle.fm_encoder.specs.Labels.{HandedLabel, LabelsClean, LabelsFault, all_w
 use Rattle.fm_encoder.specs.Points.{Point, Member, Setting, Context, PointClean, PartsFault, point_samples, MembersClean, MembersFault, member_samples, members_samples}
 use Rattle.fm_encoder.specs.Gathered.{GatheredPoints, GatheredMembers, OwnRefusal, own_refusal, answer}
 use Rattle.fm_encoder.specs.Hands.{HandsPoints, HandsMembers, PointsClean, PointsFault, points_samples, MembersOf, members_of, Joined, OffersOf}
-use Rattle.fm_encoder.specs.Steps.{BeginsMember, EndsPoints}
+use Rattle.fm_encoder.specs.inside.Steps.{BeginsMember, EndsPoints}
 use Rattle.fm_encoder.proofs.Cases.{option_cases, answer_cases}
 use Rattle.fm_encoder.proofs.LabelSetLemmas.{own_refusal_is}
 

@@ -6,8 +6,6 @@ pub mod Points
 pub mod States
 pub mod Gathered
 pub mod Hands
-pub mod Steps
 pub mod Buckets
 pub mod Offers
-pub mod Gathering
-pub mod Constants
+pub mod inside

@@ -64,7 +64,7 @@ pub(crate) struct ConstantLabels {
 }
 
 impl Model for ConstantLabels {
-    ghost use Rattle.fm_encoder.specs.Constants.{FamilyConstants, AreTested};
+    ghost use Rattle.fm_encoder.specs.inside.Constants.{FamilyConstants, AreTested};
 
     ghost Value = { FamilyConstants };
 

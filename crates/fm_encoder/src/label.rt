@@ -4,7 +4,7 @@ ghost use Rattle.fm_encode_error.specs.declared.EncodeError.{EncodeError};
 ghost use Rattle.fm_encoder.specs.Labels.{HandedLabel, NamePiece, ValuePiece, written};
 ghost use Rattle.fm_encoder.specs.Gathered.{GatheredPieces, GatheredLabels, answer, own_refusal};
 ghost use Rattle.fm_encoder.specs.Hands.{HandsPieces, HandsLabels};
-ghost use Rattle.fm_encoder.specs.Steps.{EndsLabel};
+ghost use Rattle.fm_encoder.specs.inside.Steps.{EndsLabel};
 
 use crate::names::is_reserved;
 use crate::own::own_refusal;

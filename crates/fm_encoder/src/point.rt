@@ -14,7 +14,7 @@ ghost use Rattle.fm_encoder.specs.Labels.{LabelsClean, LabelsFault, AreFree, all
 ghost use Rattle.fm_encoder.specs.States.{state_of};
 ghost use Rattle.fm_encoder.specs.Gathered.{OwnRefusal, answer};
 ghost use Rattle.fm_encoder.specs.Hands.{HandsPoints};
-ghost use Rattle.fm_encoder.specs.Steps.{FitsType, BeginsPoint, BeginsMember, PushesSample, PushesSamples, TestsStates, EndsPoints, IsNumber};
+ghost use Rattle.fm_encoder.specs.inside.Steps.{FitsType, BeginsPoint, BeginsMember, PushesSample, PushesSamples, TestsStates, EndsPoints, IsNumber};
 
 use crate::constants::ConstantLabels;
 use crate::exemplar::{EncodeExemplar, exemplar_if_any};
@@ -79,7 +79,7 @@ impl Model for PointEncoder {
       refused = e.refused;
     } };
 
-    ghost use Rattle.fm_encoder.specs.Gathering.{IsGathering};
+    ghost use Rattle.fm_encoder.specs.inside.Gathering.{IsGathering};
 
     ghost invariant = { IsGathering };
 }

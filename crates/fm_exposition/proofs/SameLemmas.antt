@@ -3,7 +3,7 @@ use Rattle.std.proofs.Common.{◌≡◌, Bool, Option, Some, None, refl, sym, �
 use Rattle.std.specs.Bool.{Decides}
 use Rattle.std.specs.Option.{option_map, option_eq}
 use Rattle.std.specs.Cmp.Derive.Mapped.{pointwise-map}
-use Rattle.fm_exposition.specs.SameLaws.{same_value_decides, same_exemplar_decides, same_sample_decides, same_family_decides, same_exposition_decides}
+use Rattle.fm_exposition.specs.inside.SameLaws.{same_value_decides, same_exemplar_decides, same_sample_decides, same_family_decides, same_exposition_decides}
 
 -- a result that a deciding test gives
 pub exactly : {P : Type 0} (r s : Bool) → r ≡ s → Decides s P → (IsTrue r ↔ P)

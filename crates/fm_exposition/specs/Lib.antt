@@ -3,9 +3,7 @@ pub use Rattle.fm_grammar.specs.WellFormed
 pub use Rattle.fm_grammar.specs.Document
 pub use Rattle.fm_grammar.specs.Law
 pub mod Samples
-pub mod Points
-pub mod Families
 pub mod Same
-pub mod SameLaws
 pub mod Rows
 pub mod Written
+pub mod inside

@@ -2,7 +2,7 @@
 ghost use Rattle.std.specs.Prelude.{◌≡◌, ◌++◌, length, slice_get};
 ghost use Rattle.std.specs.Option.{option_copied, option_map};
 ghost use Rattle.fm_grammar.specs.Reading.{IsExposition};
-ghost use Rattle.fm_exposition.specs.Points.{AreInPoints};
+ghost use Rattle.fm_exposition.specs.inside.Points.{AreInPoints};
 ghost use Rattle.fm_exposition.specs.Samples.{labels_of, value_of, exemplar_of, sample_of, samples_of, shown_label, exemplar_at};
 
 use crate::store::SampleStore;
@@ -59,7 +59,7 @@ impl Model for FamilySamples {
 
     ghost Value = { Family };
 
-    ghost use Rattle.fm_exposition.specs.Families.{family_of};
+    ghost use Rattle.fm_exposition.specs.inside.Families.{family_of};
 
     ghost view = { family_of };
 }

@@ -1,7 +1,7 @@
 //! What the accessors of families and samples don't show: which samples form a point, and which labels they share. It
 //! is for renderers of expositions.
 ghost use Rattle.std.specs.Prelude.{◌≡◌};
-ghost use Rattle.fm_exposition.specs.Points.{AreInPoints};
+ghost use Rattle.fm_exposition.specs.inside.Points.{AreInPoints};
 ghost use Rattle.fm_exposition.specs.Samples.{labels_of, samples_of, common_labels, own_labels};
 
 use crate::exposition::{FamilySamples, Sample};

@@ -1,7 +1,7 @@
 //! The samples of a family while they are collected point by point.
 ghost use Rattle.std.specs.Prelude.{◌≡◌, ◌+◌, ◌^◌, ◌<◌, ℕ, List, [], ◌∷◌, ◌++◌, length, OnOk, OnErr, IfErr};
 ghost use Rattle.std.specs.Option.{option_map};
-ghost use Rattle.fm_exposition.specs.Points.{AreInPoints};
+ghost use Rattle.fm_exposition.specs.inside.Points.{AreInPoints};
 ghost use Rattle.fm_exposition.specs.Samples.{labels_of, shared_labels, value_of, exemplar_of, samples_of};
 
 use crate::exposition::{CommonLabels, Exemplar, Sample, Value};
@@ -23,7 +23,7 @@ pub struct SampleStore {
 
 impl Model for SampleStore {
     ghost use Rattle.fm_exposition.specs.Samples.{shared_labels, samples_of};
-    ghost use Rattle.fm_exposition.specs.Points.{Stored, IsCut};
+    ghost use Rattle.fm_exposition.specs.inside.Points.{Stored, IsCut};
 
     ghost Value = { Stored };
 

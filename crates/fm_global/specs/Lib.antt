@@ -1,3 +1,3 @@
 pub use Rattle.fm_registry.specs.HasBook
-pub mod Kept
 pub mod Locked
+pub mod inside

@@ -26,7 +26,7 @@ pub(crate) struct Kept<M> {
 
 impl<M> Model for Kept<M> {
     ghost use Rattle.fm_registry_calls.specs.Tree.{Tree};
-    ghost use Rattle.fm_registry_calls.specs.TreeCode.{tree_code};
+    ghost use Rattle.fm_registry_calls.specs.inside.TreeCode.{tree_code};
 
     ghost Value = { Tree M };
 
@@ -34,7 +34,7 @@ impl<M> Model for Kept<M> {
 
     ghost view = { λ k. k.registry };
 
-    ghost use Rattle.fm_global.specs.Kept.{IsSound};
+    ghost use Rattle.fm_global.specs.inside.Kept.{IsSound};
 
     ghost invariant = { IsSound };
 }

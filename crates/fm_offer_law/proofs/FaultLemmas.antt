@@ -13,7 +13,7 @@ use Rattle.fm_grammar.specs.Exposition.{Text, Label, Value}
 use Rattle.fm_grammar.specs.NameTests.{is_label_name}
 use Rattle.fm_grammar.specs.WellFormed.{label_code_points, IsSample}
 use Rattle.fm_raw.proofs.NameLemmas.{label_name_decides}
-use Rattle.fm_exposition.specs.SameLaws.{type_decides}
+use Rattle.fm_exposition.specs.inside.SameLaws.{type_decides}
 use Rattle.fm_encode_error.specs.declared.EncodeError.{EncodeError}
 use Rattle.fm_encode_error.specs.declared.EncodeError.TheVariants.{InvalidLabelName, ReservedLabel, DuplicateLabel, MalformedLabel, MissingValue, ValueTwice, KindMismatch, ExemplarCountMismatch, BucketOverflow, ExemplarTwice, ExemplarTooLong}
 use Rattle.fm_bucket.specs.declared.bound.Bucket.{Bucket}

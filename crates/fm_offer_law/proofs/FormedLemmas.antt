@@ -14,7 +14,7 @@ use Rattle.fm_bucket.specs.declared.bound.Bucket.{Bucket}
 use Rattle.fm_bucket.specs.declared.quantile.Quantile.{Quantile}
 use Rattle.fm_encoder.specs.Labels.{HandedLabel, IsReserved, AreFree, LabelsClean, label_names, all_written}
 use Rattle.fm_encoder.specs.Points.{HandedExemplar, Point, UnknownPoint, GaugePoint, CounterPoint, StateSetPoint, InfoPoint, HistogramPoint, GaugeHistogramPoint, SummaryPoint, Member, Setting, Context, ExemplarClean, BucketsClean, PartsClean, type_of, common_handed, common_written, values_in, plain_sample, written_exemplar, created_samples, total_sample, state_value, state_sample, bound_label, bucket_samples, total_samples, quantile_label, quantile_sample, point_samples}
-use Rattle.fm_encoder.specs.Steps.{IsNumber}
+use Rattle.fm_encoder.specs.inside.Steps.{IsNumber}
 use Rattle.fm_encoder.proofs.NameLemmas.{AreLabels-written, AreLabels-behind, AreLabels-named, AreLabels-own, AreFree-written}
 use Rattle.fm_encoder.proofs.BucketLemmas.{le_is_label_name, quantile_is_label_name}
 use Rattle.fm_offer_law.specs.Ranges.{ExemplarNumbersFit, SlotsFit, PointNumbersFit}

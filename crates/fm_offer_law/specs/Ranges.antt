@@ -4,7 +4,7 @@ use Rattle.std.specs.List.{AllByRecursion}
 use Rattle.fm_grammar.specs.Exposition.{Fixed}
 use Rattle.fm_grammar.specs.WellFormed.{IsBetween, AreMillis, ValueFits}
 use Rattle.fm_encoder.specs.Points.{HandedExemplar, Point, UnknownPoint, GaugePoint, CounterPoint, StateSetPoint, InfoPoint, HistogramPoint, GaugeHistogramPoint, SummaryPoint, Member, Context}
-use Rattle.fm_encoder.specs.Steps.{IsNumber}
+use Rattle.fm_encoder.specs.inside.Steps.{IsNumber}
 
 -- an exemplar's value and time
 pub record ExemplarNumbersFit (exemplar : HandedExemplar) : Type 0 where

@@ -13,9 +13,9 @@ use Rattle.fm_grammar.specs.Exposition.{Text, Family}
 use Rattle.fm_grammar.specs.Reading.{State, Open, Headed, closed, IsNewName, Follows, type_line, help_line, unit_line, sample_line, last_line}
 use Rattle.fm_reader_lines.proofs.NameSets.{holds_more}
 use Rattle.std.specs.Option.{option_map}
-use Rattle.fm_reader_lines.specs.Lines.{FoundType, shown_type}
-use Rattle.fm_reader.specs.Steps.{state_of, IsStep, FoundNewType}
-use Rattle.fm_reader.specs.Names.{names_of, state_names, IsFresh, has, HasNames, IsNoted, with_found, FoundNoted}
+use Rattle.fm_reader_lines.specs.inside.Lines.{FoundType, shown_type}
+use Rattle.fm_reader.specs.inside.Steps.{state_of, IsStep, FoundNewType}
+use Rattle.fm_reader.specs.inside.Names.{names_of, state_names, IsFresh, has, HasNames, IsNoted, with_found, FoundNoted}
 use Rattle.fm_reader.specs.declared.machine.Reading.{Reading}
 use Rattle.fm_reader.specs.declared.error.ReadError.{ReadError}
 use Rattle.fm_reader.proofs.StepLemmas.{taken_type}

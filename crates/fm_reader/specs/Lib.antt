@@ -1,4 +1,3 @@
 pub mod Errors
-pub mod Names
 pub mod Read
-pub mod Steps
+pub mod inside

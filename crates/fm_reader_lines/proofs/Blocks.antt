@@ -6,8 +6,8 @@ use Rattle.fm_grammar.specs.Names.{AllDifferent}
 use Rattle.fm_grammar.specs.WellFormed.{AreLabels}
 use Rattle.fm_grammar.specs.Spelling.{label_list_text, label_block_text}
 use Rattle.fm_grammar.proofs.Labels.{braces_then, one_braces, one_block}
-use Rattle.fm_reader_parts.specs.Fronts.{AreNamed, IsLabelsFront}
-use Rattle.fm_reader_lines.specs.Parts.{IsBracesFront, IsBlockFront}
+use Rattle.fm_reader_parts.specs.inside.Fronts.{AreNamed, IsLabelsFront}
+use Rattle.fm_reader_lines.specs.inside.Parts.{IsBracesFront, IsBlockFront}
 
 -- one list of labels is before a closing brace
 pub one_list : (ks ls : List Label) (s t : Text) → AreNamed ks → AreNamed ls → label_list_text ks ++ (125 ∷ s) ≡ label_list_text ls ++ (125 ∷ t) → (ks ≡ ls) × (s ≡ t)

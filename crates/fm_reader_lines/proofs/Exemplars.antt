@@ -9,7 +9,7 @@ use Rattle.fm_grammar.specs.Numbers.{fixed_text}
 use Rattle.fm_grammar.specs.WellFormed.{ExemplarAllowed, IsExemplar, label_code_points}
 use Rattle.fm_grammar.specs.Spelling.{label_list_text, value_text, time_text, exemplar_text}
 use Rattle.fm_grammar.proofs.Labels.{braces_then}
-use Rattle.fm_reader_lines.specs.Parts.{tail_text, IsToken, IsBracesFront, IsTimeFront, FoundSmall, FoundBody, body_text, FoundExemplar, takes_exemplar, FoundValue, Shown, shown_text, MayShow, FoundShown}
+use Rattle.fm_reader_lines.specs.inside.Parts.{tail_text, IsToken, IsBracesFront, IsTimeFront, FoundSmall, FoundBody, body_text, FoundExemplar, takes_exemplar, FoundValue, Shown, shown_text, MayShow, FoundShown}
 use Rattle.fm_reader_lines.proofs.Tokens.{one_token, small_unspaced, value_unspaced, time_spaced, exemplar_ends, ends_spaced, one_time_front}
 use Rattle.fm_reader_lines.proofs.Blocks.{one_braces_front}
 

@@ -14,7 +14,7 @@ use Rattle.fm_grammar.specs.Document.{IsTypeLine, IsUnitLine}
 use Rattle.fm_grammar.proofs.Runs.{one_run, all_weaker, not_in_run}
 use Rattle.fm_grammar.proofs.FamilyNames.{IsNameByte, snake_case_bytes}
 use Rattle.fm_reader_parts.proofs.LabelNames.{all_from}
-use Rattle.fm_reader_lines.specs.Lines.{FoundType, FoundWord, FoundUnit, all_types, takes_unit}
+use Rattle.fm_reader_lines.specs.inside.Lines.{FoundType, FoundWord, FoundUnit, all_types, takes_unit}
 
 -- type lines
 

@@ -8,7 +8,7 @@ use Rattle.fm_grammar.specs.Spelling.{escaped, help_line}
 use Rattle.fm_grammar.specs.Document.{IsHelpLine}
 use Rattle.fm_grammar.proofs.Escapes.{escaped_text}
 use Rattle.fm_grammar.proofs.Spellings.{is_help_line}
-use Rattle.fm_reader_parts.specs.Fronts.{IsEscapedFront}
+use Rattle.fm_reader_parts.specs.inside.Fronts.{IsEscapedFront}
 use Rattle.fm_reader_parts.proofs.Fronts.{one_escaped_front}
 
 -- `strip_prefix` at a text

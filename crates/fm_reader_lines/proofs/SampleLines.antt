@@ -14,8 +14,8 @@ use Rattle.fm_grammar.proofs.Runs.{Stops, one_run}
 use Rattle.fm_grammar.proofs.Words.{IsWordByte, suffix_bytes, one_suffix}
 use Rattle.fm_grammar.proofs.Labels.{braces_then}
 use Rattle.fm_grammar.proofs.Spellings.{sample_spelling, is_sample}
-use Rattle.fm_reader_lines.specs.Lines.{FoundSample}
-use Rattle.fm_reader_lines.specs.Parts.{EndsName, IsBehindSuffix, IsKindFront, IsBlockFront, Shown, shown_text, MayShow, FoundShown}
+use Rattle.fm_reader_lines.specs.inside.Lines.{FoundSample}
+use Rattle.fm_reader_lines.specs.inside.Parts.{EndsName, IsBehindSuffix, IsKindFront, IsBlockFront, Shown, shown_text, MayShow, FoundShown}
 use Rattle.fm_reader_lines.proofs.Blocks.{one_block_front}
 
 -- suffixes

@@ -13,9 +13,9 @@ use Rattle.fm_grammar.specs.WellFormed.{AreMillis, IsBetween, ValueSuits, ValueF
 use Rattle.fm_grammar.proofs.Runs.{Stops, one_run, all_weaker}
 use Rattle.fm_grammar.proofs.NumberTexts.{IsUnsignedByte, IsNumberByte, one_fixed, one_millis, millis_bytes, first_of_millis, fixed_bytes}
 use Rattle.fm_grammar.proofs.Values.{value_bytes, is_spellable}
-use Rattle.fm_reader_parts.specs.Numbers.{FoundWhole, FoundMillis, FoundFixed}
+use Rattle.fm_reader_parts.specs.inside.Numbers.{FoundWhole, FoundMillis, FoundFixed}
 use Rattle.fm_reader_parts.proofs.LabelNames.{all_from}
-use Rattle.fm_reader_lines.specs.Parts.{tail_text, IsToken, FoundValue, FoundNumber, IsNumber, EndsTime, IsTimeFront, FoundSmall}
+use Rattle.fm_reader_lines.specs.inside.Parts.{tail_text, IsToken, FoundValue, FoundNumber, IsNumber, EndsTime, IsTimeFront, FoundSmall}
 
 -- no space is in the text
 abbrev pub IsUnspaced : Text → Type 0

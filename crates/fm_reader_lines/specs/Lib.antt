@@ -1,3 +1,1 @@
-pub mod Lines
-pub mod Parts
-pub mod Samples
+pub mod inside

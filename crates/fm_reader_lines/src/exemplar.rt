@@ -2,7 +2,7 @@
 ghost use Rattle.std.specs.Prelude.{◌≡◌, IfOk};
 ghost use Rattle.std.specs.Option.{option_map};
 ghost use Rattle.fm_exposition.specs.Samples.{exemplar_of};
-ghost use Rattle.fm_reader_lines.specs.Parts.{tail_text, FoundSmall, FoundBody, FoundExemplar, takes_exemplar as kind_takes_exemplar};
+ghost use Rattle.fm_reader_lines.specs.inside.Parts.{tail_text, FoundSmall, FoundBody, FoundExemplar, takes_exemplar as kind_takes_exemplar};
 
 use crate::labels::read_braces;
 use crate::values::{read_time, split_token};

@@ -3,7 +3,7 @@ ghost use Rattle.std.specs.Prelude.{◌≡◌, ◌↔◌, IsTrue, IfOk, string_b
 ghost use Rattle.std.specs.Option.{option_map, option_copied};
 ghost use Rattle.fm_grammar.specs.Kinds.{type_word};
 ghost use Rattle.fm_grammar.specs.WellFormed.{EndsWithUnit};
-ghost use Rattle.fm_reader_lines.specs.Lines.{FoundType, FoundWord, FoundHelp, FoundUnit, shown_type, all_types, takes_unit as type_takes_unit};
+ghost use Rattle.fm_reader_lines.specs.inside.Lines.{FoundType, FoundWord, FoundHelp, FoundUnit, shown_type, all_types, takes_unit as type_takes_unit};
 
 use fm_grammar::MetricType;
 use fm_raw::{is_snake_case, is_unit_text};

@@ -2,8 +2,8 @@
 ghost use Rattle.std.specs.Prelude.{◌≡◌, ◌↔◌, IsTrue, IfOk, map};
 ghost use Rattle.fm_grammar.specs.Names.{AllDifferent};
 ghost use Rattle.fm_exposition.specs.Samples.{labels_of};
-ghost use Rattle.fm_reader_parts.specs.Fronts.{seen_labels};
-ghost use Rattle.fm_reader_lines.specs.Parts.{IsBracesFront, IsBlockFront};
+ghost use Rattle.fm_reader_parts.specs.inside.Fronts.{seen_labels};
+ghost use Rattle.fm_reader_lines.specs.inside.Parts.{IsBracesFront, IsBlockFront};
 
 use fm_reader_parts::labels::read_labels;
 use std::alloc::{AllocError, Global};

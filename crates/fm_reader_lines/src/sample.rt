@@ -2,9 +2,9 @@
 ghost use Rattle.std.specs.Prelude.{◌≡◌, ◌↔◌, IsTrue, IfOk};
 ghost use Rattle.std.specs.Option.{option_map, option_copied};
 ghost use Rattle.fm_grammar.specs.WellFormed.{kinds_of as type_kinds};
-ghost use Rattle.fm_reader_lines.specs.Lines.{FoundSample};
-ghost use Rattle.fm_reader_lines.specs.Parts.{EndsName, IsBehindSuffix, IsKindFront, seen_kind};
-ghost use Rattle.fm_reader_lines.specs.Samples.{read_sample_of};
+ghost use Rattle.fm_reader_lines.specs.inside.Lines.{FoundSample};
+ghost use Rattle.fm_reader_lines.specs.inside.Parts.{EndsName, IsBehindSuffix, IsKindFront, seen_kind};
+ghost use Rattle.fm_reader_lines.specs.inside.Samples.{read_sample_of};
 
 use crate::labels::read_block;
 use crate::values::read_values;

@@ -2,8 +2,8 @@
 ghost use Rattle.std.specs.Prelude.{◌≡◌, IfOk};
 ghost use Rattle.std.specs.Option.{option_map};
 ghost use Rattle.fm_exposition.specs.Samples.{value_of};
-ghost use Rattle.fm_reader_lines.specs.Parts.{tail_text, IsToken, FoundValue, FoundNumber, IsTimeFront, FoundShown};
-ghost use Rattle.fm_reader_lines.specs.Samples.{shown_of};
+ghost use Rattle.fm_reader_lines.specs.inside.Parts.{tail_text, IsToken, FoundValue, FoundNumber, IsTimeFront, FoundShown};
+ghost use Rattle.fm_reader_lines.specs.inside.Samples.{shown_of};
 
 use crate::exemplar::read_exemplar;
 use fm_exposition::{Exemplar, Value};

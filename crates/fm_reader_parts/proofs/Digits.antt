@@ -16,7 +16,7 @@ use Rattle.fm_grammar.specs.Numbers.{three_digits, six_digits, zero_cut, without
 use Rattle.fm_grammar.proofs.Runs.{one_run, all_weaker, not_in_run}
 use Rattle.fm_grammar.proofs.NumberTexts.{decimal_digits}
 use Rattle.fm_grammar.specs.WellFormed.{IsBetween}
-use Rattle.fm_reader_parts.specs.Numbers.{places_3, places_6}
+use Rattle.fm_reader_parts.specs.inside.Numbers.{places_3, places_6}
 
 -- zeros that are cut off are read as zeros
 

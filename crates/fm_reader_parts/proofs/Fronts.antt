@@ -9,7 +9,7 @@ use Rattle.fm_grammar.specs.Exposition.{Text}
 use Rattle.fm_grammar.specs.Spelling.{escape, escaped}
 use Rattle.fm_grammar.proofs.Runs.{all_weaker}
 use Rattle.fm_grammar.proofs.Escapes.{Writing, feed, quoted, doubled, plain, writing, escape-feed, escape-quoted, escape-doubled, escape-plain, one_escape}
-use Rattle.fm_reader_parts.specs.Fronts.{EndsEscaped}
+use Rattle.fm_reader_parts.specs.inside.Fronts.{EndsEscaped}
 
 -- what is appended to a value is appended to its text
 pub escaped_append : (v w : Text) → escaped (v ++ w) ≡ escaped v ++ escaped w

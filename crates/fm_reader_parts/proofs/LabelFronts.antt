@@ -6,8 +6,8 @@ use Rattle.fm_grammar.specs.Names.{IsLabelName, IsLabelByte}
 use Rattle.fm_grammar.specs.Spelling.{escaped, label_text}
 use Rattle.fm_grammar.proofs.Runs.{one_run, all_weaker, not_in_run}
 use Rattle.fm_grammar.proofs.Labels.{label_then, name_bytes}
-use Rattle.fm_reader_parts.specs.Fronts.{EndsEscaped}
-use Rattle.fm_reader_parts.specs.Fronts.{IsLabelFront}
+use Rattle.fm_reader_parts.specs.inside.Fronts.{EndsEscaped}
+use Rattle.fm_reader_parts.specs.inside.Fronts.{IsLabelFront}
 use Rattle.fm_reader_parts.proofs.Fronts.{one_escaped_front}
 use Rattle.fm_reader_parts.proofs.LabelNames.{all_from}
 

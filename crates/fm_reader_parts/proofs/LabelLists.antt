@@ -5,7 +5,7 @@ use Rattle.fm_grammar.specs.Names.{IsLabelName}
 use Rattle.fm_grammar.specs.Spelling.{escaped, label_text, label_list_text}
 use Rattle.fm_grammar.proofs.Labels.{IsNamed, one_label, label_then}
 use Rattle.fm_grammar.proofs.Runs.{all_append}
-use Rattle.fm_reader_parts.specs.Fronts.{AreNamed, IsLabelFront, IsLabelsFront}
+use Rattle.fm_reader_parts.specs.inside.Fronts.{AreNamed, IsLabelFront, IsLabelsFront}
 
 -- labels with a comma after each
 abbrev pub with_commas : List Label → Text

@@ -3,7 +3,7 @@ ghost use Rattle.std.specs.Prelude.{◌≡◌, ℕ, ℤ, ◌+◌, ◌*◌, ◌-�
 ghost use Rattle.std.specs.Fmt.{signed_decimal};
 ghost use Rattle.fm_grammar.specs.Numbers.{millionths_text, fixed_text, millis_text};
 ghost use Rattle.fm_grammar.specs.WellFormed.{IsBetween, AreMillis};
-ghost use Rattle.fm_reader_parts.specs.Numbers.{FoundWhole, FoundMillis, FoundFixed, places_3, places_6};
+ghost use Rattle.fm_reader_parts.specs.inside.Numbers.{FoundWhole, FoundMillis, FoundFixed, places_3, places_6};
 
 use fm_raw::{FixedBuffer, FixedSum};
 

@@ -11,14 +11,11 @@ pub use Rattle.fm_registry_calls.specs.Loan
 pub use Rattle.fm_registry_calls.specs.Listing
 pub use Rattle.fm_registry_calls.specs.Running
 pub mod Lists
-pub mod Names
 pub mod View
-pub mod Falls
 pub mod Seen
 pub mod HasBook
 pub mod Registers
-pub mod RootLabels
 pub mod Lends
 pub mod Building
-pub mod Request
 pub mod Calls
+pub mod inside

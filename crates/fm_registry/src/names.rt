@@ -2,7 +2,7 @@
 ghost use Rattle.std.specs.Prelude.{◌≡◌, IfOk, true, false};
 ghost use Rattle.std.specs.String.{string_bytes};
 ghost use Rattle.fm_registry_calls.specs.Taken.{is_below as below_test};
-ghost use Rattle.fm_registry.specs.Names.{metadata_tail};
+ghost use Rattle.fm_registry.specs.inside.Names.{metadata_tail};
 
 use fm_raw::Metadata;
 use std::alloc::{AllocError, Global};

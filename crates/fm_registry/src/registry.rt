@@ -40,7 +40,7 @@ pub struct Subsystem<M = Box<dyn EncodeMetric>> {
 
 impl<M> Model for Registry<M> {
     ghost use Rattle.fm_registry_calls.specs.Tree.{Tree};
-    ghost use Rattle.fm_registry_calls.specs.TreeCode.{tree_code};
+    ghost use Rattle.fm_registry_calls.specs.inside.TreeCode.{tree_code};
 
     ghost Value = { Tree M };
 
@@ -53,7 +53,7 @@ impl<M> Model for Registry<M> {
 
     ghost size = { tree_size };
 
-    ghost use Rattle.fm_registry.specs.Falls.{deep_le-tree_size};
+    ghost use Rattle.fm_registry.specs.inside.Falls.{deep_le-tree_size};
 
     ghost size_decreases = { deep_le-tree_size };
 }

@@ -8,7 +8,7 @@ use Rattle.fm_grammar.specs.Exposition.{Text, Label}
 use Rattle.fm_grammar.specs.Spelling.{label_text, label_list_text, label_block_text, in_braces}
 use Rattle.fm_exposition.specs.Rows.{further_labels}
 use Rattle.fm_exposition.proofs.RowLemmas.{label_list_is, list_joined}
-use Rattle.fm_writer.specs.Grown.{Grown, Grows, IsLeft, IsLeftOf, size_of}
+use Rattle.fm_writer.specs.inside.Grown.{Grown, Grows, IsLeft, IsLeftOf, size_of}
 
 pub grown_then : (a b c : Text → Type 0) (first second : Text) → Grows a b first → Grows b c second → Grows a c (first ++ second)
 grown_then a b c first second one two = record {

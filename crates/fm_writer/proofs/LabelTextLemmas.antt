@@ -12,10 +12,10 @@ use Rattle.std.specs.declared.alloc.AllocError.{AllocError}
 use Rattle.fm_grammar.specs.Exposition.{Text, Label}
 use Rattle.fm_grammar.specs.Spelling.{escaped, label_text, label_list_text}
 use Rattle.fm_exposition.proofs.RowLemmas.{list_joined}
-use Rattle.fm_writer.specs.Grown.{Grown}
+use Rattle.fm_writer.specs.inside.Grown.{Grown}
 use Rattle.fm_writer.specs.declared.label_text.Part.{Part}
 use Rattle.fm_writer.specs.declared.label_text.Place.{Place}
-use Rattle.fm_writer.specs.LabelTexts.{part_in, label_in, labels_in, names_in, IsPart, IsPlace, AreParts, AreKept, IsListed, AreListed, name_in_list, list_before, LabelsState, whole_label, whole_place}
+use Rattle.fm_writer.specs.inside.LabelTexts.{part_in, label_in, labels_in, names_in, IsPart, IsPlace, AreParts, AreKept, IsListed, AreListed, name_in_list, list_before, LabelsState, whole_label, whole_place}
 
 -- a part of a text is the same part of a longer one
 same_between : (text more : Text) (i j : ℕ) → j ≤ length text → between i j (text ++ more) ≡ between i j text

@@ -6,7 +6,7 @@ use Rattle.fm_grammar.specs.Exposition.{Text}
 use Rattle.fm_exposition.specs.declared.exposition.Sample.{Sample}
 use Rattle.fm_exposition.specs.Samples.{samples_of}
 use Rattle.fm_exposition.proofs.PointLemmas.{lines_parts}
-use Rattle.fm_writer.specs.Grown.{Grows, IsLeftOf}
+use Rattle.fm_writer.specs.inside.Grown.{Grows, IsLeftOf}
 use Rattle.fm_writer.proofs.GrownLemmas.{left_of_more}
 
 -- a point's lines are appended

@@ -4,7 +4,7 @@ use Rattle.fm_grammar.specs.Exposition.{Text, Sample}
 use Rattle.fm_grammar.specs.Kinds.{suffix_of}
 use Rattle.fm_grammar.specs.Spelling.{label_list_text, label_block_text, in_braces, value_text, time_text, exemplar_text, sample_line}
 use Rattle.fm_exposition.specs.Rows.{sample_row}
-use Rattle.fm_writer.specs.Grown.{Grows}
+use Rattle.fm_writer.specs.inside.Grown.{Grows}
 use Rattle.fm_writer.proofs.GrownLemmas.{grown_then, grown_nothing}
 
 -- what stands behind the value

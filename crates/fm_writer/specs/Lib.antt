@@ -1,4 +1,2 @@
-pub mod Grown
 pub mod Output
-pub mod LabelTexts
-pub mod Forms
+pub mod inside

@@ -1,6 +1,6 @@
 // A text that grows.
 ghost use Rattle.std.specs.Prelude.{◌≡◌, ◌+◌, ◌≤◌, ◌++◌, [], length, take, IfOk, IfSome, OnOk, OnErr};
-ghost use Rattle.fm_writer.specs.Grown.{Grown};
+ghost use Rattle.fm_writer.specs.inside.Grown.{Grown};
 
 use std::alloc::{AllocError, Global};
 use std::marker::Model;

@@ -3,7 +3,7 @@ ghost use Rattle.std.specs.Prelude.{◌≡◌, [], OnOk};
 ghost use Rattle.std.specs.Option.{option_copied};
 ghost use Rattle.fm_grammar.specs.Spelling.{type_line, help_line, unit_line};
 ghost use Rattle.fm_exposition.specs.Rows.{ended, unit_row, head_rows};
-ghost use Rattle.fm_writer.specs.Grown.{Grows};
+ghost use Rattle.fm_writer.specs.inside.Grown.{Grows};
 
 use crate::output::Output;
 use crate::rendering::append_escaped;

@@ -4,8 +4,8 @@ ghost use Rattle.std.specs.Option.{option_map};
 ghost use Rattle.std.specs.List.{AllByRecursion};
 ghost use Rattle.fm_grammar.specs.Spelling.{label_list_text, escaped};
 ghost use Rattle.fm_exposition.specs.Samples.{label_of, labels_of, shown_label};
-ghost use Rattle.fm_writer.specs.Grown.{Grown, Grows};
-ghost use Rattle.fm_writer.specs.LabelTexts.{part_in, label_in, labels_in, IsPart, IsPlace, names_in, name_in_list, whole_label, whole_place};
+ghost use Rattle.fm_writer.specs.inside.Grown.{Grown, Grows};
+ghost use Rattle.fm_writer.specs.inside.LabelTexts.{part_in, label_in, labels_in, IsPart, IsPlace, names_in, name_in_list, whole_label, whole_place};
 
 use crate::growing::GrowingText;
 use crate::label_list::append_placed_list;
@@ -211,7 +211,7 @@ pub struct LabelText {
 
 impl Model for LabelText {
     ghost use Rattle.std.specs.Option.{option_map};
-    ghost use Rattle.fm_writer.specs.LabelTexts.{LabelsState, labels_in, part_in, AreKept};
+    ghost use Rattle.fm_writer.specs.inside.LabelTexts.{LabelsState, labels_in, part_in, AreKept};
 
     ghost Value = { LabelsState };
 

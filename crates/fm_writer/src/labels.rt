@@ -4,7 +4,7 @@ ghost use Rattle.fm_grammar.specs.Exposition.{Label};
 ghost use Rattle.fm_grammar.specs.Spelling.{escaped, label_text, label_list_text, in_braces};
 ghost use Rattle.fm_exposition.specs.Rows.{further_label, further_labels};
 ghost use Rattle.fm_exposition.specs.Samples.{label_of, labels_of, shown_label};
-ghost use Rattle.fm_writer.specs.Grown.{Grows};
+ghost use Rattle.fm_writer.specs.inside.Grown.{Grows};
 
 use crate::label_text::LabelText;
 use crate::output::Output;

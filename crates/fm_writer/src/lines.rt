@@ -3,7 +3,7 @@ ghost use Rattle.std.specs.Prelude.{◌≡◌, ◌++◌, [], map, OnOk};
 ghost use Rattle.std.specs.Option.{option_map, option_copied};
 ghost use Rattle.fm_exposition.specs.Rows.{sample_row, head_rows};
 ghost use Rattle.fm_exposition.specs.Samples.{shown_label, value_of, exemplar_at};
-ghost use Rattle.fm_writer.specs.Grown.{Grown};
+ghost use Rattle.fm_writer.specs.inside.Grown.{Grown};
 
 use crate::growing::GrowingText;
 use crate::heads::append_heads;

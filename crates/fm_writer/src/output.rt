@@ -1,7 +1,7 @@
 // What a text is rendered to: a text that grows, or its size alone.
 ghost use Rattle.std.specs.Prelude.{◌≡◌, ◌+◌, ◌-◌, ◌^◌, ◌++◌, [], min, OnOk};
 ghost use Rattle.fm_grammar.specs.Exposition.{Text};
-ghost use Rattle.fm_writer.specs.Grown.{Grows, size_of};
+ghost use Rattle.fm_writer.specs.inside.Grown.{Grows, size_of};
 
 use crate::growing::GrowingText;
 use std::alloc::AllocError;

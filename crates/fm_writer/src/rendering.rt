@@ -4,7 +4,7 @@ ghost use Rattle.std.specs.Option.{option_map};
 ghost use Rattle.fm_grammar.specs.Spelling.{escape, escaped, value_text, time_text, exemplar_text};
 ghost use Rattle.fm_exposition.specs.Rows.{sample_row};
 ghost use Rattle.fm_exposition.specs.Samples.{value_of, exemplar_at};
-ghost use Rattle.fm_writer.specs.Grown.{Grows};
+ghost use Rattle.fm_writer.specs.inside.Grown.{Grows};
 
 use crate::labels::{Front, Pair, append_in_braces, append_joined_list};
 use crate::output::Output;

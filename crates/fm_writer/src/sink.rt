@@ -57,7 +57,7 @@ pub struct Sink {
 
 impl Model for Sink {
     ghost use Rattle.fm_writer.specs.Output.{SinkState};
-    ghost use Rattle.fm_writer.specs.Forms.{state_of};
+    ghost use Rattle.fm_writer.specs.inside.Forms.{state_of};
 
     ghost Value = { SinkState };
 

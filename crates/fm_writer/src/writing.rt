@@ -3,11 +3,11 @@ ghost use Rattle.std.specs.Prelude.{◌≡◌, List, IfOk, OnOk, IfErr};
 ghost use Rattle.std.specs.Io.KnownBytes.{Keeps};
 ghost use Rattle.fm_grammar.specs.Exposition.{Label};
 ghost use Rattle.fm_grammar.specs.Spelling.{label_list_text};
-ghost use Rattle.fm_exposition.specs.Points.{HaveInCommon, AreInPoints};
+ghost use Rattle.fm_exposition.specs.inside.Points.{HaveInCommon, AreInPoints};
 ghost use Rattle.fm_exposition.specs.Rows.{sample_row, sample_rows, family_rows, families_rows, document_rows};
 ghost use Rattle.fm_exposition.specs.Samples.{common_labels, sample_of, samples_of};
 ghost use Rattle.fm_exposition.specs.Written.{AppendsDocument, BeginsDocument, IsWritersFault, IsWritingRefusal};
-ghost use Rattle.fm_writer.specs.Grown.{Grows, size_of};
+ghost use Rattle.fm_writer.specs.inside.Grown.{Grows, size_of};
 
 use crate::growing::GrowingText;
 use crate::heads::append_heads;

@@ -9,7 +9,7 @@ ghost use Rattle.fm_exposition.specs.Samples.{exemplar_of};
 ghost use Rattle.fm_encoder.specs.Points.{HistogramPoint, GaugeHistogramPoint, millis, plain_sample, bound_label};
 ghost use Rattle.fm_encoder.specs.Gathered.{answer};
 ghost use Rattle.fm_encoder.specs.Hands.{HandsPoints};
-ghost use Rattle.fm_encoder.specs.Steps.{PushesSample};
+ghost use Rattle.fm_encoder.specs.inside.Steps.{PushesSample};
 ghost use Rattle.fm_encoder.specs.Buckets.{HasBuckets, slots_of, MaySlotsFault, BeginsBuckets, PushesBucket, PushesBuckets};
 
 use crate::exemplar::{EncodeExemplar, exemplar_if_any};

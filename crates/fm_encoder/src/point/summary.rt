@@ -5,7 +5,7 @@ ghost use Rattle.fm_grammar.specs.declared.MetricType.{MetricType};
 ghost use Rattle.fm_encoder.specs.Points.{SummaryPoint, millis, quantile_sample};
 ghost use Rattle.fm_encoder.specs.Gathered.{answer};
 ghost use Rattle.fm_encoder.specs.Hands.{HandsPoints};
-ghost use Rattle.fm_encoder.specs.Steps.{PushesSample, PushesSamples};
+ghost use Rattle.fm_encoder.specs.inside.Steps.{PushesSample, PushesSamples};
 
 use crate::point::PointEncoder;
 use fm_bucket::{QUANTILE_LABEL, Quantile};

@@ -7,7 +7,7 @@ ghost use Rattle.fm_grammar.specs.Exposition.{Whole, Fixed as Millionths};
 ghost use Rattle.fm_exposition.specs.declared.exposition.Value.TheVariants.{Whole as WholeValue, Fixed as FixedValue};
 ghost use Rattle.fm_encoder.specs.Points.{millis, count_sample, sum_sample, total_samples};
 ghost use Rattle.fm_encoder.specs.Gathered.{answer};
-ghost use Rattle.fm_encoder.specs.Steps.{PushesSamples};
+ghost use Rattle.fm_encoder.specs.inside.Steps.{PushesSamples};
 ghost use Rattle.fm_encoder.specs.Buckets.{HasTotals};
 
 use crate::point::PointEncoder;

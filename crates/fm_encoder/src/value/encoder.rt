@@ -5,7 +5,7 @@ ghost use Rattle.fm_encode_error.specs.declared.EncodeError.{EncodeError};
 ghost use Rattle.fm_exposition.specs.Samples.{value_of};
 ghost use Rattle.fm_encoder.specs.Gathered.{answer, own_refusal};
 ghost use Rattle.fm_encoder.specs.Hands.{HandsNumbers};
-ghost use Rattle.fm_encoder.specs.Steps.{IsNumber};
+ghost use Rattle.fm_encoder.specs.inside.Steps.{IsNumber};
 
 use crate::own::own_refusal;
 use fm_encode_error::EncodeError;
@@ -49,7 +49,7 @@ impl<K> Model for ValueEncoder<K> {
     ghost use Rattle.std.specs.Option.{option_to_list, option_map};
     ghost use Rattle.fm_exposition.specs.Samples.{value_of};
     ghost use Rattle.fm_encoder.specs.Gathered.{GatheredNumbers};
-    ghost use Rattle.fm_encoder.specs.Steps.{IsNumber};
+    ghost use Rattle.fm_encoder.specs.inside.Steps.{IsNumber};
 
     ghost Value = { GatheredNumbers };
 

@@ -5,7 +5,7 @@ ghost use Rattle.std.specs.String.{string_bytes};
 ghost use Rattle.fm_exposition.specs.Samples.{labels_of};
 ghost use Rattle.fm_registry_calls.specs.Answer.{refusal_of, namespace_refusal, root_labels_refusal};
 ghost use Rattle.fm_registry.specs.View.{seen_labels};
-ghost use Rattle.fm_registry.specs.RootLabels.{takes_namespace, takes_labels};
+ghost use Rattle.fm_registry.specs.inside.RootLabels.{takes_namespace, takes_labels};
 ghost use Rattle.fm_registry.specs.HasBook.{IsNewRoot};
 
 use super::Registry;

@@ -9,7 +9,7 @@ ghost use Rattle.fm_registry_calls.specs.Answer.{refusal_of, name_refusal, has_m
 ghost use Rattle.fm_registry_calls.specs.Book.{Register};
 ghost use Rattle.fm_registry_calls.specs.Tree.{Reads, names_in};
 ghost use Rattle.fm_registry_calls.specs.Steps.{with_metric};
-ghost use Rattle.fm_registry.specs.Names.{refusal_beside};
+ghost use Rattle.fm_registry.specs.inside.Names.{refusal_beside};
 ghost use Rattle.fm_registry.specs.contracts.names.TailedPartialEq.TheImpl.{ghosts as tailed};
 ghost use Rattle.fm_registry.specs.View.{metrics_in, seen_metric, seen_metrics, asked, asked_metric};
 ghost use Rattle.fm_registry.specs.HasBook.{HasBook, Grows};

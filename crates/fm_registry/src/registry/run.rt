@@ -8,7 +8,7 @@ ghost use Rattle.fm_registry_calls.specs.Texts.{has_name};
 ghost use Rattle.fm_registry_calls.specs.Tree.{Reads, names_in};
 ghost use Rattle.fm_registry_calls.specs.Steps.{with_subsystem};
 ghost use Rattle.fm_registry_calls.specs.Running.{IsReply, path_of};
-ghost use Rattle.fm_registry.specs.Request.{call_at};
+ghost use Rattle.fm_registry.specs.inside.Request.{call_at};
 ghost use Rattle.fm_registry.specs.Calls.{RunsCall, RunsCalls};
 ghost use Rattle.fm_registry.specs.HasBook.{HasBook, Grows};
 

@@ -8,7 +8,7 @@ use Rattle.fm_registry.specs.Seen.{seen_list, seen_listed}
 use Rattle.fm_grammar.specs.Exposition.{Text}
 use Rattle.fm_writer.specs.Output.{OutputText}
 use Rattle.fm_core.specs.Admits.{Admits, Fault}
-use Rattle.fm_core.specs.Documents.{text_in}
+use Rattle.fm_core.specs.inside.Documents.{text_in}
 use Rattle.fm_core.proofs.CollectLemmas.{names_differ, Fault-at, IsListable-at, refusal-not_writing}
 use Rattle.fm_core.proofs.DocumentLemmas.{IsTextOf-none, IsTextOf-next}
 use Rattle.fm_core.proofs.document.document_lines.Goals as goal

@@ -1,6 +1,6 @@
 use Rattle.std.proofs.Common.{take}
 use Rattle.fm_registry.specs.Seen.{seen_list}
-use Rattle.fm_core.specs.Documents.{text_in, HasLines, IsTextOf}
+use Rattle.fm_core.specs.inside.Documents.{text_in, HasLines, IsTextOf}
 use Rattle.fm_core.proofs.document.document_lines.Given as goal
 
 abbrev pub invariant-loop-listed : goal.invariant-loop-listed

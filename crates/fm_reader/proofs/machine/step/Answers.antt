@@ -1,6 +1,6 @@
 use Rattle.std.proofs.Common.{subst, string_bytes}
-use Rattle.fm_reader.specs.Steps.{state_of}
-use Rattle.fm_reader.specs.Names.{state_names, HasNames}
+use Rattle.fm_reader.specs.inside.Steps.{state_of}
+use Rattle.fm_reader.specs.inside.Names.{state_names, HasNames}
 use Rattle.fm_reader.proofs.SeenNames.{headed_keeps}
 use Rattle.fm_reader.proofs.machine.step.Goals as goal
 

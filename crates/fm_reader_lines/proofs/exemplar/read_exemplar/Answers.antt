@@ -1,6 +1,6 @@
 use Rattle.std.proofs.Common.{None, Some, codes, sym, subst}
 use Rattle.fm_exposition.specs.Samples.{exemplar_of}
-use Rattle.fm_reader_lines.specs.Parts.{tail_text, FoundExemplar}
+use Rattle.fm_reader_lines.specs.inside.Parts.{tail_text, FoundExemplar}
 use Rattle.fm_reader_lines.proofs.HelpLines.{strip_prefix_text}
 use Rattle.fm_reader_lines.proofs.Exemplars.{other_exemplar, no_body, exemplar_found}
 use Rattle.fm_reader_lines.proofs.exemplar.read_exemplar.Goals as goal

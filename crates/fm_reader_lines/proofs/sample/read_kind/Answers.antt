@@ -1,6 +1,6 @@
 use Rattle.std.proofs.Common.{None}
 use Rattle.std.proofs.lemmas.List.Elements.{All-more}
-use Rattle.fm_reader_lines.specs.Parts.{IsBehindSuffix}
+use Rattle.fm_reader_lines.specs.inside.Parts.{IsBehindSuffix}
 use Rattle.fm_reader_lines.proofs.sample.read_kind.Goals as goal
 
 pub loop-kind-preserved : goal.loop-kind-preserved

@@ -1,6 +1,6 @@
 use Rattle.std.proofs.Common.{None, take}
 use Rattle.std.specs.List.{All}
-use Rattle.fm_reader_lines.specs.Parts.{IsBehindSuffix}
+use Rattle.fm_reader_lines.specs.inside.Parts.{IsBehindSuffix}
 use Rattle.fm_reader_lines.proofs.sample.read_kind.Given as goal
 
 -- no kind so far fits

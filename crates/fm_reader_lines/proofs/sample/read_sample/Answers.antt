@@ -1,6 +1,6 @@
 use Rattle.std.proofs.Common.{Some}
 use Rattle.fm_exposition.specs.Samples.{labels_of}
-use Rattle.fm_reader_lines.specs.Samples.{shown_of}
+use Rattle.fm_reader_lines.specs.inside.Samples.{shown_of}
 use Rattle.fm_reader_lines.proofs.HelpLines.{strip_prefix_text}
 use Rattle.fm_reader_lines.proofs.SampleLines.{other_block, other_values, sample_found}
 use Rattle.fm_reader_lines.proofs.sample.read_sample.Goals as goal

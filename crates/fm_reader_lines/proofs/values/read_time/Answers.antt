@@ -1,6 +1,6 @@
 use Rattle.std.proofs.Common.{None, false, lit<, sym, subst, true≢false}
 use Rattle.std.proofs.lemmas.Str.Pattern.{starts_char}
-use Rattle.fm_reader_lines.specs.Parts.{tail_text, IsTimeFront}
+use Rattle.fm_reader_lines.specs.inside.Parts.{tail_text, IsTimeFront}
 use Rattle.fm_reader_lines.proofs.Tokens.{no_time_front}
 use Rattle.fm_reader_lines.proofs.values.read_time.Goals as goal
 

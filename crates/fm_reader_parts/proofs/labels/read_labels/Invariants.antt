@@ -3,7 +3,7 @@ use denote.Text.{Utf8}
 use denote.Shadow.{shadow}
 use Rattle.fm_grammar.specs.Exposition.{Text}
 use Rattle.fm_exposition.specs.Samples.{labels_of}
-use Rattle.fm_reader_parts.specs.Fronts.{AreNamed}
+use Rattle.fm_reader_parts.specs.inside.Fronts.{AreNamed}
 use Rattle.fm_reader_parts.proofs.LabelLists.{with_commas}
 use Rattle.fm_reader_parts.proofs.labels.read_labels.Given as goal
 

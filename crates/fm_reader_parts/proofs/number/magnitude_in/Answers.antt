@@ -1,6 +1,6 @@
 use Rattle.std.proofs.Common.{◌≡◌, ℕ, ap, ◌∙◌, arith, Some, None, Ok, Err, lit<, ◌/◌, ◌%◌, ◌+◌}
 use Rattle.std.proofs.lemmas.Str.Pattern.{split_parts}
-use Rattle.fm_reader_parts.specs.Numbers.{places_6}
+use Rattle.fm_reader_parts.specs.inside.Numbers.{places_6}
 use Rattle.fm_reader_parts.proofs.Digits.{millionths_no_point, millionths_whole, err_not_ok, ok_is, some_of}
 use Rattle.fm_reader_parts.proofs.number.magnitude_in.Goals as goal
 

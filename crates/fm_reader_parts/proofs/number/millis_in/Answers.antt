@@ -1,6 +1,6 @@
 use Rattle.std.proofs.Common.{◌≡◌, ℕ, ap, ◌∙◌, arith, Some, None, Ok, Err, lit<, ◌/◌}
 use Rattle.std.proofs.lemmas.Str.Pattern.{split_parts}
-use Rattle.fm_reader_parts.specs.Numbers.{places_3}
+use Rattle.fm_reader_parts.specs.inside.Numbers.{places_3}
 use Rattle.fm_reader_parts.proofs.Digits.{millis_no_point, millis_seconds, err_not_ok, ok_is}
 use Rattle.fm_reader_parts.proofs.number.millis_in.Goals as goal
 

@@ -1,6 +1,6 @@
 use Rattle.std.proofs.Common.{sym, ap, subst, ◌∙◌}
 use Rattle.fm_grammar.specs.NameTests.{is_label_name}
-use Rattle.fm_registry.specs.RootLabels.{IsRefusedAt}
+use Rattle.fm_registry.specs.inside.RootLabels.{IsRefusedAt}
 use Rattle.fm_registry.proofs.RootLemmas.{refused-label}
 use Rattle.fm_registry.proofs.labels.tested_root_labels.Goals as goal
 

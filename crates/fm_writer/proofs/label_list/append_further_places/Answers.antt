@@ -1,5 +1,5 @@
 use Rattle.fm_exposition.specs.Rows.{further_label}
-use Rattle.fm_writer.specs.LabelTexts.{label_in, IsPlace}
+use Rattle.fm_writer.specs.inside.LabelTexts.{label_in, IsPlace}
 use Rattle.fm_writer.proofs.GrownLemmas.{left_more_mapped}
 use Rattle.fm_writer.proofs.LabelTextLemmas.{all_at}
 use Rattle.fm_writer.proofs.label_list.append_further_places.Goals as goal

@@ -1,6 +1,6 @@
 use Rattle.fm_exposition.specs.Rows.{further_label}
-use Rattle.fm_writer.specs.Grown.{IsLeft}
-use Rattle.fm_writer.specs.LabelTexts.{labels_in}
+use Rattle.fm_writer.specs.inside.Grown.{IsLeft}
+use Rattle.fm_writer.specs.inside.LabelTexts.{labels_in}
 use Rattle.fm_writer.proofs.label_list.append_further_places.Given as goal
 
 abbrev pub invariant-loop-place : goal.invariant-loop-place

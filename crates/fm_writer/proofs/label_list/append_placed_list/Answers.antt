@@ -1,6 +1,6 @@
 use Rattle.std.proofs.Common.{ap}
 use Rattle.fm_exposition.proofs.ResultLemmas.{on_ok_more}
-use Rattle.fm_writer.specs.LabelTexts.{label_in, labels_in}
+use Rattle.fm_writer.specs.inside.LabelTexts.{label_in, labels_in}
 use Rattle.fm_writer.proofs.GrownLemmas.{list_whole}
 use Rattle.fm_writer.proofs.label_list.append_placed_list.Goals as goal
 

@@ -1,4 +1,4 @@
-use Rattle.fm_writer.specs.LabelTexts.{IsPlace}
+use Rattle.fm_writer.specs.inside.LabelTexts.{IsPlace}
 use Rattle.fm_writer.proofs.LabelTextLemmas.{all_at}
 use Rattle.fm_writer.proofs.label_text.are_labels.Goals as goal
 

@@ -1,6 +1,6 @@
 use Rattle.std.proofs.Common.{◌≡◌, take}
 use Rattle.fm_exposition.specs.Samples.{labels_of}
-use Rattle.fm_writer.specs.LabelTexts.{labels_in}
+use Rattle.fm_writer.specs.inside.LabelTexts.{labels_in}
 use Rattle.fm_writer.proofs.label_text.are_labels.Given as goal
 
 abbrev pub invariant-loop-i : goal.invariant-loop-i

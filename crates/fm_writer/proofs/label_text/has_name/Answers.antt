@@ -1,6 +1,6 @@
 use Rattle.std.proofs.Common.{refl, sym, true≢false, ◌∙◌}
 use Rattle.std.proofs.lemmas.List.{take_all}
-use Rattle.fm_writer.specs.LabelTexts.{IsPlace}
+use Rattle.fm_writer.specs.inside.LabelTexts.{IsPlace}
 use Rattle.fm_writer.proofs.LabelTextLemmas.{all_at, name_there, name_absent}
 use Rattle.fm_writer.proofs.label_text.has_name.Goals as goal
 

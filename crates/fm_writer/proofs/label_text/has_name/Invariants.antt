@@ -1,5 +1,5 @@
 use Rattle.std.proofs.Common.{take, Contains}
-use Rattle.fm_writer.specs.LabelTexts.{names_in}
+use Rattle.fm_writer.specs.inside.LabelTexts.{names_in}
 use Rattle.fm_writer.proofs.label_text.has_name.Given as goal
 
 abbrev pub invariant-loop-place : goal.invariant-loop-place

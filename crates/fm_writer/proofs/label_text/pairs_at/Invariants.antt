@@ -1,6 +1,6 @@
 use Rattle.std.proofs.Common.{◌≡◌, take, map}
 use Rattle.fm_exposition.specs.Samples.{shown_label}
-use Rattle.fm_writer.specs.LabelTexts.{labels_in}
+use Rattle.fm_writer.specs.inside.LabelTexts.{labels_in}
 use Rattle.fm_writer.proofs.label_text.pairs_at.Given as goal
 
 abbrev pub invariant-loop-place : goal.invariant-loop-place

@@ -1,6 +1,6 @@
 use Rattle.std.proofs.Common.{map}
 use Rattle.fm_exposition.specs.Rows.{further_label}
-use Rattle.fm_writer.specs.Grown.{IsLeft}
+use Rattle.fm_writer.specs.inside.Grown.{IsLeft}
 use Rattle.fm_writer.proofs.labels.append_further_labels.Given as goal
 
 abbrev pub invariant-loop-label : goal.invariant-loop-label

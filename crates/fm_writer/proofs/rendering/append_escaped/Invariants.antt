@@ -1,6 +1,6 @@
 use Rattle.std.proofs.Common.{length}
 use Rattle.fm_grammar.specs.Spelling.{escaped}
-use Rattle.fm_writer.specs.Grown.{IsLeftOf}
+use Rattle.fm_writer.specs.inside.Grown.{IsLeftOf}
 use Rattle.fm_writer.proofs.rendering.append_escaped.Given as goal
 
 abbrev pub invariant-loop-first : goal.invariant-loop-first

@@ -1,5 +1,5 @@
 use Rattle.fm_exposition.specs.Rows.{family_rows}
-use Rattle.fm_writer.specs.Grown.{IsLeft}
+use Rattle.fm_writer.specs.inside.Grown.{IsLeft}
 use Rattle.fm_writer.proofs.writing.append_families.Given as goal
 
 abbrev pub invariant-loop-family : goal.invariant-loop-family

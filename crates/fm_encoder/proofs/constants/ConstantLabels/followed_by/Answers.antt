@@ -1,6 +1,6 @@
 use Rattle.std.proofs.Common.{◌∙◌, [], inr, ap, subst}
 use Rattle.fm_grammar.specs.declared.MetricType.{MetricType}
-use Rattle.fm_encoder.specs.Constants.{FamilyConstants}
+use Rattle.fm_encoder.specs.inside.Constants.{FamilyConstants}
 use Rattle.fm_encoder.specs.Labels.{LabelsClean, LabelsFault, handed_again}
 use Rattle.fm_encoder.proofs.Cases.{none_from_not}
 use Rattle.fm_encoder.proofs.LabelsLemmas.{LabelsFault-append, behind_constants}

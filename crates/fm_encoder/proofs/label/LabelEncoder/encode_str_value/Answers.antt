@@ -1,5 +1,5 @@
 use Rattle.std.proofs.Common.{◌≡◌, ℕ, List, Some, subst, sym}
-use Rattle.fm_writer.specs.LabelTexts.{LabelsState}
+use Rattle.fm_writer.specs.inside.LabelTexts.{LabelsState}
 use Rattle.fm_encoder.specs.Labels.{NameFits}
 use Rattle.fm_encoder.proofs.label.LabelEncoder.encode_str_value.Goals as goal
 

@@ -1,7 +1,7 @@
 use Rattle.std.proofs.Common.{◌≡◌, take, map, None}
 use Rattle.fm_encoder.specs.Points.{state_sample}
 use Rattle.fm_encoder.specs.States.{state_of}
-use Rattle.fm_encoder.specs.Steps.{PushesSamples}
+use Rattle.fm_encoder.specs.inside.Steps.{PushesSamples}
 use Rattle.fm_encoder.proofs.point.PointEncoder.push_states.Given as goal
 
 abbrev pub invariant-loop-state : goal.invariant-loop-state

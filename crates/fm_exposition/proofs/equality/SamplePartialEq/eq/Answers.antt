@@ -1,4 +1,4 @@
-use Rattle.fm_exposition.specs.SameLaws.{same_sample_decides}
+use Rattle.fm_exposition.specs.inside.SameLaws.{same_sample_decides}
 use Rattle.fm_exposition.proofs.SameLemmas.{exactly}
 use Rattle.fm_exposition.proofs.equality.SamplePartialEq.eq.Goals as goal
 

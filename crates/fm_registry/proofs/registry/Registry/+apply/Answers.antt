@@ -3,7 +3,7 @@ use Rattle.std.specs.String.{string_bytes}
 use Rattle.fm_registry_calls.specs.Steps.{place_in}
 use Rattle.fm_registry_calls.specs.Answer.{refusal_of}
 use Rattle.fm_registry_calls.specs.Running.{path_of}
-use Rattle.fm_registry.specs.Request.{call_at}
+use Rattle.fm_registry.specs.inside.Request.{call_at}
 use Rattle.fm_registry_calls.proofs.ForestLemmas.{place_in-IsPlace}
 use Rattle.fm_registry_calls.proofs.ApplyLemmas.{apply-reply, apply-ok, apply-err}
 use Rattle.fm_registry.proofs.RequestLemmas.{call_at-pop, request-missing}

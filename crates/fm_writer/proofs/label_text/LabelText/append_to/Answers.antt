@@ -2,8 +2,8 @@ use Rattle.std.proofs.Common.{ap, subst, ◌∙◌}
 use Rattle.fm_grammar.specs.Exposition.{Text}
 use Rattle.fm_grammar.specs.Spelling.{label_list_text}
 use Rattle.fm_exposition.proofs.ResultLemmas.{on_ok_more}
-use Rattle.fm_writer.specs.Grown.{Grows}
-use Rattle.fm_writer.specs.LabelTexts.{LabelsState}
+use Rattle.fm_writer.specs.inside.Grown.{Grows}
+use Rattle.fm_writer.specs.inside.LabelTexts.{LabelsState}
 use Rattle.fm_writer.proofs.LabelTextLemmas.{list_closed}
 use Rattle.fm_writer.proofs.label_text.LabelText.append_to.Goals as goal
 

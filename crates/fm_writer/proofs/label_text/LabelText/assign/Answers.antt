@@ -1,5 +1,5 @@
 use Rattle.std.proofs.Common.{◌≡◌, None, ap, ◌∙◌}
-use Rattle.fm_writer.specs.LabelTexts.{LabelsState, labels_in}
+use Rattle.fm_writer.specs.inside.LabelTexts.{LabelsState, labels_in}
 use Rattle.fm_writer.proofs.LabelTextLemmas.{kept_copied}
 use Rattle.fm_writer.proofs.label_text.LabelText.assign.Goals as goal
 

@@ -1,6 +1,6 @@
 use Rattle.std.proofs.Common.{List, subst, sym}
 use Rattle.fm_writer.specs.declared.label_text.Place.{Place}
-use Rattle.fm_writer.specs.LabelTexts.{AreKept}
+use Rattle.fm_writer.specs.inside.LabelTexts.{AreKept}
 use Rattle.fm_writer.proofs.LabelTextLemmas.{kept_ended}
 use Rattle.fm_writer.proofs.label_text.LabelText.end_label.Goals as goal
 

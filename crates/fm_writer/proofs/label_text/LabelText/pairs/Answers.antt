@@ -1,6 +1,6 @@
 use Rattle.std.proofs.Common.{◌≡◌, ◌-◌, length, take, drop, map, ap, ◌∙◌}
 use Rattle.fm_exposition.specs.Samples.{shown_label}
-use Rattle.fm_writer.specs.LabelTexts.{LabelsState, labels_in}
+use Rattle.fm_writer.specs.inside.LabelTexts.{LabelsState, labels_in}
 use Rattle.fm_writer.proofs.LabelTextLemmas.{labels_from, if_ok_more}
 use Rattle.fm_writer.proofs.label_text.LabelText.pairs.Goals as goal
 

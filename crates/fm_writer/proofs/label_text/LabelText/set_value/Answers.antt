@@ -1,5 +1,5 @@
 use Rattle.std.proofs.Common.{ap, ◌∙◌, Some}
-use Rattle.fm_writer.specs.LabelTexts.{LabelsState}
+use Rattle.fm_writer.specs.inside.LabelTexts.{LabelsState}
 use Rattle.fm_writer.proofs.LabelTextLemmas.{kept_valued, shown_valued}
 use Rattle.fm_writer.proofs.label_text.LabelText.set_value.Goals as goal
 

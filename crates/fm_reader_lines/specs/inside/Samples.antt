@@ -2,7 +2,7 @@
 use Rattle.std.specs.Option.{option_map}
 use Rattle.fm_grammar.specs.Exposition.{Sample}
 use Rattle.fm_exposition.specs.Samples.{labels_of, value_of, exemplar_of}
-use Rattle.fm_reader_lines.specs.Parts.{Shown}
+use Rattle.fm_reader_lines.specs.inside.Parts.{Shown}
 use Rattle.fm_reader_lines.specs.declared.sample.ReadSample.{ReadSample}
 use Rattle.fm_reader_lines.specs.declared.values.ReadValues.{ReadValues}
 
