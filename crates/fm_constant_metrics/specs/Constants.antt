@@ -6,14 +6,14 @@ use Rattle.fm_constant_metrics.specs.declared.gauge.ConstGauge.{ConstGauge}
 use Rattle.fm_constant_metrics.specs.declared.info.Info.{Info}
 use Rattle.fm_constant_metrics.specs.declared.unknown.Unknown.{Unknown}
 
-abbrev pub total_of : {N : Type 0} → ConstCounter N → N
-total_of counter = counter.total
+abbrev pub constant_total : {N : Type 0} → ConstCounter N → N
+constant_total counter = counter.total
 
-abbrev pub created_of : {N : Type 0} → ConstCounter N → Option Duration
-created_of counter = counter.created
+abbrev pub constant_created : {N : Type 0} → ConstCounter N → Option Duration
+constant_created counter = counter.created
 
-abbrev pub value_of : {N : Type 0} → ConstGauge N → N
-value_of gauge = gauge.value
+abbrev pub constant_value : {N : Type 0} → ConstGauge N → N
+constant_value gauge = gauge.value
 
 abbrev pub unknown_value : {N : Type 0} → Unknown N → N
 unknown_value metric = metric.value

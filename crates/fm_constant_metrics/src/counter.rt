@@ -3,7 +3,7 @@ ghost use Rattle.std.specs.Prelude.{◌≡◌, [], ◌∷◌, None, Some, Option
 ghost use Rattle.std.specs.Option.{option_map};
 ghost use Rattle.fm_grammar.specs.declared.MetricType.TheVariants.{Counter};
 ghost use Rattle.fm_encoder.specs.Points.{CounterPoint, millis};
-ghost use Rattle.fm_constant_metrics.specs.Constants.{total_of, created_of};
+ghost use Rattle.fm_constant_metrics.specs.Constants.{constant_total, constant_created};
 
 use fm_encode_error::EncodeError;
 use fm_encoder::{EncodeCounterValue, EncodeMetric, EncodePoint, MetricEncoder, PointEncoder};
@@ -22,8 +22,8 @@ pub struct ConstCounter<N = u64> {
 impl<N> ConstCounter<N> {
     /// A counter with this total and no time of creation.
     pub fn new(total: N) -> ConstCounter<N>
-        ensures total { total_of result ≡ total }
-        ensures created { created_of result ≡ None }
+        ensures total { constant_total result ≡ total }
+        ensures created { constant_created result ≡ None }
     {
         ConstCounter {
             total,
@@ -33,8 +33,8 @@ impl<N> ConstCounter<N> {
 
     /// A counter with this total, created at this time since the Unix epoch. It is written in whole milliseconds.
     pub fn with_created(total: N, created: Duration) -> ConstCounter<N>
-        ensures total { total_of result ≡ total }
-        ensures created { created_of result ≡ Some created }
+        ensures total { constant_total result ≡ total }
+        ensures created { constant_created result ≡ Some created }
     {
         ConstCounter {
             total,
@@ -44,7 +44,7 @@ impl<N> ConstCounter<N> {
 
     /// When the counter was created, since the Unix epoch, if it is known.
     pub fn created(&self) -> Option<Duration>
-        ensures { result ≡ created_of self.now }
+        ensures { result ≡ constant_created self.now }
     {
         self.created
     }
@@ -53,7 +53,7 @@ impl<N> ConstCounter<N> {
 impl<N: Copy> ConstCounter<N> {
     /// The counter's total.
     pub fn total(&self) -> N
-        ensures { result ≡ total_of self.now }
+        ensures { result ≡ constant_total self.now }
     {
         self.total
     }
@@ -61,7 +61,7 @@ impl<N: Copy> ConstCounter<N> {
 
 /// A counter with the total 0 and no time of creation.
 impl<N: Number> Default for ConstCounter<N> {
-    ghost is_default = { λ c. (total_of c ≡ N.ZERO) × (created_of c ≡ None) };
+    ghost is_default = { λ c. (constant_total c ≡ N.ZERO) × (constant_created c ≡ None) };
 
     fn default() -> ConstCounter<N> {
         ConstCounter::new(N::ZERO)

@@ -2,7 +2,7 @@
 ghost use Rattle.std.specs.Prelude.{◌≡◌, [], ◌∷◌};
 ghost use Rattle.fm_grammar.specs.declared.MetricType.TheVariants.{Gauge};
 ghost use Rattle.fm_encoder.specs.Points.{GaugePoint};
-ghost use Rattle.fm_constant_metrics.specs.Constants.{value_of};
+ghost use Rattle.fm_constant_metrics.specs.Constants.{constant_value};
 
 use fm_encode_error::EncodeError;
 use fm_encoder::{EncodeGaugeValue, EncodeMetric, EncodePoint, MetricEncoder, PointEncoder};
@@ -20,7 +20,7 @@ pub struct ConstGauge<N = i64> {
 impl<N> ConstGauge<N> {
     /// A gauge with this value.
     pub fn new(value: N) -> ConstGauge<N>
-        ensures { value_of result ≡ value }
+        ensures { constant_value result ≡ value }
     {
         ConstGauge { value }
     }
@@ -29,7 +29,7 @@ impl<N> ConstGauge<N> {
 impl<N: Copy> ConstGauge<N> {
     /// The gauge's value.
     pub fn get(&self) -> N
-        ensures { result ≡ value_of self.now }
+        ensures { result ≡ constant_value self.now }
     {
         self.value
     }
@@ -37,7 +37,7 @@ impl<N: Copy> ConstGauge<N> {
 
 /// A gauge with the value 0.
 impl<N: Number> Default for ConstGauge<N> {
-    ghost is_default = { λ g. value_of g ≡ N.ZERO };
+    ghost is_default = { λ g. constant_value g ≡ N.ZERO };
 
     fn default() -> ConstGauge<N> {
         ConstGauge::new(N::ZERO)

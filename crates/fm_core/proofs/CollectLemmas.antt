@@ -17,8 +17,8 @@ use Rattle.fm_encoder.specs.Gathered.{answer}
 use Rattle.fm_encoder.proofs.FaultLemmas.{MetricHasFault-not_writing}
 use Rattle.fm_registry.specs.Seen.{seen_list, seen_listed}
 use Rattle.fm_registry.specs.declared.listing.ListedMetric.{ListedMetric}
-use Rattle.fm_core.specs.Heading.{Heading}
-use Rattle.fm_core.specs.Admits.{IsFamilyOf, Admits, AdmitsNext, FaultUnder, FaultOf, Fault}
+use Rattle.fm_core.specs.Families.{Heading, FaultUnder}
+use Rattle.fm_core.specs.Admits.{IsFamilyOf, Admits, AdmitsNext, FaultOf, Fault}
 
 module _ {M : Type 0} (Offers : M → List Member → Type 0) (Stamps : M → Option ℕ → Type 0) (Empty : M → Type 0) where
   Admits-left_out : (ls : List (Listed M)) (l : Listed M) (e : Exposition) → Admits Offers Stamps Empty ls e → Empty l.registration.metric → Admits Offers Stamps Empty (ls ++ l ∷ []) e
@@ -46,7 +46,7 @@ module _ {M : Type 0} (Offers : M → List Member → Type 0) (Stamps : M → Op
   collected_all : (P : Text → Type 0) (ls : List (Listed M)) (e : Exposition) → AllByRecursion P (map listed_name ls) → Admits Offers Stamps Empty ls e → AllByRecursion (λ family. P family.name) e
   collected_all P [] e h admits = subst (λ (fs : Exposition). AllByRecursion (λ family. P family.name) fs) (sym admits) tt
   collected_all P (l ∷ ls) e h (inl left_out) = collected_all P ls e h.1 left_out.1
-  collected_all P (l ∷ ls) e h (inr (f, rest, is, own, admits)) = subst (λ (fs : Exposition). AllByRecursion (λ family. P family.name) fs) (sym is) (subst P (sym own.name) h.0, collected_all P ls rest h.1 admits)
+  collected_all P (l ∷ ls) e h (inr (f, rest, is, own, admits)) = subst (λ (fs : Exposition). AllByRecursion (λ family. P family.name) fs) (sym is) (subst P (sym own.0) h.0, collected_all P ls rest h.1 admits)
 
   -- of names that differ, one is new behind those before it
   before_next : (names : List Text) (n : Text) (rest : List Text) → AllDifferent (names ++ n ∷ rest) → AllByRecursion (λ m. m ≢ n) names

@@ -5,7 +5,8 @@ use Rattle.fm_grammar.specs.Exposition.{Text, Sample, Family}
 use Rattle.fm_grammar.specs.Names.{AllDifferent}
 use Rattle.fm_grammar.specs.Reading.{IsNewName}
 use Rattle.fm_grammar.proofs.States.{exposition_push}
-use Rattle.fm_registry_calls.specs.Listing.{listed_name}
+use Rattle.fm_registry_calls.specs.Registration.{printed_unit}
+use Rattle.fm_registry_calls.specs.Listing.{listed_name, IsListable}
 use Rattle.fm_exposition.specs.Rows.{sample_rows, family_rows, families_rows}
 use Rattle.fm_encode_error.specs.declared.EncodeError.{EncodeError}
 use Rattle.fm_encode_error.specs.declared.EncodeError.TheVariants.{Memory}
@@ -16,21 +17,20 @@ use Rattle.fm_encoder.specs.Gathered.{GatheredMembers, own_refusal}
 use Rattle.fm_encoder.specs.Hands.{HandsMembers}
 use Rattle.fm_registry.specs.Seen.{seen_list, seen_listed}
 use Rattle.fm_registry.specs.declared.listing.ListedMetric.{ListedMetric}
-use Rattle.fm_core.specs.Heading.{Heading, IsHeading}
+use Rattle.fm_core.specs.Families.{Heading, FaultUnder}
 use Rattle.fm_core.specs.inside.Offered.{Offered}
 use Rattle.fm_core.specs.inside.Documents.{heading_rows, text_in, HasLines, AddsRows, AddsNextRows, IsTextOf}
-use Rattle.fm_core.specs.Admits.{FaultUnder}
 use Rattle.fm_core.proofs.OfferedLemmas.{Ends, Makes, offered_made}
 use Rattle.fm_core.proofs.CollectLemmas.{Admits-next, next_new}
 
 -- a heading's lines, and then those of the samples that the metric offered, are the lines of its family
-AddsRows-family : (Offers : List Member → Type 0) (Stamps : Option ℕ → Type 0) (MayBeEmpty : Type 0) (heading : Heading) (old : Text) (output : Output) → IsHeading heading → Offered Offers Stamps heading.name heading.metric_type heading.labels (OutputText (old ++ heading_rows heading)) output → AddsRows Offers Stamps MayBeEmpty heading old (text_in output)
+AddsRows-family : (Offers : List Member → Type 0) (Stamps : Option ℕ → Type 0) (MayBeEmpty : Type 0) (heading : Heading) (old : Text) (output : Output) → IsListable heading → Offered Offers Stamps (listed_name heading) heading.registration.metric_type heading.labels (OutputText (old ++ heading_rows heading)) output → AddsRows Offers Stamps MayBeEmpty heading old (text_in output)
 AddsRows-family Offers Stamps MayBeEmpty heading old output heads offered =
-    let rows = sample_rows heading.name offered.samples in
-    let family : Family = record { name = heading.name; metric_type = heading.metric_type; help = heading.help; unit = heading.unit; samples = offered.samples } in
+    let rows = sample_rows (listed_name heading) offered.samples in
+    let family : Family = record { name = listed_name heading; metric_type = heading.registration.metric_type; help = heading.registration.help; unit = printed_unit heading.registration.unit; samples = offered.samples } in
     inr (
       family,
-      record { name = refl; metric_type = refl; help = refl; unit = refl; samples = offered.admitted },
+      (refl, refl, refl, refl, offered.admitted),
       record { name = heads.name; unit = heads.unit; allowed = heads.allowed; samples = offered.formed },
       ap text_in offered.is ∙ append_assoc old (heading_rows heading) rows,
     )
@@ -43,30 +43,30 @@ still_text name old new text samples was is =
 
 -- what an encoder makes of a metric whose family it has begun
 pub family_added : (Offers : List Member → Type 0) (Stamps : Option ℕ → Type 0) (MayBeEmpty MayFault : Type 0) (heading : Heading) (stamp : Option ℕ) (old begun new : GatheredMembers) (visited made : Result (Unit {0}) EncodeError)
-    → IsHeading heading → HasLines old → Stamps stamp
-    → begun ≡ record { context = context_at heading.name heading.metric_type heading.labels stamp; output = with_lines old.output (heading_rows heading); refused = old.refused }
+    → IsListable heading → HasLines old → Stamps stamp
+    → begun ≡ record { context = context_at (listed_name heading) heading.registration.metric_type heading.labels stamp; output = with_lines old.output (heading_rows heading); refused = old.refused }
     → HandsMembers Offers MayFault begun new visited
     → MatchResult made (λ _. (new.refused ≡ None) × (visited ≡ Ok tt)) (λ k. (new.refused ≡ Some k) ⊎ ((e : EncodeError) × (new.refused ≡ None) × (visited ≡ Err e) × (k ≡ own_refusal e)))
     → MatchResult made (λ _. HasLines new × AddsRows Offers Stamps MayBeEmpty heading (text_in old.output) (text_in new.output)) (λ k. (k ≡ Memory) ⊎ FaultUnder Offers Stamps k MayFault heading)
 family_added Offers Stamps MayBeEmpty MayFault heading stamp old begun new visited made heads lines stamped is hands ends =
     let text = text_in old.output in
     let headed = OutputText (text ++ heading_rows heading) in
-    let same : begun ≡ record { context = context_at heading.name heading.metric_type heading.labels stamp; output = headed; refused = None } =
-    is ∙ (λ i. record { context = context_at heading.name heading.metric_type heading.labels stamp; output = with_lines (lines.text i) (heading_rows heading); refused = lines.accepting i }) in
-    added made ends (offered_made Offers Stamps MayFault heading.name heading.metric_type heading.labels stamp headed (λ _. new.context.setting.name) (λ _. new.output) begun new visited made same stamped hands (ended made ends))
+    let same : begun ≡ record { context = context_at (listed_name heading) heading.registration.metric_type heading.labels stamp; output = headed; refused = None } =
+    is ∙ (λ i. record { context = context_at (listed_name heading) heading.registration.metric_type heading.labels stamp; output = with_lines (lines.text i) (heading_rows heading); refused = lines.accepting i }) in
+    added made ends (offered_made Offers Stamps MayFault (listed_name heading) heading.registration.metric_type heading.labels stamp headed (λ _. new.context.setting.name) (λ _. new.output) begun new visited made same stamped hands (ended made ends))
   where
     headed_output : Output
     headed_output = OutputText (text_in old.output ++ heading_rows heading)
 
     ended : (r : Result (Unit {0}) EncodeError) → MatchResult r (λ _. (new.refused ≡ None) × (visited ≡ Ok tt)) (λ k. (new.refused ≡ Some k) ⊎ ((e : EncodeError) × (new.refused ≡ None) × (visited ≡ Err e) × (k ≡ own_refusal e)))
-        → Ends Offers Stamps MayFault heading.name heading.metric_type heading.labels stamp headed_output (λ _. new.context.setting.name) (λ _. new.output) new visited r
+        → Ends Offers Stamps MayFault (listed_name heading) heading.registration.metric_type heading.labels stamp headed_output (λ _. new.context.setting.name) (λ _. new.output) new visited r
     ended (Ok x) h = (h.0, h.1, refl, refl)
     ended (Err k) h = h
 
     added : (r : Result (Unit {0}) EncodeError) → MatchResult r (λ _. (new.refused ≡ None) × (visited ≡ Ok tt)) (λ k. (new.refused ≡ Some k) ⊎ ((e : EncodeError) × (new.refused ≡ None) × (visited ≡ Err e) × (k ≡ own_refusal e)))
-        → Makes Offers Stamps MayFault heading.name heading.metric_type heading.labels stamp headed_output (λ _. new.context.setting.name) (λ _. new.output) r
+        → Makes Offers Stamps MayFault (listed_name heading) heading.registration.metric_type heading.labels stamp headed_output (λ _. new.context.setting.name) (λ _. new.output) r
         → MatchResult r (λ _. HasLines new × AddsRows Offers Stamps MayBeEmpty heading (text_in old.output) (text_in new.output)) (λ k. (k ≡ Memory) ⊎ FaultUnder Offers Stamps k MayFault heading)
-    added (Ok x) h m = (record { text = still_text heading.name headed_output new.output _ m.1.samples refl m.1.is; accepting = h.0 }, AddsRows-family Offers Stamps MayBeEmpty heading (text_in old.output) new.output heads m.1)
+    added (Ok x) h m = (record { text = still_text (listed_name heading) headed_output new.output _ m.1.samples refl m.1.is; accepting = h.0 }, AddsRows-family Offers Stamps MayBeEmpty heading (text_in old.output) new.output heads m.1)
     added (Err k) h m = m
 
 module _ {M : Type 0} (Offers : M → List Member → Type 0) (Stamps : M → Option ℕ → Type 0) (Empty : M → Type 0) where
@@ -88,6 +88,6 @@ module _ {M : Type 0} (Offers : M → List Member → Type 0) (Stamps : M → Op
       record {
         exposition = e ++ f ∷ [];
         admitted = Admits-next Offers Stamps Empty xs i x e (e ++ f ∷ []) within is h.admitted (inr (f, refl, own));
-        is_exposition = exposition_push e f h.is_exposition formed (subst (λ n. IsNewName n e) (sym own.name) (next_new Offers Stamps Empty xs i x e within is differ h.admitted));
+        is_exposition = exposition_push e f h.is_exposition formed (subst (λ n. IsNewName n e) (sym own.0) (next_new Offers Stamps Empty xs i x e within is differ h.admitted));
         rows = longer ∙ ap (λ (t : Text). t ++ family_rows f) h.rows ∙ ap (λ (t : Text). families_rows e ++ t) (sym (append-nil (family_rows f))) ∙ sym rows;
       }

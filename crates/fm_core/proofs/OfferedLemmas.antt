@@ -41,7 +41,7 @@ module _ (Offers : List Member → Type 0) (Stamps : Option ℕ → Type 0) (May
         h.2 ∙ ap (λ (x : Context). x.setting.name) hands.context,
         record {
           samples = members_samples context x.0;
-          admitted = record { members = x.0; stamp = stamp; offered = x.1; stamped = stamped; clean = x.2; are = refl };
+          admitted = (x.0, stamp, x.1, stamped, x.2, refl);
           formed = MembersClean-formed context x.0 x.2;
           is = h.3 ∙ x.3;
         },

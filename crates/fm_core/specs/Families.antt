@@ -1,14 +1,14 @@
 -- What the encoder of families has gathered, and what it does with one metric more.
 use Rattle.std.specs.Prelude.{◌≡◌, ℕ, List, Option, Some, None, ◌⊎◌}
-use Rattle.fm_grammar.specs.Exposition.{Exposition}
+use Rattle.fm_grammar.specs.Exposition.{Family, Exposition}
 use Rattle.fm_raw.specs.declared.metadata.Metadata.{Metadata}
 use Rattle.fm_encode_error.specs.declared.EncodeError.{EncodeError}
 use Rattle.fm_encode_error.specs.declared.EncodeError.TheVariants.{Memory}
 use Rattle.fm_registry_calls.specs.Texts.{Text, Labels}
+use Rattle.fm_registry_calls.specs.Listing.{Listed}
 use Rattle.fm_encoder.specs.Points.{Member}
 use Rattle.fm_registry.specs.View.{seen_metric}
-use Rattle.fm_core.specs.Heading.{Heading, heading_of}
-use Rattle.fm_core.specs.Admits.{AddsFamily, FaultUnder}
+use Rattle.fm_core.specs.Admits.{IsFamilyOf, AdmitsNext, FaultOf}
 
 -- the namespace and the labels of the registry under way, the families so far, and the refusal
 pub record GatheredFamilies : Type 0 where
@@ -17,13 +17,28 @@ pub record GatheredFamilies : Type 0 where
   pub families : Exposition
   pub refused : Option EncodeError
 
--- what stands above the samples of a metric with this metadata in a registry with this namespace and these labels
+-- what is listed of a metric besides the metric itself
+abbrev pub Heading : Type 0
+Heading = Listed (Unit {0})
+
+-- that of a metric with this metadata in a registry with this namespace and these labels
 abbrev pub heading_in : Option Text → Labels → Metadata → Heading
-heading_in namespace labels metadata = heading_of (record { namespace = namespace; labels = labels; registration = seen_metric metadata (tt {0}) })
+heading_in namespace labels metadata = record { namespace = namespace; labels = labels; registration = seen_metric metadata (tt {0}) }
 
 -- the same in the registry under way
 abbrev pub next_heading : GatheredFamilies → Metadata → Heading
 next_heading gathered metadata = heading_in gathered.namespace gathered.labels metadata
+
+-- what one metric makes under a heading, as `Admits` says it of each metric of a list
+module _ (Offers : List Member → Type 0) (Stamps : Option ℕ → Type 0) where
+  abbrev pub IsFamilyUnder : Heading → Family → Type 0
+  IsFamilyUnder = IsFamilyOf (λ _. Offers) (λ _. Stamps)
+
+  abbrev pub AddsFamily : Type 0 → Heading → Exposition → Exposition → Type 0
+  AddsFamily MayBeEmpty = AdmitsNext (λ _. Offers) (λ _. Stamps) (λ _. MayBeEmpty)
+
+  abbrev pub FaultUnder : EncodeError → Type 0 → Heading → Type 0
+  FaultUnder k MayFault = FaultOf k (λ _. Offers) (λ _. Stamps) (λ _. MayFault)
 
 -- An encoder that had refused is as it was. Else it adds the family of the metric, unless that is empty, or refuses for want of
 -- memory or a fault that stands in the metric.

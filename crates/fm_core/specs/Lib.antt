@@ -11,5 +11,4 @@ pub use Rattle.fm_encoder.specs.Offers
 pub mod Admits
 pub mod Encoded
 pub mod Families
-pub mod Heading
 pub mod inside

@@ -9,19 +9,17 @@ ghost use Rattle.fm_encode_error.specs.declared.EncodeError.{EncodeError};
 ghost use Rattle.fm_exposition.specs.Rows.{document_rows};
 ghost use Rattle.fm_exposition.specs.Samples.{labels_of};
 ghost use Rattle.fm_exposition.specs.Written.{AppendsDocument, BeginsDocument, IsWritersFault};
-ghost use Rattle.fm_registry_calls.specs.Listing.{order, IsListable};
+ghost use Rattle.fm_registry_calls.specs.Listing.{listed_name, order, IsListable};
 ghost use Rattle.fm_registry_calls.specs.Tree.{Shows};
 ghost use Rattle.fm_registry.specs.Seen.{seen_list, seen_listed};
 ghost use Rattle.fm_registry.specs.HasBook.{HasBook};
 ghost use Rattle.fm_writer.specs.Output.{with_lines};
 ghost use Rattle.fm_encoder.specs.Offers.{context_at};
-ghost use Rattle.fm_core.specs.Heading.{IsHeading};
-ghost use Rattle.fm_core.specs.Families.{heading_in};
-ghost use Rattle.fm_core.specs.Admits.{Admits, FaultOf, Fault, FaultUnder};
+ghost use Rattle.fm_core.specs.Families.{heading_in, FaultUnder};
+ghost use Rattle.fm_core.specs.Admits.{Admits, FaultOf, Fault};
 ghost use Rattle.fm_core.specs.inside.Documents.{heading_rows, text_in, HasLines, AddsRows, AddsNextRows};
 
 use crate::family::{join_name, text_of, whole_millis};
-use crate::format::text::constants_of;
 use fm_encode_error::EncodeError;
 use fm_encoder::{EncodeMetric, MetricEncoder};
 use fm_exposition::write_text;
@@ -41,11 +39,11 @@ fn begin_family(
     metadata: &Metadata,
     time: Option<u128>,
 ) -> Result<(), EncodeError>
-    requires heading { IsHeading (heading_in (option_copied namespace) (labels_of constants.now) metadata.now) }
+    requires heading { IsListable (heading_in (option_copied namespace) (labels_of constants.now) metadata.now) }
     requires time { IfSome time AreMillis }
     ensures begun { let heading = heading_in (option_copied namespace.entry) (labels_of constants.now) metadata.now in
         OnOk result (encoder.new ≡ record {
-          context = context_at heading.name heading.metric_type heading.labels time;
+          context = context_at (listed_name heading) heading.registration.metric_type heading.labels time;
           output = with_lines encoder.old.output (heading_rows heading);
           refused = encoder.old.refused;
         }) }
@@ -74,7 +72,7 @@ fn add_family(
     metadata: &Metadata,
     metric: &dyn EncodeMetric,
 ) -> Result<(), EncodeError>
-    requires heading { IsHeading (heading_in (option_copied namespace) (labels_of constants.now) metadata.now) }
+    requires heading { IsListable (heading_in (option_copied namespace) (labels_of constants.now) metadata.now) }
     requires lines { HasLines encoder.old }
     ensures { MatchResult result
         (λ _. HasLines encoder.new × AddsRows (offers metric.now) (stamps metric.now) (may_be_empty metric.now) (heading_in (option_copied namespace.entry) (labels_of constants.now) metadata.now) (text_in encoder.old.output) (text_in encoder.new.output))
@@ -107,7 +105,7 @@ fn add_listed(
         encoder,
         name,
         listed.namespace.as_deref(),
-        constants_of(listed.const_labels),
+        listed.constant_labels(),
         listed.metadata,
         &**listed.metric,
     )

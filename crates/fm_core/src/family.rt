@@ -10,12 +10,12 @@ ghost use Rattle.fm_encode_error.specs.declared.EncodeError.{EncodeError};
 ghost use Rattle.fm_exposition.specs.Samples.{labels_of};
 ghost use Rattle.fm_writer.specs.Output.{AreShared};
 ghost use Rattle.fm_registry_calls.specs.Texts.{printed_name};
+ghost use Rattle.fm_registry_calls.specs.Registration.{printed_unit};
+ghost use Rattle.fm_registry_calls.specs.Listing.{listed_name, IsListable};
 ghost use Rattle.fm_encoder.specs.Points.{millis};
 ghost use Rattle.fm_encoder.specs.Gathered.{answer};
 ghost use Rattle.fm_encoder.specs.Offers.{AdmitsSamples, MetricHasFault};
-ghost use Rattle.fm_core.specs.Heading.{IsHeading};
-ghost use Rattle.fm_core.specs.Admits.{IsFamilyUnder, FaultUnder};
-ghost use Rattle.fm_core.specs.Families.{next_heading, EncodesFamily};
+ghost use Rattle.fm_core.specs.Families.{next_heading, IsFamilyUnder, FaultUnder, EncodesFamily};
 ghost use Rattle.fm_core.specs.inside.Offered.{Offered};
 
 use fm_encode_error::EncodeError;
@@ -215,9 +215,9 @@ impl<'a> MetricFamilyEncoder<'a> {
 
     // The printed name of a metric with this metadata, its help, and its unit's text.
     fn heads_of(&self, metadata: &Metadata) -> Result<(String, String, Option<String>), AllocError>
-        ensures { IfOk result (λ heads. (string_bytes heads.0 ≡ (next_heading self.now metadata.now).name)
-            × (string_bytes heads.1 ≡ (next_heading self.now metadata.now).help)
-            × (option_map string_bytes heads.2 ≡ (next_heading self.now metadata.now).unit)) }
+        ensures { IfOk result (λ heads. (string_bytes heads.0 ≡ listed_name (next_heading self.now metadata.now))
+            × (string_bytes heads.1 ≡ (next_heading self.now metadata.now).registration.help)
+            × (option_map string_bytes heads.2 ≡ printed_unit (next_heading self.now metadata.now).registration.unit)) }
     {
         let alloc = self.alloc;
         let unit = text_of(metadata.unit());
@@ -233,7 +233,7 @@ impl<'a> MetricFamilyEncoder<'a> {
         metadata: &Metadata,
         metric: &dyn EncodeMetric,
     ) -> Result<FamilySamples, EncodeError>
-        requires { IsHeading (next_heading self.now metadata.now) }
+        requires { IsListable (next_heading self.now metadata.now) }
         ensures { MatchResult result
             (λ family. IsFamilyUnder (offers metric.now) (stamps metric.now) (next_heading self.now metadata.now) family × IsFamily family)
             (λ k. (k ≡ EncodeError.Memory) ⊎ FaultUnder (offers metric.now) (stamps metric.now) k (may_fault metric.now) (next_heading self.now metadata.now)) }
@@ -264,8 +264,8 @@ impl<'a> MetricFamilyEncoder<'a> {
         metadata: &Metadata,
         metric: &dyn EncodeMetric,
     ) -> Result<(), EncodeError>
-        requires heading { IsHeading (next_heading self.old metadata.now) }
-        requires new_name { IsNewName (next_heading self.old metadata.now).name self.old.families }
+        requires heading { IsListable (next_heading self.old metadata.now) }
+        requires new_name { IsNewName (listed_name (next_heading self.old metadata.now)) self.old.families }
         ensures encoded { EncodesFamily (offers metric.now) (stamps metric.now) (may_be_empty metric.now) (may_fault metric.now) (next_heading self.old metadata.now) self.old self.new }
         ensures answered { result ≡ answer self.new.refused }
     {

@@ -2,7 +2,7 @@
 #![tactic(auto)]
 
 ghost use Rattle.std.specs.Prelude.{◌≡◌};
-ghost use Rattle.fm_encode_error.specs.Errors.{number_of};
+ghost use Rattle.fm_encode_error.specs.Errors.{error_number};
 ghost use Rattle.fm_encode_error.specs.declared.EncodeError.TheVariants.{Memory};
 
 use std::alloc::{AllocError, AllocFailed};
@@ -61,7 +61,7 @@ pub enum EncodeError {
 impl EncodeError {
     /// The error's number, from 1 to 15.
     pub fn number(self) -> u8
-        ensures { result ≡ number_of self }
+        ensures { result ≡ error_number self }
     {
         match self {
             EncodeError::Memory => 1,

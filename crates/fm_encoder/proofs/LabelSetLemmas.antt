@@ -4,7 +4,7 @@ use Rattle.fm_grammar.specs.declared.MetricType.{MetricType}
 use Rattle.fm_encode_error.specs.declared.EncodeError.{EncodeError}
 use Rattle.fm_encode_error.specs.declared.EncodeError.TheVariants.{Memory}
 use Rattle.fm_grammar.specs.Exposition.{Label}
-use Rattle.fm_encoder.specs.Labels.{HandedLabel, NameFits, PieceFault, LabelFault, pieces_of, written}
+use Rattle.fm_encoder.specs.Labels.{HandedLabel, NamePiece, ValuePiece, NameFits, CannotBegin, IsMalformed, PieceFault, LabelFault, pieces_of, written}
 use Rattle.fm_encoder.specs.Gathered.{GatheredPieces, GatheredLabels, OwnRefusal, own_refusal, answer}
 use Rattle.fm_encoder.specs.Hands.{HandsPieces, HandsLabels}
 use Rattle.fm_encoder.specs.inside.Steps.{EndsLabel}
@@ -24,8 +24,16 @@ own_refusal_is F e (inl m) = inl (ap own_refusal m)
 own_refusal_is F Memory (inr f) = inl refl
 own_refusal_is F _ (inr f) = inr (refl, f)
 
+malformed_of_pieces : (ps : HandedLabel) → CannotBegin ps → IsMalformed ps
+malformed_of_pieces [] h = h
+malformed_of_pieces (ValuePiece t ∷ ps) h = tt
+malformed_of_pieces (NamePiece n ∷ []) h = tt
+malformed_of_pieces (NamePiece n ∷ NamePiece m ∷ ps) h = tt
+malformed_of_pieces (NamePiece n ∷ ValuePiece t ∷ []) h = h
+malformed_of_pieces (NamePiece n ∷ ValuePiece t ∷ p ∷ ps) h = tt
+
 label_fault_of_pieces : (k : EncodeError) (type : MetricType) (before : List Label) (ps : HandedLabel) → PieceFault k type before ps → LabelFault k type before ps
-label_fault_of_pieces k type before ps (inl m) = inl (m.0, inl m.1)
+label_fault_of_pieces k type before ps (inl m) = inl (m.0, malformed_of_pieces ps m.1)
 label_fault_of_pieces k type before ps (inr n) = inr n
 
 pub HandsLabels-one : (pieces : HandedLabel) (F : Type 0) (old mid new : GatheredPieces) (visited : Result (Unit {0}) EncodeError) → HandsPieces pieces F old mid visited → EndsLabel visited mid new → (old.refused ≡ None → old.pieces ≡ []) → HandsLabels (pieces ∷ []) F (set_of old) (set_of new) (answer new.refused)

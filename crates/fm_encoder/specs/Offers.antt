@@ -12,13 +12,11 @@ abbrev pub context_at : Text → MetricType → List Label → Option ℕ → Co
 context_at n type labels stamp = record { setting = record { name = n; metric_type = type; time = stamp }; constants = labels }
 
 -- the samples are those of a clean offer that the metric admits, under a timestamp that it admits
-pub record AdmitsSamples (Offers : List Member → Type 0) (Stamps : Option ℕ → Type 0) (name : Text) (type : MetricType) (constants : List Label) (samples : List Sample) : Type 0 where
-  pub members : List Member
-  pub stamp : Option ℕ
-  pub offered : Offers members
-  pub stamped : Stamps stamp
-  pub clean : MembersClean (context_at name type constants stamp) members
-  pub are : samples ≡ members_samples (context_at name type constants stamp) members
+abbrev pub AdmitsSamples : (List Member → Type 0) → (Option ℕ → Type 0) → Text → MetricType → List Label → List Sample → Type 0
+AdmitsSamples Offers Stamps name type constants samples =
+    (members : List Member) × (stamp : Option ℕ) × Offers members × Stamps stamp
+    × MembersClean (context_at name type constants stamp) members
+    × (samples ≡ members_samples (context_at name type constants stamp) members)
 
 -- The fault stands in an offer that the metric admits, or the metric declares that it may answer an error of its own.
 abbrev pub MetricHasFault : EncodeError → (List Member → Type 0) → (Option ℕ → Type 0) → Type 0 → Text → MetricType → List Label → Type 0

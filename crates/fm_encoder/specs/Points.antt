@@ -1,6 +1,7 @@
 -- Points and members as they are handed over, when they are clean, which fault stands in them, and their samples.
 use Rattle.std.specs.Prelude.{◌≡◌, ◌≤◌, ◌<◌, ◌/◌, ◌^◌, ℕ, ℤ, pos, Bool, List, [], ◌∷◌, ◌++◌, map, length, sum_by, Contains, Option, Some, None, ◌⊎◌, if◌then◌else◌, codes}
 use Rattle.std.specs.List.{AllByRecursion, flat_map}
+use Rattle.std.specs.Option.{option_to_list}
 use Rattle.std.specs.Duration.{as_nanos}
 use Rattle.std.specs.declared.time.Duration.{Duration}
 use Rattle.fm_grammar.specs.declared.MetricType.{MetricType}
@@ -147,10 +148,6 @@ HeadFault k setting point =
 abbrev pub PointFault : EncodeError → Setting → List Label → Point → Type 0
 PointFault k setting common point = HeadFault k setting point ⊎ PartsFault k setting common point
 
--- a sample without exemplar, whose own labels come after the common ones
-abbrev pub plain_sample : Setting → List Label → SampleKind → List Label → Value → Sample
-plain_sample setting common k own v = record { kind = k; labels = common ++ own; value = v; time = setting.time; exemplar = None }
-
 -- an exemplar as it stands on a sample
 abbrev pub written_as : HandedExemplar → Exemplar
 written_as handed = record { labels = all_written handed.labels; value = handed.value; time = handed.time }
@@ -160,78 +157,67 @@ abbrev pub written_exemplar : List HandedExemplar → Option Exemplar
 written_exemplar [] = None
 written_exemplar (handed ∷ more) = Some (written_as handed)
 
--- a `Created` sample, where there is one
-abbrev pub created_samples : Setting → List Label → Option ℕ → List Sample
-created_samples setting common None = []
-created_samples setting common (Some t) = plain_sample setting common Created [] (Millis t) ∷ []
-
-abbrev pub total_sample : Setting → List Label → List HandedExemplar → Value → Sample
-total_sample setting common exemplars number = record (plain_sample setting common Total [] number) { exemplar = written_exemplar exemplars }
-
--- 1 for a state that is on, else 0
-abbrev pub state_value : Bool → Value
-state_value is_on = Whole (pos (if is_on then 1 else 0))
-
-abbrev pub state_sample : Setting → List Label → Text × Bool → Sample
-state_sample setting common state = plain_sample setting common Plain (record { name = setting.name; value = state.0 } ∷ []) (state_value state.1)
-
 -- the own label of a bucket with this bound
 abbrev pub bound_label : Bound → Label
 bound_label bound = record { name = codes "le"; value = bound_text bound }
 
--- a sample that shows so many values up to the bound
-abbrev pub bucket_line : Setting → List Label → Bound → ℕ → List HandedExemplar → Sample
-bucket_line setting common bound values exemplars =
-    record (plain_sample setting common BucketKind (bound_label bound ∷ []) (Whole (pos values))) { exemplar = written_exemplar exemplars }
+-- samples under a setting, with these common labels
+module _ (setting : Setting) (common : List Label) where
+  -- a sample without exemplar, whose own labels come after the common ones
+  abbrev pub plain_sample : SampleKind → List Label → Value → Sample
+  plain_sample k own v = record { kind = k; labels = common ++ own; value = v; time = setting.time; exemplar = None }
 
--- the sample of a bucket behind others: it shows how many values these and the bucket have together
-abbrev pub bucket_sample : Setting → List Label → List Bucket → Bucket → List HandedExemplar → Sample
-bucket_sample setting common before bucket exemplars = bucket_line setting common bucket.upper_bound (values_in (before ++ bucket ∷ [])) exemplars
+  -- a `Created` sample, where there is one
+  abbrev pub created_samples : Option ℕ → List Sample
+  created_samples created = map (λ t. plain_sample Created [] (Millis t)) (option_to_list created)
 
--- a sample for each bucket and its slot
-abbrev pub bucket_samples : Setting → List Label → List Bucket → List Bucket → List (List HandedExemplar) → List Sample
-bucket_samples setting common before (bucket ∷ buckets) (exemplars ∷ slots) =
-    bucket_sample setting common before bucket exemplars ∷ bucket_samples setting common (before ++ bucket ∷ []) buckets slots
-bucket_samples setting common before _ _ = []
+  abbrev pub total_sample : List HandedExemplar → Value → Sample
+  total_sample exemplars number = record (plain_sample Total [] number) { exemplar = written_exemplar exemplars }
 
--- how many values there are, and their sum, in samples of these kinds
-abbrev pub count_sample : Setting → List Label → SampleKind → ℕ → Sample
-count_sample setting common of_count count = plain_sample setting common of_count [] (Whole (pos count))
+  -- 1 for a state that is on, else 0
+  abbrev pub state_sample : Text × Bool → Sample
+  state_sample state =
+      plain_sample Plain (record { name = setting.name; value = state.0 } ∷ []) (Whole (pos (if state.1 then 1 else 0)))
 
-abbrev pub sum_sample : Setting → List Label → SampleKind → ℤ → Sample
-sum_sample setting common of_sum sum = plain_sample setting common of_sum [] (Fixed sum)
+  -- a sample that shows so many values up to the bound
+  abbrev pub bucket_line : Bound → ℕ → List HandedExemplar → Sample
+  bucket_line bound values exemplars =
+      record (plain_sample BucketKind (bound_label bound ∷ []) (Whole (pos values))) { exemplar = written_exemplar exemplars }
 
--- how many values there are, their sum, and a `Created` sample, where there is one
-abbrev pub total_samples : Setting → List Label → ℕ → ℤ → Option ℕ → List Sample
-total_samples setting common count sum created =
-    count_sample setting common Count count ∷ sum_sample setting common Sum sum ∷ created_samples setting common created
+  -- the sample of a bucket after others: it shows how many values these and the bucket have together
+  abbrev pub bucket_sample : List Bucket → Bucket → List HandedExemplar → Sample
+  bucket_sample before bucket exemplars = bucket_line bucket.upper_bound (values_in (before ++ bucket ∷ [])) exemplars
 
--- the same of values that rise and fall
-abbrev pub gauge_total_samples : Setting → List Label → ℕ → ℤ → List Sample
-gauge_total_samples setting common count sum = count_sample setting common GCount count ∷ sum_sample setting common GSum sum ∷ []
+  -- a sample for each bucket and its slot
+  abbrev pub bucket_samples : List Bucket → List Bucket → List (List HandedExemplar) → List Sample
+  bucket_samples before (bucket ∷ buckets) (exemplars ∷ slots) =
+      bucket_sample before bucket exemplars ∷ bucket_samples (before ++ bucket ∷ []) buckets slots
+  bucket_samples before _ _ = []
 
--- the own label of a quantile
-abbrev pub quantile_label : Quantile → Label
-quantile_label quantile = record { name = codes "quantile"; value = fixed_text quantile.quantile }
+  -- how many values there are, and their sum, in samples of these kinds
+  abbrev pub total_samples : SampleKind → SampleKind → ℕ → ℤ → List Sample
+  total_samples of_count of_sum count sum =
+      plain_sample of_count [] (Whole (pos count)) ∷ plain_sample of_sum [] (Fixed sum) ∷ []
 
--- the sample of a quantile shows its value
-abbrev pub quantile_sample : Setting → List Label → Quantile → Sample
-quantile_sample setting common quantile = plain_sample setting common Plain (quantile_label quantile ∷ []) (Fixed quantile.value)
+  -- the sample of a quantile has it as a label, and shows its value
+  abbrev pub quantile_sample : Quantile → Sample
+  quantile_sample q =
+      plain_sample Plain (record { name = codes "quantile"; value = fixed_text q.quantile } ∷ []) (Fixed q.value)
 
--- the samples of a clean point under these common labels, in order
-abbrev pub point_samples : Setting → List Label → Point → List Sample
-point_samples setting common (UnknownPoint numbers) = map (plain_sample setting common Plain []) numbers
-point_samples setting common (GaugePoint numbers) = map (plain_sample setting common Plain []) numbers
-point_samples setting common (CounterPoint numbers exemplars created) =
-    map (total_sample setting common exemplars) numbers ++ created_samples setting common created
-point_samples setting common (StateSetPoint states) = map (state_sample setting common) states
-point_samples setting common (InfoPoint labels) = plain_sample setting common Info (all_written labels) (Whole (pos 1)) ∷ []
-point_samples setting common (HistogramPoint buckets slots count sum created) =
-    bucket_samples setting common [] buckets slots ++ total_samples setting common count sum created
-point_samples setting common (GaugeHistogramPoint buckets slots count sum) =
-    bucket_samples setting common [] buckets slots ++ gauge_total_samples setting common count sum
-point_samples setting common (SummaryPoint quantiles sum count created) =
-    map (quantile_sample setting common) quantiles ++ total_samples setting common count sum created
+  -- the samples of a clean point, in order
+  abbrev pub point_samples : Point → List Sample
+  point_samples (UnknownPoint numbers) = map (plain_sample Plain []) numbers
+  point_samples (GaugePoint numbers) = map (plain_sample Plain []) numbers
+  point_samples (CounterPoint numbers exemplars created) =
+      map (total_sample exemplars) numbers ++ created_samples created
+  point_samples (StateSetPoint states) = map state_sample states
+  point_samples (InfoPoint labels) = plain_sample Info (all_written labels) (Whole (pos 1)) ∷ []
+  point_samples (HistogramPoint buckets slots count sum time) =
+      bucket_samples [] buckets slots ++ (total_samples Count Sum count sum ++ created_samples time)
+  point_samples (GaugeHistogramPoint buckets slots count sum) =
+      bucket_samples [] buckets slots ++ total_samples GCount GSum count sum
+  point_samples (SummaryPoint quantiles sum count created) =
+      map quantile_sample quantiles ++ (total_samples Count Sum count sum ++ created_samples created)
 
 -- the point has its family's type, its parts are clean, and its samples are well formed
 pub record PointClean (setting : Setting) (common : List Label) (point : Point) : Type 0 where
@@ -258,8 +244,7 @@ MemberFault k context member =
     ⊎ PointFault k context.setting (common_written context member) member.point
 
 abbrev pub MembersClean : Context → List Member → Type 0
-MembersClean context [] = Unit {0}
-MembersClean context (member ∷ members) = MemberClean context member × MembersClean context members
+MembersClean context = AllByRecursion (MemberClean context)
 
 -- the fault stands in one of the members
 abbrev pub MembersFault : EncodeError → Context → List Member → Type 0

@@ -15,6 +15,7 @@ pub mod label_value;
 mod label_wrapper;
 mod law;
 pub mod metric;
+pub mod metric_type;
 mod names;
 mod own;
 pub mod point;

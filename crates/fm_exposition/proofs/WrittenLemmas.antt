@@ -4,7 +4,8 @@ use Rattle.std.proofs.lemmas.List.{append-nil, take-append-drop}
 use Rattle.std.proofs.Math.Seq.{take-length}
 use Rattle.std.specs.Io.KnownBytes.{Appends, Keeps}
 use Rattle.fm_grammar.specs.Exposition.{Text}
-use Rattle.fm_exposition.specs.Written.{AppendsAllBut, AppendsBeginning}
+use Rattle.fm_exposition.specs.Written.{AppendsBeginning}
+use Rattle.fm_exposition.specs.inside.Writing.{AppendsAllBut}
 
 pub Appends-nothing : (known : Option Text) → Appends known known []
 Appends-nothing None = tt
@@ -40,10 +41,7 @@ all_but_none a b whole before = let P : Text → Type 0 = λ t. Appends a b t in
 
 -- nothing more is written
 pub all_but_kept : (a b c : Option Text) (rest whole : Text) → AppendsAllBut rest a b whole → Keeps b c → AppendsBeginning a c whole
-all_but_kept a b c rest whole before kept = record {
-  rest = rest;
-  appended = record { front = before.front; appended = Appends-keeps a b c before.front before.appended kept; is = before.is };
-}
+all_but_kept a b c rest whole before kept = (before.front, rest, Appends-keeps a b c before.front before.appended kept, before.is)
 
 -- the writer took n bytes of the rest
 pub all_but_taken : (a b c : Option Text) (n : ℕ) (rest whole : Text) → AppendsAllBut rest a b whole → Appends b c (take n rest) → AppendsAllBut (take (length rest - n) (drop n rest)) a c whole

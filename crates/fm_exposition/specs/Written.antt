@@ -6,16 +6,9 @@ use Rattle.fm_grammar.specs.Law.{IsDocumentOf}
 use Rattle.fm_encode_error.specs.declared.EncodeError.{EncodeError}
 use Rattle.fm_encode_error.specs.declared.EncodeError.TheVariants.{Memory, Write, WriteZero}
 
--- the whole text was appended, except for the rest
-pub record AppendsAllBut (rest : Text) (old new : Option Text) (whole : Text) : Type 0 where
-  pub front : Text
-  pub appended : Appends old new front
-  pub is : front ++ rest ≡ whole
-
 -- a beginning of the text was appended
-pub record AppendsBeginning (old new : Option Text) (whole : Text) : Type 0 where
-  pub rest : Text
-  pub appended : AppendsAllBut rest old new whole
+abbrev pub AppendsBeginning : Option Text → Option Text → Text → Type 0
+AppendsBeginning old new whole = (front rest : Text) × Appends old new front × (front ++ rest ≡ whole)
 
 -- the errors of a writer
 abbrev pub IsWritersFault : EncodeError → Type 0

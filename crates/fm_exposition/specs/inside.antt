@@ -2,3 +2,4 @@
 pub mod Points
 pub mod Families
 pub mod SameLaws
+pub mod Writing

@@ -7,6 +7,7 @@ ghost use Rattle.fm_global.specs.Locked.{RegistersLocked};
 
 use crate::global::{GlobalRegistry, Kept};
 use fm_encoder::EncodeMetric;
+use fm_encoder::metric_type::type_of;
 use fm_registry::{MetricType, RegistryError, Unit};
 use std::alloc::Global;
 use std::sync::Wait;
@@ -30,13 +31,6 @@ impl<M: Drop> Kept<M> {
         self.registry
             .add_metric(alloc, name, help, metric_type, unit, metric)
     }
-}
-
-// The type that a metric declares.
-fn type_of(metric: &Box<dyn EncodeMetric>) -> MetricType
-    ensures { types metric.now result }
-{
-    metric.metric_type()
 }
 
 /// Registers a metric in the global registry, as `Registry::register_metric` does. The metric's type is read before the

@@ -59,10 +59,10 @@ malformed type before label bad = inr (MalformedLabel, inl (refl, bad))
 
 label_or_fault : (type : MetricType) (before : List Label) (label : HandedLabel) → LabelClean type before label ⊎ SomeFault (λ k. LabelFault k type before label)
 label_or_fault type before [] = inl (inl refl)
-label_or_fault type before (ValuePiece text ∷ pieces) = malformed type before (ValuePiece text ∷ pieces) (inl tt)
-label_or_fault type before (NamePiece name ∷ []) = malformed type before (NamePiece name ∷ []) (inr (name, refl))
-label_or_fault type before (NamePiece name ∷ NamePiece other ∷ pieces) = malformed type before (NamePiece name ∷ NamePiece other ∷ pieces) (inl tt)
-label_or_fault type before (NamePiece name ∷ ValuePiece text ∷ piece ∷ pieces) = malformed type before (NamePiece name ∷ ValuePiece text ∷ piece ∷ pieces) (inl tt)
+label_or_fault type before (ValuePiece text ∷ pieces) = malformed type before (ValuePiece text ∷ pieces) tt
+label_or_fault type before (NamePiece name ∷ []) = malformed type before (NamePiece name ∷ []) tt
+label_or_fault type before (NamePiece name ∷ NamePiece other ∷ pieces) = malformed type before (NamePiece name ∷ NamePiece other ∷ pieces) tt
+label_or_fault type before (NamePiece name ∷ ValuePiece text ∷ piece ∷ pieces) = malformed type before (NamePiece name ∷ ValuePiece text ∷ piece ∷ pieces) tt
 label_or_fault type before (NamePiece name ∷ ValuePiece text ∷ []) = elim (name_or_fault type before name) [
   | inl fits ↦ inl (inr (name, text, refl, fits))
   | inr (k, fault) ↦ inr (k, inr (name, (0, omega arith, refl), fault))

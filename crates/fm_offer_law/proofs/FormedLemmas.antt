@@ -1,5 +1,5 @@
 -- The samples of a point are well formed if its numbers are in range and its labels and its parts are valid.
-use Rattle.std.proofs.Common.{◌≡◌, ℕ, ℤ, pos, ◌<◌, ◌+◌, ◌^◌, ◌++◌, List, [], ◌∷◌, map, Bool, true, false, Option, codes, Some, None, IfSome, inl, inr, refl, sym, subst, append_assoc, append-nil, arith}
+use Rattle.std.proofs.Common.{◌≡◌, ℕ, ℤ, pos, ◌<◌, ◌+◌, ◌^◌, ◌++◌, List, [], ◌∷◌, map, Bool, true, false, if◌then◌else◌, Option, codes, Some, None, IfSome, inl, inr, refl, sym, subst, append_assoc, append-nil, arith}
 use Rattle.std.specs.Prelude.{Contains}
 use Rattle.std.specs.List.{AllByRecursion}
 use Rattle.std.proofs.lemmas.List.Sums.{sum_by-append}
@@ -13,7 +13,7 @@ use Rattle.fm_grammar.proofs.Runs.{all_append}
 use Rattle.fm_bucket.specs.declared.bound.Bucket.{Bucket}
 use Rattle.fm_bucket.specs.declared.quantile.Quantile.{Quantile}
 use Rattle.fm_encoder.specs.Labels.{HandedLabel, IsReserved, AreFree, LabelsClean, label_names, all_written}
-use Rattle.fm_encoder.specs.Points.{HandedExemplar, Point, UnknownPoint, GaugePoint, CounterPoint, StateSetPoint, InfoPoint, HistogramPoint, GaugeHistogramPoint, SummaryPoint, Member, Setting, Context, ExemplarClean, BucketsClean, PartsClean, type_of, common_handed, common_written, values_in, plain_sample, written_exemplar, created_samples, total_sample, state_value, state_sample, bound_label, bucket_samples, total_samples, quantile_label, quantile_sample, point_samples}
+use Rattle.fm_encoder.specs.Points.{HandedExemplar, Point, UnknownPoint, GaugePoint, CounterPoint, StateSetPoint, InfoPoint, HistogramPoint, GaugeHistogramPoint, SummaryPoint, Member, Setting, Context, ExemplarClean, BucketsClean, PartsClean, type_of, common_handed, common_written, values_in, plain_sample, written_exemplar, created_samples, total_sample, state_sample, bound_label, bucket_samples, total_samples, quantile_sample, point_samples}
 use Rattle.fm_encoder.specs.inside.Steps.{IsNumber}
 use Rattle.fm_encoder.proofs.NameLemmas.{AreLabels-written, AreLabels-behind, AreLabels-named, AreLabels-own, AreFree-written}
 use Rattle.fm_encoder.proofs.BucketLemmas.{le_is_label_name, quantile_is_label_name}
@@ -35,7 +35,7 @@ number_suits_total (Whole z) fits = tt
 number_suits_total (Fixed z) fits = tt
 number_suits_total (Millis t) fits = absurd fits
 
-state_fits : (is_on : Bool) → ValueFits (state_value is_on)
+state_fits : (is_on : Bool) → ValueFits (Whole (pos (if is_on then 1 else 0)))
 state_fits true = omega arith
 state_fits false = omega arith
 
@@ -110,7 +110,7 @@ module _ (setting : Setting) (common : List Label) (labels : AreLabels common) (
         )
 
   sums_formed : (type : MetricType) → Contains (kinds_of type) Count → Contains (kinds_of type) Sum → Contains (kinds_of type) Created → (count : ℕ) (sum : ℤ) (created : Option ℕ)
-      → count < 2 ^ 64 → ValueFits (Fixed sum) → IfSome created AreMillis → AllByRecursion (IsSample type) (total_samples setting common count sum created)
+      → count < 2 ^ 64 → ValueFits (Fixed sum) → IfSome created AreMillis → AllByRecursion (IsSample type) (total_samples setting common Count Sum count sum ++ created_samples setting common created)
   sums_formed type counts sums times count sum created count_fits sum_fits created_fits = (
     record { kind = counts; labels = alone; suits = tt; value = count_fits; time = time; allowed = refl; exemplar = tt },
     (

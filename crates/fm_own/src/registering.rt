@@ -5,6 +5,7 @@ ghost use Rattle.fm_registry.specs.HasBook.{HasBook, Grows};
 ghost use Rattle.fm_own.specs.Named.{named_metric, Adds};
 
 use fm_encoder::EncodeMetric;
+use fm_encoder::metric_type::type_of;
 use fm_raw::{MetricType, Unit};
 use fm_registry::{Registry, RegistryError};
 use std::alloc::Global;
@@ -36,13 +37,6 @@ fn add_typed<M: Drop>(
 {
     let (name, help) = owned(alloc, name, help)?;
     registry.add_metric(alloc, name, help, metric_type, unit, metric)
-}
-
-// The type that a metric says it is of.
-fn type_of(metric: &Box<dyn EncodeMetric>) -> MetricType
-    ensures { types metric.now result }
-{
-    metric.metric_type()
 }
 
 // Registers a metric by its name and its help, with a unit or without.

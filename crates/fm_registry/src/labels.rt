@@ -15,8 +15,8 @@ use fm_raw::is_label_name;
 use fm_registry_calls::RegistryError;
 use std::alloc::{AllocError, Global};
 
-// The namespace and the name, joined by an underscore.
-pub(crate) fn joined_name(
+// The namespace of a subsystem with this name: the namespace above it and the name, joined by an underscore.
+pub(crate) fn subsystem_namespace(
     alloc: Global,
     namespace: &Option<String>,
     name: &str,
@@ -31,6 +31,16 @@ pub(crate) fn joined_name(
             text.push_str(name)?;
             Ok(text)
         }
+    }
+}
+
+// The labels that a registry keeps; a registry without a list has none.
+pub(crate) fn kept_labels<'a>(labels: &'a Option<Vec<(String, String)>>) -> &'a [(String, String)]
+    ensures { labels_of result.now ≡ seen_labels labels.now }
+{
+    match labels {
+        Some(labels) => labels.as_slice(),
+        None => &[],
     }
 }
 

@@ -2,10 +2,12 @@
 ghost use Rattle.std.specs.Prelude.{◌≡◌, ◌++◌, OnOk};
 ghost use Rattle.std.specs.Option.{option_map};
 ghost use Rattle.std.specs.String.{string_bytes};
+ghost use Rattle.fm_exposition.specs.Samples.{labels_of};
 ghost use Rattle.fm_registry_calls.specs.Listing.{listed_with};
 ghost use Rattle.fm_registry.specs.View.{seen_metrics, seen_labels};
 ghost use Rattle.fm_registry.specs.Seen.{seen_list};
 
+use crate::labels::kept_labels;
 use crate::names::Tailed;
 use fm_encoder::EncodeMetric;
 use fm_raw::Metadata;
@@ -19,6 +21,15 @@ pub struct ListedMetric<'a, M = Box<dyn EncodeMetric>> {
     pub const_labels: &'a Option<Vec<(String, String)>>,
     pub metadata: &'a Metadata,
     pub metric: &'a M,
+}
+
+impl<'a, M> ListedMetric<'a, M> {
+    /// The constant labels of the metric's registry.
+    pub fn constant_labels(&self) -> &'a [(String, String)]
+        ensures { labels_of result.now ≡ seen_labels self.now.const_labels.now }
+    {
+        kept_labels(self.const_labels)
+    }
 }
 
 // Adds the metrics of one registry to the list.

@@ -6,6 +6,7 @@ mod run;
 mod subsystem_builder;
 mod subsystems;
 
+use crate::labels::kept_labels;
 use crate::listing::{ListedMetric, list_metrics};
 use crate::names::Tailed;
 pub use builder::RegistryBuilder;
@@ -113,10 +114,7 @@ impl<M> Registry<M> {
         ensures tree { labels_of result.now ≡ self.now.facts.labels }
         ensures book { (b : _) → Shows self.now b → labels_of result.now ≡ labels_at b [] }
     {
-        match &self.const_labels {
-            Some(labels) => labels.as_slice(),
-            None => &[],
-        }
+        kept_labels(&self.const_labels)
     }
 
     // Adds the metrics that are registered in this registry.

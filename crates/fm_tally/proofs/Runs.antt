@@ -8,7 +8,7 @@ use Rattle.fm_tally.specs.declared.book.Event.{Event}
 use Rattle.fm_tally.specs.declared.book.Event.TheVariants.{Add, Read}
 use Rattle.fm_tally.specs.declared.book.Reply.{Reply}
 use Rattle.fm_tally.specs.declared.book.Reply.TheVariants.{Added, Full, Sum}
-use Rattle.fm_tally.specs.Events.{Accepted, accepted, replies, sum_of, amount, fits, accept, reply, accepted_after, replies_after, value_of}
+use Rattle.fm_tally.specs.Events.{Accepted, accepted, replies, sum_of, amount, fits, accept, reply, accepted_after, replies_after, event_value}
 
 pub accepted_more : (start : ℕ) (before : List Accepted) (es : List Event) (e : Event) → accepted_after start before (es ++ e ∷ []) ≡ accept start (accepted_after start before es) e
 accepted_more start before [] e = refl
@@ -41,13 +41,13 @@ room : (start v rest : ℕ) (before : List Accepted) → start + sum_of before +
 room start v rest before h = grind (arith, nat_tests)
 
 -- where all values fit, all are accepted and none is refused
-pub all_accepted : (start : ℕ) (before : List Accepted) (es : List Event) → start + sum_of before + sum_by value_of es < 2 ^ 64
-    → (sum_of (accepted_after start before es) ≡ sum_of before + sum_by value_of es) × All (λ r. r ≢ Full) (replies_after start before es)
+pub all_accepted : (start : ℕ) (before : List Accepted) (es : List Event) → start + sum_of before + sum_by event_value es < 2 ^ 64
+    → (sum_of (accepted_after start before es) ≡ sum_of before + sum_by event_value es) × All (λ r. r ≢ Full) (replies_after start before es)
 all_accepted start before [] h = (omega arith, All-nil (λ r. r ≢ Full))
 all_accepted start before (Add who v ∷ es) h =
-    let cons = sum_by-cons value_of (Add who v) es in
+    let cons = sum_by-cons event_value (Add who v) es in
     let sum = sum_more before who v in
-    let fit : fits start before v ≡ true = room start v (sum_by value_of es) before (omega (arith, cons)) in
+    let fit : fits start before v ≡ true = room start v (sum_by event_value es) before (omega (arith, cons)) in
     let rest = all_accepted start (before ++ record { who = who; v = v } ∷ []) es (omega (arith, cons, sum)) in
     let here : accept start before (Add who v) ≡ before ++ record { who = who; v = v } ∷ [] = rw fit refl in
     let said : reply start before (Add who v) ≡ Added = rw fit refl in (
@@ -55,7 +55,7 @@ all_accepted start before (Add who v ∷ es) h =
       All-cons (λ r. r ≢ Full) (reply start before (Add who v)) _ (λ e. let f : Added ≡ Full = sym said ∙ e in cc) (subst (λ b. All (λ r. r ≢ Full) (replies_after start b es)) (sym here) rest.1),
     )
 all_accepted start before (Read who ∷ es) h =
-    let cons = sum_by-cons value_of (Read who) es in
+    let cons = sum_by-cons event_value (Read who) es in
     let rest = all_accepted start before es (omega (arith, cons)) in
     (omega (arith, cons, rest.0), All-cons (λ r. r ≢ Full) (Sum (start + sum_of before)) _ (λ e. cc) rest.1)
 

@@ -3,11 +3,11 @@ use Rattle.std.specs.Prelude.{ℕ}
 use Rattle.fm_tally.specs.declared.error.TallyError.{TallyError}
 use Rattle.fm_tally.specs.declared.error.TallyError.TheVariants.{Memory, Full, MissingShares, GateRefused, CountFull, SpawnFailed, Overrun}
 
-abbrev pub number_of : TallyError → ℕ
-number_of Memory = 1
-number_of Full = 2
-number_of MissingShares = 3
-number_of (GateRefused piece) = 4
-number_of CountFull = 5
-number_of SpawnFailed = 6
-number_of Overrun = 7
+abbrev pub error_number : TallyError → ℕ
+error_number Memory = 1
+error_number Full = 2
+error_number MissingShares = 3
+error_number (GateRefused piece) = 4
+error_number CountFull = 5
+error_number SpawnFailed = 6
+error_number Overrun = 7

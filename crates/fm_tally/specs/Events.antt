@@ -47,6 +47,6 @@ abbrev pub replies : ℕ → List Event → List Reply
 replies start events = replies_after start [] events
 
 -- the value of an Add
-abbrev pub value_of : Event → ℕ
-value_of (Add who v) = v
-value_of (Read who) = 0
+abbrev pub event_value : Event → ℕ
+event_value (Add who v) = v
+event_value (Read who) = 0

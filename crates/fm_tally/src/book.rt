@@ -1,6 +1,6 @@
 //! The sum of a tally, as plain data.
 ghost use Rattle.std.specs.Prelude.{◌≡◌, ◌≢◌, ℕ, ◌+◌, ◌^◌, ◌<◌, ◌≤◌, ◌↔◌, List, All, IfOk, OnOk, OnErr, IfErr, Err, length, take, sum_by, slice_index_or};
-ghost use Rattle.fm_tally.specs.Events.{Accepted, accept, accepted, reply, replies, sum_of, amount, value_of};
+ghost use Rattle.fm_tally.specs.Events.{Accepted, accept, accepted, reply, replies, sum_of, amount, event_value};
 ghost use Rattle.fm_tally.specs.declared.book.Event.{Event};
 ghost use Rattle.fm_tally.specs.declared.book.Reply.{Reply};
 
@@ -81,8 +81,8 @@ impl Book {
         ensures sum { OnOk result (self.new ≡ self.old + sum_of (accepted self.old events.now)) }
         ensures own { IfOk result (λ r. (k who : ℕ) (d : Reply) (e : Event) → k < length events.now → slice_index_or events.now k e ≡ Event.Read who
             → (s : ℕ) × (slice_index_or r.items k d ≡ Reply.Sum s) × (amount who (accepted self.old (take k events.now)) ≤ s)) }
-        ensures none_refused { IfOk result (λ r. self.old + sum_by value_of events.now < 2 ^ 64 → All (λ x. x ≢ Reply.Full) r.items) }
-        ensures whole_sum { OnOk result (self.old + sum_by value_of events.now < 2 ^ 64 → self.new ≡ self.old + sum_by value_of events.now) }
+        ensures none_refused { IfOk result (λ r. self.old + sum_by event_value events.now < 2 ^ 64 → All (λ x. x ≢ Reply.Full) r.items) }
+        ensures whole_sum { OnOk result (self.old + sum_by event_value events.now < 2 ^ 64 → self.new ≡ self.old + sum_by event_value events.now) }
         ensures only_memory { IfErr result (λ e. e ≡ TallyError.Memory) }
         ensures kept { OnErr result (self.new ≡ self.old) }
     {

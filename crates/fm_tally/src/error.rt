@@ -1,6 +1,6 @@
 //! Why a call on a tally fails.
 ghost use Rattle.std.specs.Prelude.{◌≡◌};
-ghost use Rattle.fm_tally.specs.Errors.{number_of};
+ghost use Rattle.fm_tally.specs.Errors.{error_number};
 ghost use Rattle.fm_tally.specs.declared.error.TallyError.TheVariants.{Memory};
 
 use std::alloc::{AllocError, AllocFailed};
@@ -35,7 +35,7 @@ pub enum TallyError {
 impl TallyError {
     /// The error's number, from 1 to 7.
     pub fn number(self) -> u8
-        ensures { result ≡ number_of self }
+        ensures { result ≡ error_number self }
     {
         match self {
             TallyError::Memory => 1,

@@ -4,16 +4,19 @@ use Rattle.fm_grammar.specs.Exposition.{Text, Family, Exposition}
 use Rattle.fm_grammar.specs.WellFormed.{IsFamily}
 use Rattle.fm_grammar.specs.Reading.{IsExposition}
 use Rattle.fm_exposition.specs.Rows.{head_rows, family_rows, families_rows}
-use Rattle.fm_registry_calls.specs.Listing.{Listed}
+use Rattle.fm_registry_calls.specs.Registration.{printed_unit}
+use Rattle.fm_registry_calls.specs.Listing.{Listed, listed_name}
 use Rattle.fm_writer.specs.Output.{Output, OutputSamples, OutputText}
 use Rattle.fm_encoder.specs.Points.{Member}
 use Rattle.fm_encoder.specs.Gathered.{GatheredMembers}
-use Rattle.fm_core.specs.Heading.{Heading, heading_of}
-use Rattle.fm_core.specs.Admits.{IsFamilyUnder, Admits}
+use Rattle.fm_core.specs.Families.{Heading}
+use Rattle.fm_core.specs.Admits.{IsFamilyOf, Admits}
 
 -- the lines under a heading that stand before its samples
 abbrev pub heading_rows : Heading → Text
-heading_rows heading = head_rows (record { name = heading.name; metric_type = heading.metric_type; help = heading.help; unit = heading.unit; samples = [] })
+heading_rows heading =
+    let registration = heading.registration in
+    head_rows (record { name = listed_name heading; metric_type = registration.metric_type; help = registration.help; unit = printed_unit registration.unit; samples = [] })
 
 -- the text of an output that has one
 abbrev pub text_in : Output → Text
@@ -25,17 +28,12 @@ pub record HasLines (encoder : GatheredMembers) : Type 0 where
   pub text : encoder.output ≡ OutputText (text_in encoder.output)
   pub accepting : encoder.refused ≡ None
 
--- one metric more: it may be empty and adds nothing, or adds the lines of its family, which is well formed
-abbrev pub AddsRows : (List Member → Type 0) → (Option ℕ → Type 0) → Type 0 → Heading → Text → Text → Type 0
-AddsRows Offers Stamps MayBeEmpty heading old new =
-    (MayBeEmpty × (new ≡ old))
-    ⊎ ((family : Family) × IsFamilyUnder Offers Stamps heading family × IsFamily family × (new ≡ old ++ family_rows family))
-
 module _ {M : Type 0} (Offers : M → List Member → Type 0) (Stamps : M → Option ℕ → Type 0) (Empty : M → Type 0) where
-  -- one listed metric more
+  -- one listed metric more: it may be empty and adds nothing, or adds the lines of its family, which is well formed
   abbrev pub AddsNextRows : Listed M → Text → Text → Type 0
   AddsNextRows listed old new =
-      AddsRows (Offers listed.registration.metric) (Stamps listed.registration.metric) (Empty listed.registration.metric) (heading_of listed) old new
+      (Empty listed.registration.metric × (new ≡ old))
+      ⊎ ((family : Family) × IsFamilyOf Offers Stamps listed family × IsFamily family × (new ≡ old ++ family_rows family))
 
   -- the text is that of an exposition that the listed metrics admit
   pub record IsTextOf (ls : List (Listed M)) (text : Text) : Type 0 where
@@ -43,3 +41,7 @@ module _ {M : Type 0} (Offers : M → List Member → Type 0) (Stamps : M → Op
     pub admitted : Admits Offers Stamps Empty ls exposition
     pub is_exposition : IsExposition exposition
     pub rows : text ≡ families_rows exposition
+
+-- what one metric adds under a heading
+abbrev pub AddsRows : (List Member → Type 0) → (Option ℕ → Type 0) → Type 0 → Heading → Text → Text → Type 0
+AddsRows Offers Stamps MayBeEmpty = AddsNextRows (λ _. Offers) (λ _. Stamps) (λ _. MayBeEmpty)

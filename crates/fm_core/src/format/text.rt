@@ -9,11 +9,9 @@ ghost use Rattle.fm_exposition.specs.Written.{IsWritersFault};
 ghost use Rattle.fm_registry_calls.specs.Listing.{listed_name, order, IsListable};
 ghost use Rattle.fm_registry_calls.specs.Tree.{Shows};
 ghost use Rattle.fm_registry.specs.Seen.{seen_listed};
-ghost use Rattle.fm_registry.specs.View.{seen_labels};
 ghost use Rattle.fm_registry.specs.HasBook.{HasBook};
-ghost use Rattle.fm_core.specs.Heading.{IsHeading};
-ghost use Rattle.fm_core.specs.Families.{heading_in};
-ghost use Rattle.fm_core.specs.Admits.{Admits, AddsFamily, AdmitsNext, FaultUnder, FaultOf, Fault};
+ghost use Rattle.fm_core.specs.Families.{heading_in, AddsFamily, FaultUnder};
+ghost use Rattle.fm_core.specs.Admits.{Admits, AdmitsNext, FaultOf, Fault};
 ghost use Rattle.fm_core.specs.Encoded.{WritesAdmitted, BeginsAdmitted};
 
 use crate::document::{document_lines, write_lines};
@@ -28,16 +26,6 @@ pub use fm_writer::encode_exposition;
 use std::alloc::Global;
 use std::io::Write;
 
-// The constant labels of a listed metric's registry.
-pub(crate) fn constants_of<'a>(labels: &'a Option<Vec<(String, String)>>) -> &'a [(String, String)]
-    ensures { labels_of result.now ≡ seen_labels labels.now }
-{
-    match labels {
-        Some(labels) => labels.as_slice(),
-        None => &[],
-    }
-}
-
 // Goes on to a registry, and takes a metric of it, whose name is new.
 fn encode_under<'a>(
     encoder: &mut MetricFamilyEncoder<'a>,
@@ -46,8 +34,8 @@ fn encode_under<'a>(
     metadata: &Metadata,
     metric: &dyn EncodeMetric,
 ) -> Result<(), EncodeError>
-    requires heading { IsHeading (heading_in (option_copied namespace) (labels_of constants.now) metadata.now) }
-    requires new_name { IsNewName (heading_in (option_copied namespace) (labels_of constants.now) metadata.now).name encoder.old.families }
+    requires heading { IsListable (heading_in (option_copied namespace) (labels_of constants.now) metadata.now) }
+    requires new_name { IsNewName (listed_name (heading_in (option_copied namespace) (labels_of constants.now) metadata.now)) encoder.old.families }
     requires accepting { encoder.old.refused ≡ None }
     ensures accepting { OnOk result (encoder.new.refused ≡ None) }
     ensures ok { OnOk result (AddsFamily (offers metric.now) (stamps metric.now) (may_be_empty metric.now) (heading_in (option_copied namespace.entry) (labels_of constants.now) metadata.now) encoder.old.families encoder.new.families) }
@@ -72,7 +60,7 @@ fn encode_listed<'a>(
     encode_under(
         encoder,
         listed.namespace.as_deref(),
-        constants_of(listed.const_labels),
+        listed.constant_labels(),
         listed.metadata,
         &**listed.metric,
     )

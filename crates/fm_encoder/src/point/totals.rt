@@ -1,11 +1,12 @@
 // How many values a point has, and their sum.
-ghost use Rattle.std.specs.Prelude.{◌≡◌, ◌⊎◌, pos, [], ◌∷◌, None};
+ghost use Rattle.std.specs.Prelude.{◌≡◌, ◌⊎◌, ◌++◌, pos, None};
 ghost use Rattle.std.specs.Option.{option_map};
 ghost use Rattle.fm_grammar.specs.declared.MetricType.{MetricType};
+ghost use Rattle.fm_grammar.specs.declared.SampleKind.{SampleKind};
 ghost use Rattle.fm_grammar.specs.WellFormed.{ValueFits};
 ghost use Rattle.fm_grammar.specs.Exposition.{Whole, Fixed as Millionths};
 ghost use Rattle.fm_exposition.specs.declared.exposition.Value.TheVariants.{Whole as WholeValue, Fixed as FixedValue};
-ghost use Rattle.fm_encoder.specs.Points.{millis, count_sample, sum_sample, total_samples};
+ghost use Rattle.fm_encoder.specs.Points.{millis, total_samples, created_samples};
 ghost use Rattle.fm_encoder.specs.Gathered.{answer};
 ghost use Rattle.fm_encoder.specs.inside.Steps.{PushesSamples};
 ghost use Rattle.fm_encoder.specs.Buckets.{HasTotals};
@@ -43,7 +44,9 @@ impl PointEncoder {
     ) -> Result<(), EncodeError>
         requires accepting { self.old.refused ≡ None }
         requires has_created { (self.old.setting.metric_type ≡ MetricType.Histogram) ⊎ (self.old.setting.metric_type ≡ MetricType.Summary) }
-        ensures pushed { PushesSamples (total_samples self.old.setting self.old.common count sum (option_map millis created)) self.old self.new }
+        ensures pushed { PushesSamples
+            (total_samples self.old.setting self.old.common SampleKind.Count SampleKind.Sum count sum ++ created_samples self.old.setting self.old.common (option_map millis created))
+            self.old self.new }
         ensures answered { result ≡ answer self.new.refused }
     {
         self.push_count_and_sum(SampleKind::Count, count, SampleKind::Sum, sum)?;
@@ -60,9 +63,7 @@ impl PointEncoder {
     ) -> Result<(), EncodeError>
         requires accepting { self.old.refused ≡ None }
         requires kinds { HasTotals self.old.setting.metric_type of_count of_sum }
-        ensures pushed { PushesSamples
-            (count_sample self.old.setting self.old.common of_count count ∷ sum_sample self.old.setting self.old.common of_sum sum ∷ [])
-            self.old self.new }
+        ensures pushed { PushesSamples (total_samples self.old.setting self.old.common of_count of_sum count sum) self.old self.new }
         ensures answered { result ≡ answer self.new.refused }
     {
         self.push_sample(of_count, count_value(count), None)?;

@@ -14,6 +14,7 @@ ghost use Rattle.fm_registry.specs.HasBook.{HasBook, Grows};
 
 use super::Registry;
 use fm_encoder::EncodeMetric;
+use fm_encoder::metric_type::type_of;
 use fm_raw::{MetricType, Unit};
 use fm_registry_calls::RegistryError;
 use std::alloc::Global;
@@ -123,13 +124,6 @@ impl<M: Drop> Registry<M> {
             },
         }
     }
-}
-
-// The type that a metric declares.
-fn type_of(metric: &Box<dyn EncodeMetric>) -> MetricType
-    ensures { types metric.now result }
-{
-    metric.metric_type()
 }
 
 impl Registry {

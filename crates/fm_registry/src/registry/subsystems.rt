@@ -18,7 +18,7 @@ ghost use Rattle.fm_registry.specs.Lends.{lends_subsystems, lends_nth, lends_reg
 ghost use Rattle.fm_registry.specs.HasBook.{HasBook};
 
 use super::{Registry, Subsystem};
-use crate::labels::{joined_name, merged_labels, tested_labels};
+use crate::labels::{merged_labels, subsystem_namespace, tested_labels};
 use crate::lists::{element_mut, push_to};
 use crate::names::{Tailed, is_below};
 use fm_raw::is_snake_case;
@@ -159,7 +159,7 @@ impl<M: Drop> Registry<M> {
         requires { self.now.facts.depth < 64 }
         ensures { IfOk result (λ t. t ≡ new_tree self.now.facts name.now (labels_of labels.items)) }
     {
-        let namespace = joined_name(alloc, &self.namespace, name)?;
+        let namespace = subsystem_namespace(alloc, &self.namespace, name)?;
         let const_labels = merged_labels(alloc, &self.const_labels, labels)?;
         Ok(Registry {
             namespace: Some(namespace),

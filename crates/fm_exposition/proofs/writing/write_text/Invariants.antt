@@ -1,5 +1,5 @@
 use Rattle.std.proofs.Common.{length}
-use Rattle.fm_exposition.specs.Written.{AppendsAllBut}
+use Rattle.fm_exposition.specs.inside.Writing.{AppendsAllBut}
 use Rattle.fm_exposition.proofs.writing.write_text.Given as goal
 
 -- all but the rest is written

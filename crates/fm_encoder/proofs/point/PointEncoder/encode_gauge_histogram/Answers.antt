@@ -1,5 +1,6 @@
 use Rattle.std.proofs.Common.{refl}
-use Rattle.fm_encoder.specs.Points.{GaugeHistogramPoint, gauge_total_samples}
+use Rattle.fm_grammar.specs.declared.SampleKind.TheVariants.{GCount, GSum}
+use Rattle.fm_encoder.specs.Points.{GaugeHistogramPoint, total_samples}
 use Rattle.fm_encoder.specs.Buckets.{slots_of}
 use Rattle.fm_encoder.proofs.Cases.{none_from_answer}
 use Rattle.fm_encoder.proofs.BucketLemmas.{length-slots_of, HandsPoints-buckets}
@@ -11,4 +12,4 @@ returns-clause-handed g c =
     let pushed = none_from_answer _ c.push_buckets.ensures.answered c.in_ok-push_buckets.was in
     let slots = slots_of g.E.EncodeExemplar.exemplars c.args.exemplars.now in
     let point = GaugeHistogramPoint c.args.buckets.now slots c.args.count c.args.sum in
-    rw (c.push_count_and_sum.ensures.answered) (HandsPoints-buckets point (λ s ls. gauge_total_samples s ls c.args.count c.args.sum) c.args.buckets.now slots _ _ _ _ _ _ (λ _ clean. clean) (λ _. refl) (length-slots_of g.E.EncodeExemplar.exemplars c.args.exemplars.now) c.begin_buckets.ensures.begun begun c.push_buckets.ensures.pushed pushed c.push_count_and_sum.ensures.pushed)
+    rw (c.push_count_and_sum.ensures.answered) (HandsPoints-buckets point (λ s ls. total_samples s ls GCount GSum c.args.count c.args.sum) c.args.buckets.now slots _ _ _ _ _ _ (λ _ clean. clean) (λ _. refl) (length-slots_of g.E.EncodeExemplar.exemplars c.args.exemplars.now) c.begin_buckets.ensures.begun begun c.push_buckets.ensures.pushed pushed c.push_count_and_sum.ensures.pushed)

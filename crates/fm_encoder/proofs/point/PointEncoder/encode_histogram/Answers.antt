@@ -1,6 +1,7 @@
-use Rattle.std.proofs.Common.{refl}
+use Rattle.std.proofs.Common.{◌++◌, refl}
 use Rattle.std.specs.Option.{option_map}
-use Rattle.fm_encoder.specs.Points.{HistogramPoint, millis, total_samples}
+use Rattle.fm_grammar.specs.declared.SampleKind.TheVariants.{Count, Sum}
+use Rattle.fm_encoder.specs.Points.{HistogramPoint, millis, created_samples, total_samples}
 use Rattle.fm_encoder.specs.Buckets.{slots_of}
 use Rattle.fm_encoder.proofs.Cases.{none_from_answer}
 use Rattle.fm_encoder.proofs.BucketLemmas.{length-slots_of, HandsPoints-buckets}
@@ -13,4 +14,4 @@ returns-clause-handed g c =
     let slots = slots_of g.E.EncodeExemplar.exemplars c.args.exemplars.now in
     let created = option_map millis c.args.created in
     let point = HistogramPoint c.args.buckets.now slots c.args.count c.args.sum created in
-    rw (c.push_totals.ensures.answered) (HandsPoints-buckets point (λ s ls. total_samples s ls c.args.count c.args.sum created) c.args.buckets.now slots _ _ _ _ _ _ (λ _ clean. clean) (λ _. refl) (length-slots_of g.E.EncodeExemplar.exemplars c.args.exemplars.now) c.begin_buckets.ensures.begun begun c.push_buckets.ensures.pushed pushed c.push_totals.ensures.pushed)
+    rw (c.push_totals.ensures.answered) (HandsPoints-buckets point (λ s ls. total_samples s ls Count Sum c.args.count c.args.sum ++ created_samples s ls created) c.args.buckets.now slots _ _ _ _ _ _ (λ _ clean. clean) (λ _. refl) (length-slots_of g.E.EncodeExemplar.exemplars c.args.exemplars.now) c.begin_buckets.ensures.begun begun c.push_buckets.ensures.pushed pushed c.push_totals.ensures.pushed)

@@ -1,7 +1,8 @@
 use Rattle.std.proofs.Common.{◌++◌, List, map, refl}
 use Rattle.std.specs.Option.{option_map}
 use Rattle.fm_grammar.specs.Exposition.{Label}
-use Rattle.fm_encoder.specs.Points.{Setting, SummaryPoint, millis, quantile_sample, total_samples}
+use Rattle.fm_grammar.specs.declared.SampleKind.TheVariants.{Count, Sum}
+use Rattle.fm_encoder.specs.Points.{Setting, SummaryPoint, millis, quantile_sample, created_samples, total_samples}
 use Rattle.fm_encoder.proofs.Cases.{none_from_answer}
 use Rattle.fm_encoder.proofs.BucketLemmas.{PushesSamples-then, HandsPoints-made}
 use Rattle.fm_encoder.proofs.point.PointEncoder.encode_summary.Goals as goal
@@ -13,7 +14,7 @@ returns-clause-handed c =
     let pushed = none_from_answer _ c.push_quantiles.ensures.answered c.in_ok-push_quantiles.was in
     let created = option_map millis c.args.created in
     let quantiles = c.args.quantiles.now in
-    let totals = λ (s : Setting) (ls : List Label). total_samples s ls c.args.count c.args.sum created in
+    let totals = λ (s : Setting) (ls : List Label). total_samples s ls Count Sum c.args.count c.args.sum ++ created_samples s ls created in
     let begun = c.begin_point.new.self in
     let all = PushesSamples-then (map (quantile_sample begun.setting begun.common) quantiles) totals begun _ _ c.push_quantiles.ensures.pushed pushed c.push_totals.ensures.pushed in
     rw (c.push_totals.ensures.answered) (HandsPoints-made (SummaryPoint quantiles c.args.sum c.args.count created) (λ s ls. map (quantile_sample s ls) quantiles ++ totals s ls) _ _ begun _ begins.place begins.output begins.kept begun_none (begins.same_type begun_none) (begins.no_deferred begun_none) tt refl all)

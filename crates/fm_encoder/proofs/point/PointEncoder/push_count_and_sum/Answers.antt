@@ -1,7 +1,8 @@
-use Rattle.std.proofs.Common.{◌∷◌, [], ap, subst, sym}
+use Rattle.std.proofs.Common.{◌∷◌, [], pos, ap, subst, sym}
 use Rattle.fm_grammar.specs.declared.MetricType.{MetricType}
+use Rattle.fm_grammar.specs.Exposition.{Whole, Fixed}
 use Rattle.fm_exposition.specs.Samples.{value_of}
-use Rattle.fm_encoder.specs.Points.{Setting, plain_sample, count_sample, sum_sample}
+use Rattle.fm_encoder.specs.Points.{Setting, plain_sample}
 use Rattle.fm_encoder.specs.Buckets.{HasTotals}
 use Rattle.fm_encoder.proofs.Cases.{none_from_answer}
 use Rattle.fm_encoder.proofs.BucketLemmas.{FitsType-count, FitsType-sum, PushesSamples-after, PushesSamples-one}
@@ -24,4 +25,4 @@ returns-clause-pushed c =
     let sum_is = ap (λ v. plain_sample after_count.setting after_count.common c.args.of_sum [] (value_of v)) c.sum_value.ensures.value in
     let summed = PushesSamples-one _ _ after_count _ c.push_sample-2.ensures.pushed sum_is in
     let count_is = ap (λ v. plain_sample c.args.self.now.setting c.args.self.now.common c.args.of_count [] (value_of v)) c.count_value.ensures.value in
-    PushesSamples-after (λ s ls. count_sample s ls c.args.of_count c.args.count) (λ s ls. sum_sample s ls c.args.of_sum c.args.sum ∷ []) _ c.args.self.now _ _ c.push_sample.ensures.pushed counted summed count_is
+    PushesSamples-after (λ s ls. plain_sample s ls c.args.of_count [] (Whole (pos c.args.count))) (λ s ls. plain_sample s ls c.args.of_sum [] (Fixed c.args.sum) ∷ []) _ c.args.self.now _ _ c.push_sample.ensures.pushed counted summed count_is

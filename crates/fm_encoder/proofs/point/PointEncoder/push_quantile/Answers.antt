@@ -3,7 +3,6 @@ use Rattle.fm_grammar.specs.Numbers.{fixed_text}
 use Rattle.fm_grammar.specs.Exposition.{Text}
 use Rattle.fm_grammar.specs.declared.MetricType.{MetricType}
 use Rattle.fm_encoder.specs.Labels.{IsReserved}
-use Rattle.fm_encoder.specs.Points.{quantile_label}
 use Rattle.fm_encoder.proofs.NameLemmas.{AreLabels-own}
 use Rattle.fm_encoder.proofs.BucketLemmas.{quantile_is_label_name}
 use Rattle.fm_encoder.proofs.point.PointEncoder.push_quantile.Goals as goal
@@ -13,4 +12,4 @@ push_labeled-requires-clause-labels c =
     let common = c.args.self.now.common in
     let is = ap (λ (t : Text). common ++ record { name = codes "quantile"; value = t } ∷ []) (c.format-text.ensures.text ∙ ap fixed_text (c.from.ensures ∙ c.quantile.ensures)) in
     let reserved = subst (λ (type : MetricType). IsReserved type (codes "quantile")) (sym c.requires.summary) refl in
-    λ h free. AreLabels-own _ common _ (quantile_label c.args.quantile.now) h free reserved quantile_is_label_name is
+    λ h free. AreLabels-own _ common _ (record { name = codes "quantile"; value = fixed_text c.args.quantile.now.quantile }) h free reserved quantile_is_label_name is

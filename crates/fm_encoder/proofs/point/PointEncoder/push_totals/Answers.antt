@@ -1,10 +1,10 @@
-use Rattle.std.proofs.Common.{◌≡◌, ◌⊎◌, ◌∷◌, [], inl, inr, refl, ap, subst, sym, arith, Contains}
+use Rattle.std.proofs.Common.{◌≡◌, ◌⊎◌, inl, inr, refl, ap, subst, sym, arith, Contains}
 use Rattle.std.specs.Option.{option_map}
 use Rattle.fm_grammar.specs.declared.MetricType.{MetricType}
 use Rattle.fm_grammar.specs.declared.MetricType.TheVariants.{Histogram, Summary}
 use Rattle.fm_grammar.specs.declared.SampleKind.TheVariants.{Count, Sum, Created}
 use Rattle.fm_grammar.specs.WellFormed.{kinds_of}
-use Rattle.fm_encoder.specs.Points.{Setting, millis, count_sample, sum_sample, created_samples}
+use Rattle.fm_encoder.specs.Points.{Setting, millis, total_samples, created_samples}
 use Rattle.fm_encoder.proofs.Cases.{none_from_answer}
 use Rattle.fm_encoder.proofs.BucketLemmas.{PushesSamples-then}
 use Rattle.fm_encoder.proofs.point.PointEncoder.push_totals.Goals as goal
@@ -26,4 +26,4 @@ returns-clause-pushed c =
     let old = c.args.self.now in
     let created = option_map millis c.args.created in
     let pushed = none_from_answer _ c.push_count_and_sum.ensures.answered c.in_ok-push_count_and_sum.was in
-    PushesSamples-then (count_sample old.setting old.common Count c.args.count ∷ sum_sample old.setting old.common Sum c.args.sum ∷ []) (λ s ls. created_samples s ls created) old _ _ c.push_count_and_sum.ensures.pushed pushed c.push_created.ensures.pushed
+    PushesSamples-then (total_samples old.setting old.common Count Sum c.args.count c.args.sum) (λ s ls. created_samples s ls created) old _ _ c.push_count_and_sum.ensures.pushed pushed c.push_created.ensures.pushed

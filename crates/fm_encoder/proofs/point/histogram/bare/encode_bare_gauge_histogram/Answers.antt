@@ -1,6 +1,7 @@
 use Rattle.std.proofs.Common.{[], map, refl}
 use Rattle.std.proofs.lemmas.List.{length-map}
-use Rattle.fm_encoder.specs.Points.{GaugeHistogramPoint, gauge_total_samples}
+use Rattle.fm_grammar.specs.declared.SampleKind.TheVariants.{GCount, GSum}
+use Rattle.fm_encoder.specs.Points.{GaugeHistogramPoint, total_samples}
 use Rattle.fm_encoder.proofs.Cases.{none_from_answer}
 use Rattle.fm_encoder.proofs.BucketLemmas.{HandsPoints-buckets}
 use Rattle.fm_encoder.proofs.point.histogram.bare.encode_bare_gauge_histogram.Goals as goal
@@ -11,4 +12,4 @@ returns-clause-handed c =
     let pushed = none_from_answer _ c.push_bare_buckets.ensures.answered c.in_ok-push_bare_buckets.was in
     let slots = map (λ _. []) c.args.buckets.now in
     let point = GaugeHistogramPoint c.args.buckets.now slots c.args.count c.args.sum in
-    rw (c.push_count_and_sum.ensures.answered) (HandsPoints-buckets point (λ s ls. gauge_total_samples s ls c.args.count c.args.sum) c.args.buckets.now slots _ _ _ _ _ _ (λ _ clean. clean) (λ _. refl) (length-map c.args.buckets.now _) c.begin_buckets.ensures.begun begun c.push_bare_buckets.ensures.pushed pushed c.push_count_and_sum.ensures.pushed)
+    rw (c.push_count_and_sum.ensures.answered) (HandsPoints-buckets point (λ s ls. total_samples s ls GCount GSum c.args.count c.args.sum) c.args.buckets.now slots _ _ _ _ _ _ (λ _ clean. clean) (λ _. refl) (length-map c.args.buckets.now _) c.begin_buckets.ensures.begun begun c.push_bare_buckets.ensures.pushed pushed c.push_count_and_sum.ensures.pushed)

@@ -1,7 +1,8 @@
-use Rattle.std.proofs.Common.{[], map, refl}
+use Rattle.std.proofs.Common.{[], ◌++◌, map, refl}
 use Rattle.std.specs.Option.{option_map}
+use Rattle.fm_grammar.specs.declared.SampleKind.TheVariants.{Count, Sum}
 use Rattle.std.proofs.lemmas.List.{length-map}
-use Rattle.fm_encoder.specs.Points.{HistogramPoint, millis, total_samples}
+use Rattle.fm_encoder.specs.Points.{HistogramPoint, millis, created_samples, total_samples}
 use Rattle.fm_encoder.proofs.Cases.{none_from_answer}
 use Rattle.fm_encoder.proofs.BucketLemmas.{HandsPoints-buckets}
 use Rattle.fm_encoder.proofs.point.histogram.bare.encode_bare_histogram.Goals as goal
@@ -13,4 +14,4 @@ returns-clause-handed c =
     let created = option_map millis c.args.created in
     let slots = map (λ _. []) c.args.buckets.now in
     let point = HistogramPoint c.args.buckets.now slots c.args.count c.args.sum created in
-    rw (c.push_totals.ensures.answered) (HandsPoints-buckets point (λ s ls. total_samples s ls c.args.count c.args.sum created) c.args.buckets.now slots _ _ _ _ _ _ (λ _ clean. clean) (λ _. refl) (length-map c.args.buckets.now _) c.begin_buckets.ensures.begun begun c.push_bare_buckets.ensures.pushed pushed c.push_totals.ensures.pushed)
+    rw (c.push_totals.ensures.answered) (HandsPoints-buckets point (λ s ls. total_samples s ls Count Sum c.args.count c.args.sum ++ created_samples s ls created) c.args.buckets.now slots _ _ _ _ _ _ (λ _ clean. clean) (λ _. refl) (length-map c.args.buckets.now _) c.begin_buckets.ensures.begun begun c.push_bare_buckets.ensures.pushed pushed c.push_totals.ensures.pushed)
