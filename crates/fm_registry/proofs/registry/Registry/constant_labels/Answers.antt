@@ -1,4 +1,4 @@
-use Rattle.std.proofs.Common.{ap, ◌∙◌}
+use Rattle.std.proofs.Common.{[], ap, ◌∙◌}
 use Rattle.fm_registry.proofs.registry.Registry.constant_labels.Goals as goal
 
 pub returns-clause-book : goal.returns-clause-book
