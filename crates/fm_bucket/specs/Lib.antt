@@ -1,5 +1,5 @@
 pub use Rattle.fm_grammar.specs.Numbers
 pub use Rattle.fm_raw.specs.Signed
-pub mod Errors
+pub mod BucketErrors
 pub mod BoundTests
 pub mod Bounds

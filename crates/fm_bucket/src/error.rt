@@ -1,6 +1,6 @@
 //! Why a call that makes bounds fails.
 ghost use Rattle.std.specs.Prelude.{◌≡◌};
-ghost use Rattle.fm_bucket.specs.Errors.{error_number};
+ghost use Rattle.fm_bucket.specs.BucketErrors.{error_number};
 
 use thiserror::Error;
 

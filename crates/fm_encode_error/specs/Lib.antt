@@ -1,1 +1,1 @@
-pub mod Errors
+pub mod EncodeErrors

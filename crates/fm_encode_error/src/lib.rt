@@ -2,7 +2,7 @@
 #![tactic(auto)]
 
 ghost use Rattle.std.specs.Prelude.{◌≡◌};
-ghost use Rattle.fm_encode_error.specs.Errors.{error_number};
+ghost use Rattle.fm_encode_error.specs.EncodeErrors.{error_number};
 ghost use Rattle.fm_encode_error.specs.declared.EncodeError.TheVariants.{Memory};
 
 use std::alloc::{AllocError, AllocFailed};

@@ -3,7 +3,7 @@ use Rattle.std.proofs.Common.{◌≡◌, ◌<◌, List, [], ◌∷◌, ◌++◌,
 use Rattle.std.proofs.lemmas.List.{append-nil, length-map}
 use Rattle.std.proofs.lemmas.Grind.{flat_map-append}
 use Rattle.fm_grammar.specs.Exposition.{Text, Label, Sample, Family, Exposition}
-use Rattle.fm_grammar.specs.Spelling.{label_text, label_list_text, sample_line, samples_text, unit_text, family_text, document_text}
+use Rattle.fm_grammar.specs.Spelling.{label_text, label_list_text, sample_line, samples_text, unit_part, family_text, document_text}
 use Rattle.fm_grammar.specs.WellFormed.{IsWellFormed}
 use Rattle.fm_grammar.specs.Law.{IsDocumentOf}
 use Rattle.fm_grammar.proofs.Law.{document_of}
@@ -36,7 +36,7 @@ samples_are name [] = refl
 samples_are name (sample ∷ samples) =
     append_assoc (sample_line name sample) (codes "\n") (sample_rows name samples) ∙ ap (λ t. sample_line name sample ++ (codes "\n" ++ t)) (samples_are name samples)
 
-unit_is : (name : Text) (unit : Option Text) → unit_row name unit ≡ unit_text name unit
+unit_is : (name : Text) (unit : Option Text) → unit_row name unit ≡ unit_part name unit
 unit_is name None = refl
 unit_is name (Some unit) = refl
 

@@ -40,13 +40,11 @@ name_clean DuplicateLabel type before name fits fault = fits.fresh fault
 name_clean _ type before name fits fault = fault
 
 nothing_clean : (k : EncodeError) (type : MetricType) (before : List Label) → ¬ (LabelFault k type before [])
-nothing_clean k type before (inl (is, inl cannot)) = cannot
-nothing_clean k type before (inl (is, inr (name, bad))) = cc bad
+nothing_clean k type before (inl (is, malformed)) = malformed
 nothing_clean k type before (inr (name, there, fault)) = contains_none _ there
 
 pair_clean : (k : EncodeError) (type : MetricType) (before : List Label) (name text : Text) → NameFits type before name → ¬ (LabelFault k type before (NamePiece name ∷ ValuePiece text ∷ []))
-pair_clean k type before name text fits (inl (is, inl cannot)) = cannot
-pair_clean k type before name text fits (inl (is, inr (other, bad))) = cc bad
+pair_clean k type before name text fits (inl (is, malformed)) = malformed
 pair_clean k type before name text fits (inr (other, there, fault)) = elim (contains_two (NamePiece name) (ValuePiece text) (NamePiece other) there) [
   | inl same ↦ (let e : other ≡ name = cc same in name_clean k type before name fits (subst (NameFault k type before) e fault))
   | inr bad ↦ cc bad

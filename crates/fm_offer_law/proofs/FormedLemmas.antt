@@ -8,6 +8,7 @@ use Rattle.fm_grammar.specs.declared.MetricType.TheVariants.{Unknown, Gauge, Cou
 use Rattle.fm_grammar.specs.declared.SampleKind.TheVariants.{Plain, Total, Created, Bucket as BucketKind, Count, Sum, Info}
 use Rattle.fm_grammar.specs.Exposition.{Text, Label, Value, Whole, Fixed, Millis}
 use Rattle.fm_grammar.specs.Names.{IsSnakeCase}
+use Rattle.fm_grammar.specs.Numbers.{fixed_text}
 use Rattle.fm_grammar.specs.WellFormed.{kinds_of, AreLabels, ValueSuits, ValueFits, AreMillis, IsExemplar, IsSample}
 use Rattle.fm_grammar.proofs.Runs.{all_append}
 use Rattle.fm_bucket.specs.declared.bound.Bucket.{Bucket}
@@ -139,7 +140,7 @@ module _ (setting : Setting) (common : List Label) (labels : AreLabels common) (
   quantiles_formed free (quantile ∷ quantiles) fit = (
     record {
       kind = (0, omega arith, refl);
-      labels = AreLabels-own Summary common _ (quantile_label quantile) labels free refl quantile_is_label_name refl;
+      labels = AreLabels-own Summary common _ (record { name = codes "quantile"; value = fixed_text quantile.quantile }) labels free refl quantile_is_label_name refl;
       suits = tt;
       value = fit.0;
       time = time;

@@ -1,3 +1,3 @@
-pub mod Errors
+pub mod ReadErrors
 pub mod Read
 pub mod inside

@@ -9,7 +9,7 @@ use Rattle.fm_grammar.specs.Names.{IsSnakeCase}
 use Rattle.fm_grammar.specs.NameTests.{is_label_name}
 use Rattle.fm_raw.proofs.NameLemmas.{snake_case_is}
 use Rattle.fm_exposition.specs.Samples.{label_of, labels_of}
-use Rattle.fm_registry_calls.specs.Texts.{Text, Label, Labels, has_name}
+use Rattle.fm_registry_calls.specs.Texts.{Text, Label, Labels, has_text}
 use Rattle.fm_registry_calls.specs.Answer.{Refusal, InvalidLabelName, DuplicateLabel, label_refusal_behind, labels_refusal_behind, root_labels_refusal, or_then}
 use Rattle.fm_registry_calls.proofs.RootLemmas.{labels_refusal_behind-++, root_labels_valid}
 use Rattle.fm_registry.specs.HasBook.{IsNewRoot, root_tree}
@@ -21,11 +21,11 @@ abbrev pub names_of : Labels → List Text
 names_of labels = map (λ l. l.name) labels
 
 -- a name is among the labels if it has an index there
-pub found-has_name : (ls : List (String Global × String Global)) (name : Text) (k : ℕ) → is_some (position_from (λ l. bytes_eq (label_of l).name name) k ls) ≡ has_name (names_of (labels_of ls)) name
-found-has_name [] name k = refl
-found-has_name (l ∷ ls) name k =
-    elim (bytes_eq (label_of l).name name) as (λ c. is_some (if c then Some k else position_from (λ x. bytes_eq (label_of x).name name) (k + 1) ls) ≡ (if c then true else has_name (names_of (labels_of ls)) name))
-    [ true ↦ refl | false ↦ found-has_name ls name (k + 1) ]
+pub found-has_text : (ls : List (String Global × String Global)) (name : Text) (k : ℕ) → is_some (position_from (λ l. bytes_eq (label_of l).name name) k ls) ≡ has_text (names_of (labels_of ls)) name
+found-has_text [] name k = refl
+found-has_text (l ∷ ls) name k =
+    elim (bytes_eq (label_of l).name name) as (λ c. is_some (if c then Some k else position_from (λ x. bytes_eq (label_of x).name name) (k + 1) ls) ≡ (if c then true else has_text (names_of (labels_of ls)) name))
+    [ true ↦ refl | false ↦ found-has_text ls name (k + 1) ]
 
 -- after labels that passed, a label decides
 decides : (done rest : Labels) (label : Label) → labels_refusal_behind [] done ≡ None
@@ -37,7 +37,7 @@ pub refused-invalid : (before : List Text) (name : Text) → is_label_name name 
 refused-invalid before name invalid = rw invalid refl
 
 -- a label that is refused if its name came before, and else passes
-pub refused-duplicate : (before : List Text) (name : Text) (r : Bool) → is_label_name name ≡ true → r ≡ has_name before name
+pub refused-duplicate : (before : List Text) (name : Text) (r : Bool) → is_label_name name ≡ true → r ≡ has_text before name
     → MatchBool r (label_refusal_behind before name ≡ Some (label_fault name)) (label_refusal_behind before name ≡ None)
 refused-duplicate before name true valid e = rw (valid, ← e) refl
 refused-duplicate before name false valid e = rw (valid, ← e) refl

@@ -12,7 +12,7 @@ use Rattle.std.proofs.lemmas.Option.{get_or_from_slice_get}
 use Rattle.std.proofs.lemmas.Slice.Eq.{bytes_eq-Decides}
 use Rattle.fm_grammar.specs.Names.{AllDifferent}
 use Rattle.fm_raw.specs.declared.metadata.Metadata.{Metadata}
-use Rattle.fm_registry_calls.specs.Texts.{Text, has_name}
+use Rattle.fm_registry_calls.specs.Texts.{Text, has_text}
 use Rattle.fm_registry_calls.specs.Registration.{Registration, is_same_metric}
 use Rattle.fm_registry_calls.specs.Taken.{tail_of, tails_of, is_below}
 use Rattle.fm_registry_calls.specs.Tree.{names_in}
@@ -36,15 +36,15 @@ module _ {M : Type 0} where
       (tails_decide k e)
 
   -- a tail is there where the map has its key
-  has_tail : (es : List (Tailed × M)) (k : Tailed) → has_name (tails_of (seen_metrics es)) (string_bytes k.tail) ≡ is_some (lookup (key.ghosts.eq k) es)
+  has_tail : (es : List (Tailed × M)) (k : Tailed) → has_text (tails_of (seen_metrics es)) (string_bytes k.tail) ≡ is_some (lookup (key.ghosts.eq k) es)
   has_tail [] k = refl
   has_tail (e ∷ es) k =
-      ap (λ c. if c then true else has_name (tails_of (seen_metrics es)) (string_bytes k.tail)) (tail_test k e.0 e.1)
-      ∙ elim (key.ghosts.eq k e.0) as (λ c. (if c then true else has_name (tails_of (seen_metrics es)) (string_bytes k.tail)) ≡ is_some (cond c (Some e.1) (lookup (key.ghosts.eq k) es)))
+      ap (λ c. if c then true else has_text (tails_of (seen_metrics es)) (string_bytes k.tail)) (tail_test k e.0 e.1)
+      ∙ elim (key.ghosts.eq k e.0) as (λ c. (if c then true else has_text (tails_of (seen_metrics es)) (string_bytes k.tail)) ≡ is_some (cond c (Some e.1) (lookup (key.ghosts.eq k) es)))
       [ true ↦ refl | false ↦ has_tail es k ]
 
-  has_own_tail : (es : List (Tailed × M)) (k : Tailed) (x : M) → has_name (tails_of (seen_metrics es)) (tail_of (seen_metric k.metadata x)) ≡ is_some (lookup (key.ghosts.eq k) es)
-  has_own_tail es k x = ap (λ t. has_name (tails_of (seen_metrics es)) t) (sym k.fits) ∙ has_tail es k
+  has_own_tail : (es : List (Tailed × M)) (k : Tailed) (x : M) → has_text (tails_of (seen_metrics es)) (tail_of (seen_metric k.metadata x)) ≡ is_some (lookup (key.ghosts.eq k) es)
+  has_own_tail es k x = ap (λ t. has_text (tails_of (seen_metrics es)) t) (sym k.fits) ∙ has_tail es k
 
   -- the keys of a map differ, so the tails do
   others_differ : (k : Tailed) (x : M) (es : List (Tailed × M)) → AllByRecursion (λ y. key.ghosts.eq k y ≡ false) (keys_of es) → AllByRecursion (λ other. other ≢ tail_of (seen_metric k.metadata x)) (tails_of (seen_metrics es))
@@ -84,7 +84,7 @@ module _ {M : Type 0} where
   pub beside_none : (es : List (Tailed × M)) (k : Tailed) (x : M) (below : Bool) → lookup (key.ghosts.eq k) es ≡ None
       → refusal_beside (seen_metrics es) below (seen_metric k.metadata x) ≡ first_of ((below, NameTaken (string_bytes k.metadata.name)) ∷ [])
   beside_none es k x below none =
-      let absent : has_name (tails_of (seen_metrics es)) (tail_of (seen_metric k.metadata x)) ≡ false = has_own_tail es k x ∙ ap is_some none in
+      let absent : has_text (tails_of (seen_metrics es)) (tail_of (seen_metric k.metadata x)) ≡ false = has_own_tail es k x ∙ ap is_some none in
       let missing : has_metric (seen_metrics es) (seen_metric k.metadata x) ≡ false = absent_under_tail (seen_metrics es) (seen_metric k.metadata x) absent in
       λ j. first_of ((missing j, AlreadyExists (string_bytes k.metadata.name)) ∷ (absent j || below, NameTaken (string_bytes k.metadata.name)) ∷ [])
 

@@ -6,7 +6,7 @@ ghost use Rattle.std.specs.Str.{bytes_eq};
 ghost use Rattle.std.specs.String.{string_bytes};
 ghost use Rattle.fm_grammar.specs.NameTests.{is_label_name as label_name_test};
 ghost use Rattle.fm_exposition.specs.Samples.{label_of, labels_of};
-ghost use Rattle.fm_registry_calls.specs.Texts.{has_name, join_name, merge_labels, set_label as label_set};
+ghost use Rattle.fm_registry_calls.specs.Texts.{has_text, join_name, merge_labels, set_label as label_set};
 ghost use Rattle.fm_registry_calls.specs.Answer.{refusal_of, first_bad_label, label_refusal_behind, root_labels_refusal};
 ghost use Rattle.fm_registry.specs.inside.RootLabels.{IsRefusedAt, label_fault};
 ghost use Rattle.fm_registry.specs.View.{seen_labels};
@@ -136,7 +136,7 @@ fn cloned_labels(
 
 // Whether one of the labels has this name.
 fn is_among(labels: &[(String, String)], name: &str) -> bool
-    ensures { result ≡ has_name (map (λ l. l.name) (labels_of labels.now)) name.now }
+    ensures { result ≡ has_text (map (λ l. l.name) (labels_of labels.now)) name.now }
 {
     place_of_label(labels, name).is_some()
 }

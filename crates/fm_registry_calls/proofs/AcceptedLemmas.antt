@@ -4,7 +4,7 @@ use Rattle.std.proofs.lemmas.Bool.Decides.{nat_tests}
 use Rattle.std.specs.Str.{bytes_eq}
 use Rattle.fm_grammar.specs.Names.{IsSnakeCase}
 use Rattle.fm_grammar.specs.WellFormed.{AreLabels}
-use Rattle.fm_registry_calls.specs.Texts.{Text, Path, Labels, path_eq, has_name, is_once, prefixed_name}
+use Rattle.fm_registry_calls.specs.Texts.{Text, Path, Labels, path_eq, has_text, is_once, prefixed_name}
 use Rattle.fm_registry_calls.specs.Book.{Call, Subsystem, Register, Book, root_book, metrics_at, children_at, labels_given, with_more, in_front, calls_below, book_below}
 use Rattle.fm_registry_calls.specs.Answer.{NoSuchSubsystem, first_bad_label, name_or_depth_refusal, answer, gained, after, after_if}
 use Rattle.fm_registry_calls.specs.Accepted.{IsAccepted, AreAccepted, IsBook}
@@ -64,13 +64,13 @@ module _ {M : Type 0} where
   }
 
   -- a call below a subsystem is accepted where the subsystem is there
-  there_from : (b : Book M) (n : Text) (call : Call M) → answer b (in_front n call) ≡ None → has_name (children_at b.calls []) n ≡ true
-  there_from b n call h = by (has_name (children_at b.calls []) n) refl
+  there_from : (b : Book M) (n : Text) (call : Call M) → answer b (in_front n call) ≡ None → has_text (children_at b.calls []) n ≡ true
+  there_from b n call h = by (has_text (children_at b.calls []) n) refl
     where
       some_not_none : Some (NoSuchSubsystem n) ≡ None → ⊥
       some_not_none e = cc
 
-      by : (c : Bool) → has_name (children_at b.calls []) n ≡ c → has_name (children_at b.calls []) n ≡ true
+      by : (c : Bool) → has_text (children_at b.calls []) n ≡ c → has_text (children_at b.calls []) n ≡ true
       by true e = e
       by false e = absurd (some_not_none (sym (missing-answer b n call e) ∙ h))
 
@@ -83,7 +83,7 @@ module _ {M : Type 0} where
     ];
   }
 
-  pub IsAccepted-above : (b : Book M) (n : Text) (call : Call M) → has_name (children_at b.calls []) n ≡ true → IsAccepted (book_below b n) call → IsAccepted b (in_front n call)
+  pub IsAccepted-above : (b : Book M) (n : Text) (call : Call M) → has_text (children_at b.calls []) n ≡ true → IsAccepted (book_below b n) call → IsAccepted b (in_front n call)
   IsAccepted-above b n call there h = record {
     answer = answer-in_front b n call there ∙ h.answer;
     new = gained-in_front b n call ∙ ap (map (in_front n)) h.new;
@@ -129,30 +129,30 @@ module _ {M : Type 0} where
       below_front k n (Register q r) calls b d depth same h.0 (λ e deeper below. AreAccepted-below calls (with_more b (Register (k ∷ q) r ∷ [])) e n deeper below h.1)
 
   -- and the other way
-  pub AreAccepted-above : (more : List (Call M)) (b d : Book M) (n : Text) → d.depth ≡ b.depth + 1 → d.calls ≡ calls_below b.calls n → has_name (children_at b.calls []) n ≡ true → AreAccepted d more → AreAccepted b (map (in_front n) more)
+  pub AreAccepted-above : (more : List (Call M)) (b d : Book M) (n : Text) → d.depth ≡ b.depth + 1 → d.calls ≡ calls_below b.calls n → has_text (children_at b.calls []) n ≡ true → AreAccepted d more → AreAccepted b (map (in_front n) more)
   AreAccepted-above [] b d n depth same there h = tt
   AreAccepted-above (call ∷ more) b d n depth same there h = (
     IsAccepted-above b n call there (IsAccepted-same d (book_below b n) call depth same h.0),
     AreAccepted-above more (with_more b (in_front n call ∷ [])) (with_more d (call ∷ [])) n depth
         (ap (λ cs. cs ++ call ∷ []) same ∙ sym (calls_below-++ b.calls (in_front n call ∷ []) n ∙ ap (λ cs. calls_below b.calls n ++ cs) (calls_below-front n n call (bytes_eq-refl n))))
-        (ap (λ ns. has_name ns n) (children_at-++ b.calls (in_front n call ∷ []) [] ∙ ap (λ ns. children_at b.calls [] ++ ns) (children_at-front n call) ∙ append-nil (children_at b.calls [])) ∙ there)
+        (ap (λ ns. has_text ns n) (children_at-++ b.calls (in_front n call ∷ []) [] ∙ ap (λ ns. children_at b.calls [] ++ ns) (children_at-front n call) ∙ append-nil (children_at b.calls [])) ∙ there)
         h.1,
   )
 
   -- what a subsystem's book gained, with the name in front, makes a longer book
-  pub IsBook-in_front : (b : Book M) (n : Text) (more : List (Call M)) → IsBook b → has_name (children_at b.calls []) n ≡ true → IsBook (with_more (book_below b n) more) → IsBook (with_more b (map (in_front n) more))
+  pub IsBook-in_front : (b : Book M) (n : Text) (more : List (Call M)) → IsBook b → has_text (children_at b.calls []) n ≡ true → IsBook (with_more (book_below b n) more) → IsBook (with_more b (map (in_front n) more))
   IsBook-in_front b n more h there k =
       IsBook-with_more b (map (in_front n) more) h
       (AreAccepted-above more b (book_below b n) n refl refl there (AreAccepted-later (record (book_below b n) { calls = [] }) (calls_below b.calls n) more k.accepted))
 
   -- a subsystem that was accepted has a valid name, and its registry is not too deep
-  pub name_accepted : (calls : List (Call M)) (b : Book M) (p : Path) (n : Text) → AreAccepted b calls → has_name (children_at calls p) n ≡ true → name_or_depth_refusal (b.depth + length p) n ≡ None
+  pub name_accepted : (calls : List (Call M)) (b : Book M) (p : Path) (n : Text) → AreAccepted b calls → has_text (children_at calls p) n ≡ true → name_or_depth_refusal (b.depth + length p) n ≡ None
   name_accepted [] b p n h there = absurd (true≢false (sym there))
   name_accepted (Register q r ∷ calls) b p n h there = name_accepted calls (with_more b (Register q r ∷ [])) p n h.1 there
   name_accepted (Subsystem q m labels ∷ calls) b p n h there =
-      elim (path_eq q p) as (λ c. path_eq q p ≡ c → has_name (if c then m ∷ children_at calls p else children_at calls p) n ≡ true → name_or_depth_refusal (b.depth + length p) n ≡ None) [
+      elim (path_eq q p) as (λ c. path_eq q p ≡ c → has_text (if c then m ∷ children_at calls p else children_at calls p) n ≡ true → name_or_depth_refusal (b.depth + length p) n ≡ None) [
         | true ↦ λ e g.
-            (elim (bytes_eq m n) as (λ c. bytes_eq m n ≡ c → (if c then true else has_name (children_at calls p) n) ≡ true → name_or_depth_refusal (b.depth + length p) n ≡ None) [
+            (elim (bytes_eq m n) as (λ c. bytes_eq m n ≡ c → (if c then true else has_text (children_at calls p) n) ≡ true → name_or_depth_refusal (b.depth + length p) n ≡ None) [
               | true ↦ λ f k. sym (λ i. name_or_depth_refusal (b.depth + length (same_path q p e i)) (same_text m n f i)) ∙ name_allowed (b.depth + length q) (metrics_at b.calls q) (children_at b.calls q) m labels (asked_passed b q m labels h.0.answer)
               | false ↦ λ f k. name_accepted calls (with_more b (Subsystem q m labels ∷ [])) p n h.1 k
             ]) refl g
@@ -169,7 +169,7 @@ module _ {M : Type 0} where
       [ true ↦ first_bad_label-++ labels (labels_given calls p n) (labels_allowed (b.depth + length q) (metrics_at b.calls q) (children_at b.calls q) m labels (asked_passed b q m labels h.0.answer)) rest | false ↦ rest ]
 
   -- a subsystem's book
-  pub IsBook-below : (b : Book M) (n : Text) → IsBook b → has_name (children_at b.calls []) n ≡ true → IsBook (book_below b n)
+  pub IsBook-below : (b : Book M) (n : Text) → IsBook b → has_text (children_at b.calls []) n ≡ true → IsBook (book_below b n)
   IsBook-below b n h there =
       let passed = subsystem_passed (b.depth + length {A = Text} []) n (name_accepted b.calls (record b { calls = [] }) [] n h.accepted there) in
       let shallow : nat_le 64 (b.depth + 0) ≡ false = passed.1 in
@@ -193,7 +193,7 @@ module _ {M : Type 0} where
   once_step b (Subsystem q m labels) p h once =
       ap is_once (children_at-++ b.calls (Subsystem q m labels ∷ []) p)
       ∙ elim (path_eq q p) as (λ c. path_eq q p ≡ c → is_once (children_at b.calls p ++ (if c then m ∷ [] else [])) ≡ true) [
-        | true ↦ λ e. is_once-push (children_at b.calls p) m once (ap (λ k. has_name (children_at b.calls k) m) (sym (same_path q p e)) ∙ absent (has_name (children_at b.calls q) m) h.new)
+        | true ↦ λ e. is_once-push (children_at b.calls p) m once (ap (λ k. has_text (children_at b.calls k) m) (sym (same_path q p e)) ∙ absent (has_text (children_at b.calls q) m) h.new)
         | false ↦ λ e. ap is_once (append-nil (children_at b.calls p)) ∙ once
       ] refl
     where

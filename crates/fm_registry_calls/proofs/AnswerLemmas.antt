@@ -2,7 +2,7 @@
 use Rattle.std.proofs.Common.{◌≡◌, ℕ, ◌+◌, nat_le, Bool, true, false, not, List, [], ◌∷◌, ◌++◌, map, length, Option, None, Some, is_some, ◌⊎◌, inl, inr, if◌then◌else◌, refl, sym, ap, ◌∙◌, true≢false, ◌&&◌, arith}
 use Rattle.fm_grammar.specs.NameTests.{is_snake_case, is_label_name}
 use Rattle.fm_grammar.specs.declared.MetricType.{MetricType}
-use Rattle.fm_registry_calls.specs.Texts.{Text, Path, Labels, has_name}
+use Rattle.fm_registry_calls.specs.Texts.{Text, Path, Labels, has_text}
 use Rattle.fm_registry_calls.specs.Taken.{tail_of, tails_of, is_tail_taken, is_child_taken}
 use Rattle.fm_registry_calls.specs.Registration.{Registration, SeenUnit, takes_no_unit, text_of_unit}
 use Rattle.fm_registry_calls.specs.Book.{Call, Subsystem, Register, Book, metrics_at, children_at, missing_along, in_front, book_below, calls_below}
@@ -67,9 +67,9 @@ name_passed n t u h =
     (not_false (is_snake_case n) passed.0, passed.1, passed.2)
 
 -- a label of a root that passes
-pub label_passed : (before : List Text) (n : Text) → label_refusal_behind before n ≡ None → (is_label_name n ≡ true) × (has_name before n ≡ false)
+pub label_passed : (before : List Text) (n : Text) → label_refusal_behind before n ≡ None → (is_label_name n ≡ true) × (has_text before n ≡ false)
 label_passed before n h =
-    let passed = two_pass (not (is_label_name n)) (has_name before n) (InvalidLabelName n) (DuplicateLabel n) h in
+    let passed = two_pass (not (is_label_name n)) (has_text before n) (InvalidLabelName n) (DuplicateLabel n) h in
     (not_false (is_label_name n) passed.0, passed.1)
 
 -- a namespace that passes
@@ -143,7 +143,7 @@ module _ {M : Type 0} (depth : ℕ) (there : List (Registration M)) (children : 
   pub labels_allowed : subsystem_refusal depth there children n labels ≡ None → first_bad_label labels ≡ None
   labels_allowed h = (or_then-none _ _ (or_then-none (asking_refusal depth n labels) (child_refusal there children n) h).0).1
 
-  pub child_free : subsystem_refusal depth there children n labels ≡ None → has_name children n ≡ false → is_child_taken (tails_of there) children n ≡ false
+  pub child_free : subsystem_refusal depth there children n labels ≡ None → has_text children n ≡ false → is_child_taken (tails_of there) children n ≡ false
   child_free h absent = by (is_child_taken (tails_of there) children n) (sym here ∙ (or_then-none (asking_refusal depth n labels) (child_refusal there children n) h).1)
     where
       here : child_refusal there children n ≡ first_of ((is_child_taken (tails_of there) children n, NameTaken n) ∷ [])
@@ -155,14 +155,14 @@ module _ {M : Type 0} (depth : ℕ) (there : List (Registration M)) (children : 
 
 module _ {M : Type 0} (there : List (Registration M)) (children : List Text) (n : Text) where
   -- a subsystem that is there is not refused for its name
-  pub child_refusal-there : has_name children n ≡ true → child_refusal there children n ≡ None
+  pub child_refusal-there : has_text children n ≡ true → child_refusal there children n ≡ None
   child_refusal-there h = rw h refl
 
-  pub child_refusal-new : has_name children n ≡ false → child_refusal there children n ≡ new_name_refusal there children n
+  pub child_refusal-new : has_text children n ≡ false → child_refusal there children n ≡ new_name_refusal there children n
   child_refusal-new h = rw h refl
 
 -- a subsystem that is there is refused for its depth and its labels alone
-pub subsystem_refusal-there : {M : Type 0} (depth : ℕ) (there : List (Registration M)) (children : List Text) (n : Text) (labels : Labels) → has_name children n ≡ true
+pub subsystem_refusal-there : {M : Type 0} (depth : ℕ) (there : List (Registration M)) (children : List Text) (n : Text) (labels : Labels) → has_text children n ≡ true
     → subsystem_refusal depth there children n labels ≡ asking_refusal depth n labels
 subsystem_refusal-there depth there children n labels h =
     ap (λ o. or_then (asking_refusal depth n labels) o) (child_refusal-there there children n h) ∙ or_then-first (asking_refusal depth n labels)
@@ -179,7 +179,7 @@ module _ {M : Type 0} where
       (or_then-none (missing_name (missing_along b.calls [] p)) (subsystem_refusal (b.depth + length p) (metrics_at b.calls p) (children_at b.calls p) n labels) h).1
 
   -- the reply of a book to a call below a subsystem is that of the subsystem's book
-  pub answer-in_front : (b : Book M) (n : Text) (call : Call M) → has_name (children_at b.calls []) n ≡ true → answer b (in_front n call) ≡ answer (book_below b n) call
+  pub answer-in_front : (b : Book M) (n : Text) (call : Call M) → has_text (children_at b.calls []) n ≡ true → answer b (in_front n call) ≡ answer (book_below b n) call
   answer-in_front b n (Register p r) there =
       rw there (λ i. or_then (missing_name (missing_along-calls_below b.calls n [] p i)) (metric_refusal (metrics_at-calls_below b.calls n p i) (children_at-calls_below b.calls n p i) r))
   answer-in_front b n (Subsystem p m labels) there =
@@ -189,8 +189,8 @@ module _ {M : Type 0} where
   pub gained-in_front : (b : Book M) (n : Text) (call : Call M) → gained b (in_front n call) ≡ map (in_front n) (gained (book_below b n) call)
   gained-in_front b n (Register p r) = refl
   gained-in_front b n (Subsystem p m labels) =
-      ap (λ ms. if◌then◌else◌ {A = List (Call M)} (has_name ms m) [] (Subsystem (n ∷ p) m labels ∷ [])) (children_at-calls_below b.calls n p)
-      ∙ elim (has_name (children_at (calls_below b.calls n) p) m) as (λ d. if◌then◌else◌ {A = List (Call M)} d [] (Subsystem (n ∷ p) m labels ∷ []) ≡ map (in_front n) (if◌then◌else◌ {A = List (Call M)} d [] (Subsystem p m labels ∷ [])))
+      ap (λ ms. if◌then◌else◌ {A = List (Call M)} (has_text ms m) [] (Subsystem (n ∷ p) m labels ∷ [])) (children_at-calls_below b.calls n p)
+      ∙ elim (has_text (children_at (calls_below b.calls n) p) m) as (λ d. if◌then◌else◌ {A = List (Call M)} d [] (Subsystem (n ∷ p) m labels ∷ []) ≡ map (in_front n) (if◌then◌else◌ {A = List (Call M)} d [] (Subsystem p m labels ∷ [])))
       [ true ↦ refl | false ↦ refl ]
 
   -- a call below a subsystem that adds nothing adds nothing there
@@ -202,13 +202,13 @@ module _ {M : Type 0} where
   registered-gained b p r e = cons_not_nil e
 
   -- a subsystem that adds nothing is there
-  pub there_where_empty : (b : Book M) (p : Path) (n : Text) (labels : Labels) → gained b (Subsystem p n labels) ≡ [] → has_name (children_at b.calls p) n ≡ true
+  pub there_where_empty : (b : Book M) (p : Path) (n : Text) (labels : Labels) → gained b (Subsystem p n labels) ≡ [] → has_text (children_at b.calls p) n ≡ true
   there_where_empty b p n labels none =
-      elim (has_name (children_at b.calls p) n) as (λ c. if◌then◌else◌ {A = List (Call M)} c [] (Subsystem p n labels ∷ []) ≡ [] → c ≡ true)
+      elim (has_text (children_at b.calls p) n) as (λ c. if◌then◌else◌ {A = List (Call M)} c [] (Subsystem p n labels ∷ []) ≡ [] → c ≡ true)
       [ true ↦ λ e. refl | false ↦ λ e. absurd (cons_not_nil e) ] none
 
   -- a call below a subsystem that is not there
-  pub missing-answer : (b : Book M) (n : Text) (call : Call M) → has_name (children_at b.calls []) n ≡ false → answer b (in_front n call) ≡ Some (NoSuchSubsystem n)
+  pub missing-answer : (b : Book M) (n : Text) (call : Call M) → has_text (children_at b.calls []) n ≡ false → answer b (in_front n call) ≡ Some (NoSuchSubsystem n)
   missing-answer b n (Register p r) absent = rw absent refl
   missing-answer b n (Subsystem p m labels) absent = rw absent refl
 
@@ -216,5 +216,5 @@ module _ {M : Type 0} where
   pub gained_cases : (b : Book M) (call : Call M) → (gained b call ≡ []) ⊎ (gained b call ≡ call ∷ [])
   gained_cases b (Register p r) = inr refl
   gained_cases b (Subsystem p n labels) =
-      elim (has_name (children_at b.calls p) n) as (λ c. (if◌then◌else◌ {A = List (Call M)} c [] (Subsystem p n labels ∷ []) ≡ []) ⊎ (if◌then◌else◌ {A = List (Call M)} c [] (Subsystem p n labels ∷ []) ≡ Subsystem p n labels ∷ []))
+      elim (has_text (children_at b.calls p) n) as (λ c. (if◌then◌else◌ {A = List (Call M)} c [] (Subsystem p n labels ∷ []) ≡ []) ⊎ (if◌then◌else◌ {A = List (Call M)} c [] (Subsystem p n labels ∷ []) ≡ Subsystem p n labels ∷ []))
       [ true ↦ inl refl | false ↦ inr refl ]

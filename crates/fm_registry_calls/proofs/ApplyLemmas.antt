@@ -1,7 +1,7 @@
 -- A call that goes down a path.
 use Rattle.std.proofs.Common.{◌≡◌, ℕ, ◌+◌, true, false, Option, None, Some, Result, Ok, Err, OnOk, OnErr, if◌then◌else◌, refl, sym, ap, subst, inr, ◌∙◌}
 use Rattle.std.specs.Str.{bytes_eq}
-use Rattle.fm_registry_calls.specs.Texts.{Text, has_name}
+use Rattle.fm_registry_calls.specs.Texts.{Text, has_text}
 use Rattle.fm_registry_calls.specs.Book.{Call, Book, in_front}
 use Rattle.fm_registry_calls.specs.Tree.{Forest, Leaf, Child, Tree, Reads, find_child, names_in}
 use Rattle.fm_registry_calls.specs.Steps.{nth_in, nth_name, with_nth, with_named, with_child, place_from, place_in}
@@ -14,28 +14,28 @@ use Rattle.fm_registry_calls.proofs.AnswerLemmas.{missing-answer}
 use Rattle.fm_registry_calls.proofs.CallLemmas.{down-reads, down-reply}
 
 module _ {M : Type 0} where
-  pub absent_from_place : (f : Forest M) (n : Text) (k : ℕ) → place_from k f n ≡ None → has_name (names_in f) n ≡ false
+  pub absent_from_place : (f : Forest M) (n : Text) (k : ℕ) → place_from k f n ≡ None → has_text (names_in f) n ≡ false
   absent_from_place Leaf n k e = refl
   absent_from_place (Child m facts below rest) n k e =
-      elim (bytes_eq m n) as (λ c. (if c then Some k else place_from (k + 1) rest n) ≡ None → (if c then true else has_name (names_in rest) n) ≡ false)
+      elim (bytes_eq m n) as (λ c. (if c then Some k else place_from (k + 1) rest n) ≡ None → (if c then true else has_text (names_in rest) n) ≡ false)
       [ true ↦ λ h. absurd (some_not_none h) | false ↦ λ h. absent_from_place rest n (k + 1) h ] e
     where
       some_not_none : Some k ≡ None → ⊥
       some_not_none h = cc
 
-  pub there_from_place : (f : Forest M) (n : Text) (k i : ℕ) → place_from k f n ≡ Some i → has_name (names_in f) n ≡ true
+  pub there_from_place : (f : Forest M) (n : Text) (k i : ℕ) → place_from k f n ≡ Some i → has_text (names_in f) n ≡ true
   there_from_place Leaf n k i e = absurd (none_not_some e)
     where
       none_not_some : None ≡ Some i → ⊥
       none_not_some h = cc
   there_from_place (Child m facts below rest) n k i e =
-      elim (bytes_eq m n) as (λ c. (if c then Some k else place_from (k + 1) rest n) ≡ Some i → (if c then true else has_name (names_in rest) n) ≡ true)
+      elim (bytes_eq m n) as (λ c. (if c then Some k else place_from (k + 1) rest n) ≡ Some i → (if c then true else has_text (names_in rest) n) ≡ true)
       [ true ↦ λ h. refl | false ↦ λ h. there_from_place rest n (k + 1) i h ] e
 
   -- a name that is not there
   pub apply-missing : (t : Tree M) (n : Text) (call : Call M) → place_in t.children n ≡ None → (b : Book M) → Reads t b → IsReply (Some (NoSuchSubsystem n)) b (in_front n call)
   apply-missing t n call none b reads =
-      let missing = missing-answer b n call (ap (λ ns. has_name ns n) (sym (reads_root t b reads).children) ∙ absent_from_place t.children n 0 none) in
+      let missing = missing-answer b n call (ap (λ ns. has_text ns n) (sym (reads_root t b reads).children) ∙ absent_from_place t.children n 0 none) in
       record { answered = inr (sym missing); there = λ nothing. sym missing }
 
   module _ (t : Tree M) (n : Text) (i : ℕ) (place : place_in t.children n ≡ Some i) (child now : Tree M) (value : nth_in t.children i ≡ Some child) (shows : now ≡ child) (whole call : Call M) (front : whole ≡ in_front n call) where

@@ -1,6 +1,6 @@
 -- The reply to a call, and the book that the tree reads afterwards.
 use Rattle.std.proofs.Common.{◌≡◌, ◌+◌, true, false, List, [], ◌∷◌, map, append-nil, Option, None, Some, Result, Ok, Err, OnOk, if◌then◌else◌, refl, sym, ap, subst, ◌∙◌, arith}
-use Rattle.fm_registry_calls.specs.Texts.{Text, Path, Labels, has_name}
+use Rattle.fm_registry_calls.specs.Texts.{Text, Path, Labels, has_text}
 use Rattle.fm_registry_calls.specs.Registration.{Registration}
 use Rattle.fm_registry_calls.specs.Book.{Call, Subsystem, Register, Book, children_at, with_more, in_front, book_below}
 use Rattle.fm_registry_calls.specs.Tree.{Tree, Reads, ReadsFrom, find_child, names_in}
@@ -34,15 +34,15 @@ module _ {M : Type 0} where
     where
       by : (o : Option (Tree M)) → find_child t.children n ≡ o → answer b (Subsystem [] n labels) ≡ None → ReadsRoot t b → Reads (added_unless o t n labels) (with_more b (gained b (Subsystem [] n labels)))
       by None e same root =
-          let absent : has_name (children_at b.calls []) n ≡ false = ap (λ ns. has_name ns n) (sym root.children) ∙ absent_from_find t.children n e in
+          let absent : has_text (children_at b.calls []) n ≡ false = ap (λ ns. has_text ns n) (sym root.children) ∙ absent_from_find t.children n e in
           subst (λ d. Reads (added_unless None t n labels) (with_more b (if◌then◌else◌ {A = List (Call M)} d [] (Subsystem [] n labels ∷ [])))) (sym absent) (reads-add_child t b n labels same r e)
       by (Some c) e same root =
-          let there : has_name (children_at b.calls []) n ≡ true = ap (λ ns. has_name ns n) (sym root.children) ∙ has_found t.children n c e in
+          let there : has_text (children_at b.calls []) n ≡ true = ap (λ ns. has_text ns n) (sym root.children) ∙ has_found t.children n c e in
           subst (λ d. Reads (added_unless (Some c) t n labels) (with_more b (if◌then◌else◌ {A = List (Call M)} d [] (Subsystem [] n labels ∷ [])))) (sym there)
           (subst (λ cs. Reads t (record b { calls = cs })) (sym (append-nil b.calls)) r)
 
   pub subsystem-reply : (t : Tree M) (n : Text) (labels : Labels) (got : Option Refusal) → IsAnswered got (subsystem_refusal t.facts.depth t.facts.metrics (names_in t.children) n labels)
-      → (has_name (names_in t.children) n ≡ true → got ≡ asking_refusal t.facts.depth n labels) → (b : Book M) → Reads t b → IsReply got b (Subsystem [] n labels)
+      → (has_text (names_in t.children) n ≡ true → got ≡ asking_refusal t.facts.depth n labels) → (b : Book M) → Reads t b → IsReply got b (Subsystem [] n labels)
   subsystem-reply t n labels got said exact b r =
       let root = reads_root t b r in
       let depths : t.facts.depth ≡ b.depth + 0 = omega (arith, root.depth) in
@@ -50,7 +50,7 @@ module _ {M : Type 0} where
       record {
         answered = subst (λ o. IsAnswered got o) same said;
         there = λ none.
-            let there : has_name (names_in t.children) n ≡ true = ap (λ ns. has_name ns n) root.children ∙ there_where_empty b [] n labels none in
+            let there : has_text (names_in t.children) n ≡ true = ap (λ ns. has_text ns n) root.children ∙ there_where_empty b [] n labels none in
             exact there ∙ sym (subsystem_refusal-there t.facts.depth t.facts.metrics (names_in t.children) n labels there) ∙ same;
       }
 
@@ -71,7 +71,7 @@ module _ {M : Type 0} where
   down-reads t u c w n call (Ok x) there new said reads = λ b reads_t.
       let child : Reads c (book_below b n) = subst (λ o. ReadsFrom o (book_below b n)) there (reads_below t b reads_t n) in
       let none : answer (book_below b n) call ≡ None = accepted _ (said (book_below b n) child) in
-      let named : has_name (children_at b.calls []) n ≡ true = ap (λ ns. has_name ns n) (sym (reads_root t b reads_t).children) ∙ has_found t.children n c there in
+      let named : has_text (children_at b.calls []) n ≡ true = ap (λ ns. has_text ns n) (sym (reads_root t b reads_t).children) ∙ has_found t.children n c there in
       let below : Reads w (with_more (book_below b n) (gained (book_below b n) call)) = subst (λ o. Reads w (after_if o (book_below b n) call)) none (reads (book_below b n) child) in
       let above : Reads (with_child t n w) (with_more b (map (in_front n) (gained (book_below b n) call))) = reads-with_child t b n c w (gained (book_below b n) call) reads_t there below in
       subst (λ o. Reads u (after_if o b (in_front n call))) (sym (answer-in_front b n call named ∙ none))
@@ -82,7 +82,7 @@ module _ {M : Type 0} where
       → ((b : Book M) → Reads c b → IsReply got b call) → (b : Book M) → Reads t b → IsReply got b (in_front n call)
   down-reply t c n call got there said b reads_t =
       let child : Reads c (book_below b n) = subst (λ o. ReadsFrom o (book_below b n)) there (reads_below t b reads_t n) in
-      let named : has_name (children_at b.calls []) n ≡ true = ap (λ ns. has_name ns n) (sym (reads_root t b reads_t).children) ∙ has_found t.children n c there in
+      let named : has_text (children_at b.calls []) n ≡ true = ap (λ ns. has_text ns n) (sym (reads_root t b reads_t).children) ∙ has_found t.children n c there in
       let reply = said (book_below b n) child in
       record {
         answered = subst (λ o. IsAnswered got o) (sym (answer-in_front b n call named)) reply.answered;

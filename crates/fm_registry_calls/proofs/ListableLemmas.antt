@@ -9,7 +9,7 @@ use Rattle.fm_grammar.specs.WellFormed.{UnitFits, UnitAllowed, AreLabels}
 use Rattle.fm_grammar.specs.declared.MetricType.{MetricType}
 use Rattle.fm_grammar.specs.declared.MetricType.TheVariants.{Unknown, Gauge, Counter, StateSet, Info, Histogram, GaugeHistogram, Summary}
 use Rattle.fm_grammar.proofs.Runs.{all_append}
-use Rattle.fm_registry_calls.specs.Texts.{Text, Path, Labels, path_eq, has_name, prefixed_name, printed_name}
+use Rattle.fm_registry_calls.specs.Texts.{Text, Path, Labels, path_eq, has_text, prefixed_name, printed_name}
 use Rattle.fm_registry_calls.specs.Registration.{Registration, SeenUnit, takes_no_unit, printed_unit}
 use Rattle.fm_registry_calls.specs.Book.{Call, Subsystem, Register, Book, metrics_at, children_at, with_more, book_below}
 use Rattle.fm_registry_calls.specs.Answer.{is_bad_unit, name_refusal}
@@ -84,12 +84,12 @@ module _ {M : Type 0} where
   own_listable b h = all_listable b.namespace b.labels (metrics_at b.calls []) h.root.namespace h.root.labels (metrics_passed b.calls (record b { calls = [] }) [] h.accepted)
 
   -- what holds of the metrics of each name
-  all_below : (list : Text → List (Listed M)) (ns : List Text) → ((n : Text) → has_name ns n ≡ true → AllByRecursion IsListable (list n)) → AllByRecursion IsListable (flat_map list ns)
+  all_below : (list : Text → List (Listed M)) (ns : List Text) → ((n : Text) → has_text ns n ≡ true → AllByRecursion IsListable (list n)) → AllByRecursion IsListable (flat_map list ns)
   all_below list [] each = tt
   all_below list (n ∷ ns) each =
       all_append IsListable (list n) (flat_map list ns) (each n (rw (bytes_eq-refl n) refl)) (all_below list ns (λ m there. each m (later m (bytes_eq n m) there)))
     where
-      later : (m : Text) (c : Bool) → has_name ns m ≡ true → (if c then true else has_name ns m) ≡ true
+      later : (m : Text) (c : Bool) → has_text ns m ≡ true → (if c then true else has_text ns m) ≡ true
       later m true e = refl
       later m false e = e
 

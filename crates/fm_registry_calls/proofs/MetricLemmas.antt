@@ -11,7 +11,7 @@ use Rattle.fm_grammar.proofs.Words.{one_type_word}
 use denote.Enum.Bare.{same_true, true_same}
 use Rattle.std.proofs.lemmas.Bool.Decides.{same_from_decides}
 use Rattle.std.specs.Cmp.Lexicographic.{bytes_decides}
-use Rattle.fm_registry_calls.specs.Texts.{Text, has_name, suffixed_name}
+use Rattle.fm_registry_calls.specs.Texts.{Text, has_text, suffixed_name}
 use Rattle.fm_registry_calls.specs.Registration.{Registration, SeenUnit, printed_unit, is_same_metric, same_type, same_bool, same_unit}
 use Rattle.fm_registry_calls.specs.Taken.{tail_of, tails_of}
 use Rattle.fm_registry_calls.specs.Answer.{has_metric}
@@ -50,10 +50,10 @@ module _ {M : Type 0} where
       [ true ↦ λ e. absurd (h.0 (sym (same_tail r s e))) | false ↦ λ e. none_same rs r h.1 ] refl
 
   -- where none has its tail
-  pub absent_under_tail : (rs : List (Registration M)) (r : Registration M) → has_name (tails_of rs) (tail_of r) ≡ false → has_metric rs r ≡ false
+  pub absent_under_tail : (rs : List (Registration M)) (r : Registration M) → has_text (tails_of rs) (tail_of r) ≡ false → has_metric rs r ≡ false
   absent_under_tail [] r h = refl
   absent_under_tail (s ∷ rs) r h =
-      elim (bytes_eq (tail_of s) (tail_of r)) as (λ c. bytes_eq (tail_of s) (tail_of r) ≡ c → (if c then true else has_name (tails_of rs) (tail_of r)) ≡ false → (if is_same_metric r s then true else has_metric rs r) ≡ false) [
+      elim (bytes_eq (tail_of s) (tail_of r)) as (λ c. bytes_eq (tail_of s) (tail_of r) ≡ c → (if c then true else has_text (tails_of rs) (tail_of r)) ≡ false → (if is_same_metric r s then true else has_metric rs r) ≡ false) [
         | true ↦ λ e k. absurd (true≢false k)
         | false ↦ λ e k.
             elim (is_same_metric r s) as (λ d. is_same_metric r s ≡ d → (if d then true else has_metric rs r) ≡ false)

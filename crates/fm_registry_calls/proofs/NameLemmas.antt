@@ -7,7 +7,7 @@ use Rattle.std.proofs.lemmas.List.{append_cancel_left, map-append}
 use Rattle.std.proofs.lemmas.Slice.Eq.{starts_is}
 use Rattle.fm_grammar.specs.Names.{AllDifferent}
 use Rattle.fm_grammar.proofs.Runs.{all_append, all_weaker}
-use Rattle.fm_registry_calls.specs.Texts.{Text, Path, Labels, path_eq, has_name, is_once, prefixed_name, suffixed_name, printed_name}
+use Rattle.fm_registry_calls.specs.Texts.{Text, Path, Labels, path_eq, has_text, is_once, prefixed_name, suffixed_name, printed_name}
 use Rattle.fm_registry_calls.specs.Registration.{Registration, printed_unit}
 use Rattle.fm_registry_calls.specs.Book.{Call, Subsystem, Register, Book, metrics_at, children_at, with_more, book_below}
 use Rattle.fm_registry_calls.specs.Taken.{IsBelow, AreApart, AllApart, AreSeparate, tail_of, tails_of, is_below, is_tail_taken, is_child_taken}
@@ -45,13 +45,13 @@ pub is_below-is : (name text : Text) → IsBelow name text → is_below name tex
 is_below-is name text below = (starts_is Decides-eqb text (name ++ codes "_") (is_below name text) refl).1 below.rest (below.is ∙ sym (append_assoc name (codes "_") below.rest))
 
 -- a name that is not among others differs from each
-others_differ : (names : List Text) (n : Text) → has_name names n ≡ false → AllByRecursion (λ m. m ≢ n) names
+others_differ : (names : List Text) (n : Text) → has_text names n ≡ false → AllByRecursion (λ m. m ≢ n) names
 others_differ [] n h = tt
 others_differ (m ∷ names) n h =
     let both = by (bytes_eq m n) h in
     ((λ same. true≢false (sym (bytes_eq-refl n) ∙ ap (λ k. bytes_eq k n) (sym same) ∙ both.0)), others_differ names n both.1)
   where
-    by : (c : Bool) → (if c then true else has_name names n) ≡ false → (c ≡ false) × (has_name names n ≡ false)
+    by : (c : Bool) → (if c then true else has_text names n) ≡ false → (c ≡ false) × (has_text names n ≡ false)
     by true e = absurd (true≢false e)
     by false e = (refl, e)
 
@@ -77,7 +77,7 @@ free-push tails (child ∷ children) t h new = (all_append (λ tail. ¬ (IsBelow
 -- a tail that is free keeps the rules
 separate-tail : (tails children : List Text) (t : Text) → AreSeparate tails children → is_tail_taken tails children t ≡ false → AreSeparate (tails ++ t ∷ []) children
 separate-tail tails children t h free =
-    let both = neither (has_name tails t) (list_any (λ child. is_below child t) children) free in
+    let both = neither (has_text tails t) (list_any (λ child. is_below child t) children) free in
     let new = none_passes (λ child. is_below child t) children both.1 in
     record {
       different = different-push tails t h.different (others_differ tails t both.0);
@@ -133,7 +133,7 @@ module _ {M : Type 0} where
       (subst (λ ns. AreSeparate (tails_of (metrics_at b.calls p)) ns) (sym (children_at-++ b.calls (Subsystem q n labels ∷ []) p))
       (elim (path_eq q p) as (λ c. path_eq q p ≡ c → AreSeparate (tails_of (metrics_at b.calls p)) (children_at b.calls p ++ (if c then n ∷ [] else []))) [
         | true ↦ λ e.
-            let new = absent b.calls q n labels (has_name (children_at b.calls q) n) h.new in
+            let new = absent b.calls q n labels (has_text (children_at b.calls q) n) h.new in
             let free = child_free (b.depth + length q) (metrics_at b.calls q) (children_at b.calls q) n labels (asked_passed b q n labels h.answer) new in
             separate-child (tails_of (metrics_at b.calls p)) (children_at b.calls p) n rules
             (subst (λ k. is_child_taken (tails_of (metrics_at b.calls k)) (children_at b.calls k) n ≡ false) (same_path q p e) free)
@@ -204,14 +204,14 @@ module _ (namespace : Option Text) (f : Text → List Text) (below : (n : Text) 
       (all_weaker (λ y. IsPrintedBelow namespace m y) (λ y. y ≢ x) (λ y k. apart_differ namespace n m x y apart.0 others.0 h k) (f m) (below m))
       (differs_from_others n x ms h others.1 apart.1)
 
-  different-flat : (ns : List Text) → ((n : Text) → has_name ns n ≡ true → AllDifferent (f n)) → is_once ns ≡ true → AllApart ns → AllDifferent (flat_map f ns)
+  different-flat : (ns : List Text) → ((n : Text) → has_text ns n ≡ true → AllDifferent (f n)) → is_once ns ≡ true → AllApart ns → AllDifferent (flat_map f ns)
   different-flat [] each once apart = tt
   different-flat (n ∷ ns) each once apart =
-      let both = both_once (has_name ns n) (is_once ns) once in
+      let both = both_once (has_text ns n) (is_once ns) once in
       different-++ (f n) (flat_map f ns) (each n (rw (bytes_eq-refl n) refl)) (different-flat ns (λ m there. each m (later m (bytes_eq n m) there)) both.1 apart.1)
       (all_weaker (λ x. IsPrintedBelow namespace n x) (λ x. AllByRecursion (λ y. y ≢ x) (flat_map f ns)) (λ x h. differs_from_others n x ns h (others_differ ns n both.0) apart.0) (f n) (below n))
     where
-      later : (m : Text) (c : Bool) → has_name ns m ≡ true → (if c then true else has_name ns m) ≡ true
+      later : (m : Text) (c : Bool) → has_text ns m ≡ true → (if c then true else has_text ns m) ≡ true
       later m true e = refl
       later m false e = e
 

@@ -3,7 +3,7 @@ use Rattle.std.proofs.Common.{◌≡◌, ℕ, zero, suc, ◌+◌, ◌≤◌, Boo
 use Rattle.std.specs.Prelude.{flat_map}
 use Rattle.std.specs.List.{AllByRecursion}
 use Rattle.std.specs.Str.{bytes_eq}
-use Rattle.fm_registry_calls.specs.Texts.{Text, Path, has_name, is_once}
+use Rattle.fm_registry_calls.specs.Texts.{Text, Path, has_text, is_once}
 use Rattle.fm_registry_calls.specs.Book.{Call, Subsystem, Register, Book, metrics_at, children_at, calls_below, book_below}
 use Rattle.fm_registry_calls.specs.Tree.{Forest, Leaf, Child, Tree, names_in, find_child, subtree_from, subtree_at, children_of, Shows, ShowsFrom, Reads}
 use Rattle.fm_registry_calls.specs.Listing.{IsListable, listed_with, own_metrics, listed_forest, listed_tree, order}
@@ -26,7 +26,7 @@ module _ {M : Type 0} where
       [ true ↦ omega (arith, calls_below-no_more calls n) | false ↦ omega (arith, calls_below-no_more calls n) ]
 
   -- a subsystem has fewer calls below it, since its own is not among them
-  calls_below-fewer : (calls : List (Call M)) (n : Text) → has_name (children_at calls []) n ≡ true → length (calls_below calls n) + 1 ≤ length calls
+  calls_below-fewer : (calls : List (Call M)) (n : Text) → has_text (children_at calls []) n ≡ true → length (calls_below calls n) + 1 ≤ length calls
   calls_below-fewer [] n there = absurd (true≢false (sym there))
   calls_below-fewer (Subsystem [] m labels ∷ calls) n there = omega (arith, calls_below-no_more calls n)
   calls_below-fewer (Register [] r ∷ calls) n there = omega (arith, calls_below-fewer calls n there)
@@ -65,7 +65,7 @@ module _ {M : Type 0} where
       → ((t : Tree M) (d : Book M) → length d.calls ≤ k → ShowsOnce t d → listed_tree t ≡ order_to k d)
       → is_once (names_in f) ≡ true
       → ((n : Text) (c : Tree M) → find_child f n ≡ Some c → ShowsOnce c (book_below b n))
-      → ((n : Text) → has_name (names_in f) n ≡ true → length (calls_below b.calls n) ≤ k)
+      → ((n : Text) → has_text (names_in f) n ≡ true → length (calls_below b.calls n) ≤ k)
       → listed_forest f ≡ flat_map (λ n. order_to k (book_below b n)) (names_in f)
   forest-order k Leaf b each once reads few = refl
   forest-order k (Child m facts below rest) b each once reads few =
@@ -73,19 +73,19 @@ module _ {M : Type 0} where
       let here : listed_tree (record { facts = facts; children = below }) ≡ order_to k (book_below b m) =
       each (record { facts = facts; children = below }) (book_below b m) (few m (rw (bytes_eq-refl m) refl)) (reads m (record { facts = facts; children = below }) first) in
       let others : listed_forest rest ≡ flat_map (λ n. order_to k (book_below b n)) (names_in rest) =
-      forest-order k rest b each (both_once (has_name (names_in rest) m) (is_once (names_in rest)) once).1
-      (λ n c there. reads n c (skip n (both_once (has_name (names_in rest) m) (is_once (names_in rest)) once).0 (has_found rest n c there) ∙ there))
+      forest-order k rest b each (both_once (has_text (names_in rest) m) (is_once (names_in rest)) once).1
+      (λ n c there. reads n c (skip n (both_once (has_text (names_in rest) m) (is_once (names_in rest)) once).0 (has_found rest n c there) ∙ there))
       (λ n there. few n (later n (bytes_eq m n) there)) in
       sym (append_assoc (own_metrics facts) (listed_forest below) (listed_forest rest)) ∙ (λ i. here i ++ others i)
     where
-      later : (n : Text) (c : Bool) → has_name (names_in rest) n ≡ true → (if c then true else has_name (names_in rest) n) ≡ true
+      later : (n : Text) (c : Bool) → has_text (names_in rest) n ≡ true → (if c then true else has_text (names_in rest) n) ≡ true
       later n true e = refl
       later n false e = e
 
-      skip : (n : Text) → has_name (names_in rest) m ≡ false → has_name (names_in rest) n ≡ true → find_child (Child m facts below rest) n ≡ find_child rest n
+      skip : (n : Text) → has_text (names_in rest) m ≡ false → has_text (names_in rest) n ≡ true → find_child (Child m facts below rest) n ≡ find_child rest n
       skip n absent there =
           elim (bytes_eq m n) as (λ c. bytes_eq m n ≡ c → (if c then Some (record { facts = facts; children = below }) else find_child rest n) ≡ find_child rest n) [
-            | true ↦ λ e. absurd (true≢false (sym there ∙ ap (λ j. has_name (names_in rest) j) (sym (same_text m n e)) ∙ absent))
+            | true ↦ λ e. absurd (true≢false (sym there ∙ ap (λ j. has_text (names_in rest) j) (sym (same_text m n e)) ∙ absent))
             | false ↦ λ e. refl
           ] refl
 
@@ -107,7 +107,7 @@ module _ {M : Type 0} where
   tree-order_to (suc k) t b short r =
       let below : listed_forest t.children ≡ flat_map (λ n. order_to k (book_below b n)) (names_in t.children) =
       forest-order k t.children b (tree-order_to k) (r.once []) (once_below t b r)
-      (λ n there. omega (arith, short, calls_below-fewer b.calls n (ap (λ ns. has_name ns n) (sym (r.shows.children [])) ∙ there))) in
+      (λ n there. omega (arith, short, calls_below-fewer b.calls n (ap (λ ns. has_text ns n) (sym (r.shows.children [])) ∙ there))) in
       λ i. own-order t b r.shows i ++ (below ∙ ap (λ ns. flat_map (λ n. order_to k (book_below b n)) ns) (r.shows.children [])) i
 
   -- in a tree of accepted calls, the listing is the order of every book that the tree shows

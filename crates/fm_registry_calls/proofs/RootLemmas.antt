@@ -7,7 +7,7 @@ use Rattle.fm_grammar.specs.WellFormed.{AreLabels}
 use Rattle.fm_grammar.proofs.Runs.{all_weaker}
 use Rattle.fm_registry_calls.specs.Book.{root_book, labels_at, namespace_at}
 use Rattle.fm_registry_calls.specs.Tree.{Tree, Leaf, Reads, subtree_from, metrics_of, children_of}
-use Rattle.fm_registry_calls.specs.Texts.{Text, Path, Labels, has_name}
+use Rattle.fm_registry_calls.specs.Texts.{Text, Path, Labels, has_text}
 use Rattle.fm_registry_calls.specs.Answer.{Refusal, namespace_refusal, label_refusal_behind, labels_refusal_behind, root_labels_refusal, or_then}
 use Rattle.fm_registry_calls.proofs.TextLemmas.{bytes_eq-refl}
 use Rattle.fm_raw.proofs.NameLemmas.{snake_case_is, label_name_decides}
@@ -19,19 +19,19 @@ pub namespace_valid : (namespace : Text) → namespace_refusal namespace ≡ Non
 namespace_valid namespace h = snake_case_is namespace (namespace_passed namespace h)
 
 -- a name that is not among others is not among fewer, and is not the last of them
-absent_before : (before : List Text) (n m : Text) → has_name (before ++ n ∷ []) m ≡ false → (has_name before m ≡ false) × (m ≢ n)
+absent_before : (before : List Text) (n m : Text) → has_text (before ++ n ∷ []) m ≡ false → (has_text before m ≡ false) × (m ≢ n)
 absent_before [] n m h = (refl, λ same. true≢false (sym (bytes_eq-refl n) ∙ ap (λ k. bytes_eq n k) (sym same) ∙ by (bytes_eq n m) h))
   where
     by : (c : Bool) → (if c then true else false) ≡ false → c ≡ false
     by true e = absurd (true≢false e)
     by false e = refl
 absent_before (k ∷ before) n m h =
-    elim (bytes_eq k m) as (λ c. (if c then true else has_name (before ++ n ∷ []) m) ≡ false → ((if c then true else has_name before m) ≡ false) × (m ≢ n))
+    elim (bytes_eq k m) as (λ c. (if c then true else has_text (before ++ n ∷ []) m) ≡ false → ((if c then true else has_text before m) ≡ false) × (m ≢ n))
     [ true ↦ λ e. absurd (true≢false e) | false ↦ λ e. absent_before before n m e ] h
 
 -- names that are neither refused nor among those before
 record AreNew (before : List Text) (labels : Labels) : Type 0 where
-  absent : AllByRecursion (λ name. has_name before name ≡ false) (map (λ l. l.name) labels)
+  absent : AllByRecursion (λ name. has_text before name ≡ false) (map (λ l. l.name) labels)
   names : AllByRecursion (λ label. IsLabelName label.name) labels
   different : AllDifferent (map (λ l. l.name) labels)
 
@@ -42,9 +42,9 @@ are_new before (label ∷ labels) h =
     let passed = label_passed before label.name parts.0 in
     let rest = are_new (before ++ label.name ∷ []) labels parts.1 in
     record {
-      absent = (passed.1, all_weaker (λ name. has_name (before ++ label.name ∷ []) name ≡ false) (λ name. has_name before name ≡ false) (λ name e. (absent_before before label.name name e).0) (map (λ l. l.name) labels) rest.absent);
+      absent = (passed.1, all_weaker (λ name. has_text (before ++ label.name ∷ []) name ≡ false) (λ name. has_text before name ≡ false) (λ name e. (absent_before before label.name name e).0) (map (λ l. l.name) labels) rest.absent);
       names = ((label_name_decides label.name).0 passed.0, rest.names);
-      different = (all_weaker (λ name. has_name (before ++ label.name ∷ []) name ≡ false) (λ name. name ≢ label.name) (λ name e. (absent_before before label.name name e).1) (map (λ l. l.name) labels) rest.absent, rest.different);
+      different = (all_weaker (λ name. has_text (before ++ label.name ∷ []) name ≡ false) (λ name. name ≢ label.name) (λ name e. (absent_before before label.name name e).1) (map (λ l. l.name) labels) rest.absent, rest.different);
     }
 
 -- labels of a root that are not refused

@@ -2,7 +2,7 @@
 use Rattle.std.proofs.Common.{◌≡◌, Bool, true, false, ◌&&◌, not, List, [], ◌∷◌, ◌++◌, if◌then◌else◌, refl, sym, ap, ◌∙◌, true≢false}
 use Rattle.std.specs.Str.{bytes_eq}
 use Rattle.std.specs.Cmp.Lexicographic.{bytes_decides}
-use Rattle.fm_registry_calls.specs.Texts.{Text, Path, path_eq, has_name, is_once}
+use Rattle.fm_registry_calls.specs.Texts.{Text, Path, path_eq, has_text, is_once}
 
 -- what the test of two texts tells
 pub bytes_eq-refl : (n : Text) → bytes_eq n n ≡ true
@@ -39,21 +39,21 @@ path_eq-refl [] = refl
 path_eq-refl (n ∷ p) = rw (bytes_eq-refl n) (path_eq-refl p)
 
 -- one name more
-pub has_name-push : (ns : List Text) (n m : Text) → bytes_eq n m ≡ false → has_name (ns ++ n ∷ []) m ≡ has_name ns m
-has_name-push [] n m e = rw e refl
-has_name-push (k ∷ ns) n m e = ap (λ c. if bytes_eq k m then true else c) (has_name-push ns n m e)
+pub has_text-push : (ns : List Text) (n m : Text) → bytes_eq n m ≡ false → has_text (ns ++ n ∷ []) m ≡ has_text ns m
+has_text-push [] n m e = rw e refl
+has_text-push (k ∷ ns) n m e = ap (λ c. if bytes_eq k m then true else c) (has_text-push ns n m e)
 
-pub has_name-last : (ns : List Text) (n : Text) → has_name (ns ++ n ∷ []) n ≡ true
-has_name-last [] n = rw (bytes_eq-refl n) refl
-has_name-last (m ∷ ns) n = elim (bytes_eq m n) as (λ c. (if c then true else has_name (ns ++ n ∷ []) n) ≡ true) [ true ↦ refl | false ↦ has_name-last ns n ]
+pub has_text-last : (ns : List Text) (n : Text) → has_text (ns ++ n ∷ []) n ≡ true
+has_text-last [] n = rw (bytes_eq-refl n) refl
+has_text-last (m ∷ ns) n = elim (bytes_eq m n) as (λ c. (if c then true else has_text (ns ++ n ∷ []) n) ≡ true) [ true ↦ refl | false ↦ has_text-last ns n ]
 
 -- a name that is not there may be added
-pub is_once-push : (ns : List Text) (n : Text) → is_once ns ≡ true → has_name ns n ≡ false → is_once (ns ++ n ∷ []) ≡ true
+pub is_once-push : (ns : List Text) (n : Text) → is_once ns ≡ true → has_text ns n ≡ false → is_once (ns ++ n ∷ []) ≡ true
 is_once-push [] n once absent = refl
 is_once-push (m ∷ ns) n once absent =
-    elim (bytes_eq m n) as (λ c. bytes_eq m n ≡ c → (if c then true else has_name ns n) ≡ false → is_once (m ∷ (ns ++ n ∷ [])) ≡ true) [
+    elim (bytes_eq m n) as (λ c. bytes_eq m n ≡ c → (if c then true else has_text ns n) ≡ false → is_once (m ∷ (ns ++ n ∷ [])) ≡ true) [
       | true ↦ λ e h. absurd (true≢false h)
-      | false ↦ λ e h. ap (λ c. not c && is_once (ns ++ n ∷ [])) (has_name-push ns n m (other_text m n e)) ∙ by (has_name ns m) (is_once ns) once (λ rest. is_once-push ns n rest h)
+      | false ↦ λ e h. ap (λ c. not c && is_once (ns ++ n ∷ [])) (has_text-push ns n m (other_text m n e)) ∙ by (has_text ns m) (is_once ns) once (λ rest. is_once-push ns n rest h)
     ] refl absent
   where
     by : (c d : Bool) → (not c && d) ≡ true → (d ≡ true → is_once (ns ++ n ∷ []) ≡ true) → (not c && is_once (ns ++ n ∷ [])) ≡ true

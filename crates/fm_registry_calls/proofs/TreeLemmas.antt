@@ -1,32 +1,32 @@
 -- How the steps of a tree follow the calls of its book.
 use Rattle.std.proofs.Common.{◌≡◌, ◌+◌, true, false, ◌&&◌, List, [], ◌∷◌, ◌++◌, map, Option, None, Some, IfSome, length, if◌then◌else◌, refl, sym, ap, subst, ◌∙◌, append-nil, true≢false, arith}
 use Rattle.std.specs.Str.{bytes_eq}
-use Rattle.fm_registry_calls.specs.Texts.{Text, Path, Labels, path_eq, has_name, merge_labels, join_name}
+use Rattle.fm_registry_calls.specs.Texts.{Text, Path, Labels, path_eq, has_text, merge_labels, join_name}
 use Rattle.fm_registry_calls.specs.Registration.{Registration}
 use Rattle.fm_registry_calls.specs.Book.{Call, Subsystem, Register, Book, metrics_at, children_at, labels_given, labels_at, namespace_at, with_more, in_front, calls_below, book_below}
 use Rattle.fm_registry_calls.specs.Tree.{Facts, Forest, Leaf, Child, Tree, names_in, find_child, subtree_from, subtree_at, metrics_of, children_of, ShowsFrom, Shows, ReadsFrom, Reads}
 use Rattle.fm_registry_calls.specs.Steps.{with_metric, new_facts, add_child, with_named, with_child}
 use Rattle.fm_registry_calls.specs.Answer.{answer, gained}
 use Rattle.fm_registry_calls.specs.Accepted.{IsBook}
-use Rattle.fm_registry_calls.proofs.TextLemmas.{bytes_eq-refl, same_text, has_name-last}
+use Rattle.fm_registry_calls.proofs.TextLemmas.{bytes_eq-refl, same_text, has_text-last}
 use Rattle.fm_registry_calls.proofs.AcceptedLemmas.{IsBook-below, IsBook-gained, IsBook-with_more, IsBook-in_front}
 use Rattle.fm_registry_calls.proofs.BookLemmas.{metrics_at-calls_below, children_at-calls_below, labels_at-book_below, metrics_at-++, children_at-++, labels_given-++, calls_below-++}
 
 module _ {M : Type 0} where
   -- a name is among a forest's names where a registry with it is found
-  pub has_found : (f : Forest M) (n : Text) (c : Tree M) → find_child f n ≡ Some c → has_name (names_in f) n ≡ true
+  pub has_found : (f : Forest M) (n : Text) (c : Tree M) → find_child f n ≡ Some c → has_text (names_in f) n ≡ true
   has_found Leaf n c e = absurd (none_not_some e)
     where
       none_not_some : None ≡ Some c → ⊥
       none_not_some h = cc
   has_found (Child m facts below rest) n c e =
-      elim (bytes_eq m n) as (λ d. (if d then Some (record { facts = facts; children = below }) else find_child rest n) ≡ Some c → (if d then true else has_name (names_in rest) n) ≡ true)
+      elim (bytes_eq m n) as (λ d. (if d then Some (record { facts = facts; children = below }) else find_child rest n) ≡ Some c → (if d then true else has_text (names_in rest) n) ≡ true)
       [ true ↦ λ h. refl | false ↦ λ h. has_found rest n c h ] e
 
   -- a subsystem that is found has a book of its own
   book_found : (o : Option (Tree M)) (t : Tree M) (b : Book M) (n : Text) → find_child t.children n ≡ o → Reads t b → IfSome o (λ c. IsBook (book_below b n))
   book_found None t b n e r = tt
-  book_found (Some c) t b n e r = IsBook-below b n r.book (ap (λ ns. has_name ns n) (sym (r.shows.children [])) ∙ has_found t.children n c e)
+  book_found (Some c) t b n e r = IsBook-below b n r.book (ap (λ ns. has_text ns n) (sym (r.shows.children [])) ∙ has_found t.children n c e)
 
   -- each subsystem shows the calls below it
   pub shows_below : (t : Tree M) (b : Book M) → Shows t b → (n : Text) → ShowsFrom (find_child t.children n) (book_below b n)
@@ -104,21 +104,21 @@ module _ {M : Type 0} where
       (λ n. subst (λ c. ReadsFrom (find_child t.children n) c) (sym (book_below-with_more b (Register [] m ∷ []) n refl refl)) (reads_below t b r n))
 
   -- a name that is not there was given no labels
-  labels_given-absent : (calls : List (Call M)) (q : Path) (n : Text) → has_name (children_at calls q) n ≡ false → labels_given calls q n ≡ []
+  labels_given-absent : (calls : List (Call M)) (q : Path) (n : Text) → has_text (children_at calls q) n ≡ false → labels_given calls q n ≡ []
   labels_given-absent [] q n absent = refl
   labels_given-absent (Register p r ∷ calls) q n absent = labels_given-absent calls q n absent
   labels_given-absent (Subsystem p m labels ∷ calls) q n absent =
-      elim (path_eq p q) as (λ c. has_name (if c then m ∷ children_at calls q else children_at calls q) n ≡ false → (if c && bytes_eq m n then labels ++ labels_given calls q n else labels_given calls q n) ≡ []) [
-        | true ↦ elim (bytes_eq m n) as (λ d. (if d then true else has_name (children_at calls q) n) ≡ false → (if d then labels ++ labels_given calls q n else labels_given calls q n) ≡ [])
+      elim (path_eq p q) as (λ c. has_text (if c then m ∷ children_at calls q else children_at calls q) n ≡ false → (if c && bytes_eq m n then labels ++ labels_given calls q n else labels_given calls q n) ≡ []) [
+        | true ↦ elim (bytes_eq m n) as (λ d. (if d then true else has_text (children_at calls q) n) ≡ false → (if d then labels ++ labels_given calls q n else labels_given calls q n) ≡ [])
             [ true ↦ λ h. absurd (true≢false h) | false ↦ λ h. labels_given-absent calls q n h ]
         | false ↦ λ h. labels_given-absent calls q n h
       ] absent
 
   -- a name is among a forest's names where a registry with it is found
-  pub absent_from_find : (f : Forest M) (n : Text) → find_child f n ≡ None → has_name (names_in f) n ≡ false
+  pub absent_from_find : (f : Forest M) (n : Text) → find_child f n ≡ None → has_text (names_in f) n ≡ false
   absent_from_find Leaf n e = refl
   absent_from_find (Child m facts below rest) n e =
-      elim (bytes_eq m n) as (λ c. (if c then Some (record { facts = facts; children = below }) else find_child rest n) ≡ None → (if c then true else has_name (names_in rest) n) ≡ false)
+      elim (bytes_eq m n) as (λ c. (if c then Some (record { facts = facts; children = below }) else find_child rest n) ≡ None → (if c then true else has_text (names_in rest) n) ≡ false)
       [ true ↦ λ h. absurd (some_not_none _ h) | false ↦ λ h. absent_from_find rest n h ] e
     where
       some_not_none : (t : Tree M) → Some t ≡ None → ⊥
@@ -144,7 +144,7 @@ module _ {M : Type 0} where
       [ true ↦ refl | false ↦ find_child-add_child rest n facts m ]
 
   -- a new subsystem reads no calls
-  reads_new : (b : Book M) (f : Facts M) (n : Text) (labels : Labels) → ReadsFrom None (book_below b n) → has_name (children_at b.calls []) n ≡ false → f.namespace ≡ b.namespace → f.labels ≡ b.labels → f.depth ≡ b.depth → IsBook (book_below (with_more b (Subsystem [] n labels ∷ [])) n)
+  reads_new : (b : Book M) (f : Facts M) (n : Text) (labels : Labels) → ReadsFrom None (book_below b n) → has_text (children_at b.calls []) n ≡ false → f.namespace ≡ b.namespace → f.labels ≡ b.labels → f.depth ≡ b.depth → IsBook (book_below (with_more b (Subsystem [] n labels ∷ [])) n)
       → ReadsFrom (Some (record { facts = new_facts f n labels; children = Leaf })) (book_below (with_more b (Subsystem [] n labels ∷ [])) n)
   reads_new b f n labels r absent namespace given depth book = record {
     shows = record { metrics = metrics; children = children; namespace = namespaces; labels = all_labels; depth = depths };
@@ -181,18 +181,18 @@ module _ {M : Type 0} where
       depths (q ∷ p) = tt
 
   -- a subsystem that is not there is gained, and is the last child
-  gained_absent : (b : Book M) (n : Text) (labels : Labels) → has_name (children_at b.calls []) n ≡ false → gained b (Subsystem [] n labels) ≡ Subsystem [] n labels ∷ []
+  gained_absent : (b : Book M) (n : Text) (labels : Labels) → has_text (children_at b.calls []) n ≡ false → gained b (Subsystem [] n labels) ≡ Subsystem [] n labels ∷ []
   gained_absent b n labels absent = rw absent refl
 
-  last_child : (b : Book M) (n : Text) (labels : Labels) → has_name (children_at (b.calls ++ Subsystem [] n labels ∷ []) []) n ≡ true
-  last_child b n labels = ap (λ ns. has_name ns n) (children_at-++ b.calls (Subsystem [] n labels ∷ []) []) ∙ has_name-last (children_at b.calls []) n
+  last_child : (b : Book M) (n : Text) (labels : Labels) → has_text (children_at (b.calls ++ Subsystem [] n labels ∷ []) []) n ≡ true
+  last_child b n labels = ap (λ ns. has_text ns n) (children_at-++ b.calls (Subsystem [] n labels ∷ []) []) ∙ has_text-last (children_at b.calls []) n
 
   -- a new subsystem of the root
   pub reads-add_child : (t : Tree M) (b : Book M) (n : Text) (labels : Labels) → answer b (Subsystem [] n labels) ≡ None → Reads t b → find_child t.children n ≡ None
       → Reads (record t { children = add_child t.children n (new_facts t.facts n labels) }) (with_more b (Subsystem [] n labels ∷ []))
   reads-add_child t b n labels accepted r none =
       let root = reads_root t b r in
-      let absent : has_name (children_at b.calls []) n ≡ false = ap (λ ns. has_name ns n) (sym root.children) ∙ absent_from_find t.children n none in
+      let absent : has_text (children_at b.calls []) n ≡ false = ap (λ ns. has_text ns n) (sym root.children) ∙ absent_from_find t.children n none in
       let book : IsBook (with_more b (Subsystem [] n labels ∷ [])) = IsBook-with_more b (Subsystem [] n labels ∷ []) root.book (record { answer = accepted; new = gained_absent b n labels absent }, tt) in
       reads_above (record t { children = add_child t.children n (new_facts t.facts n labels) }) (with_more b (Subsystem [] n labels ∷ []))
       (record {
@@ -205,7 +205,7 @@ module _ {M : Type 0} where
       })
       (λ m. below root absent book m)
     where
-      below : ReadsRoot t b → has_name (children_at b.calls []) n ≡ false → IsBook (with_more b (Subsystem [] n labels ∷ [])) → (m : Text) → ReadsFrom (find_child (add_child t.children n (new_facts t.facts n labels)) m) (book_below (with_more b (Subsystem [] n labels ∷ [])) m)
+      below : ReadsRoot t b → has_text (children_at b.calls []) n ≡ false → IsBook (with_more b (Subsystem [] n labels ∷ [])) → (m : Text) → ReadsFrom (find_child (add_child t.children n (new_facts t.facts n labels)) m) (book_below (with_more b (Subsystem [] n labels ∷ [])) m)
       below root absent book m =
           subst (λ o. ReadsFrom o (book_below (with_more b (Subsystem [] n labels ∷ [])) m)) (sym (find_child-add_child t.children n (new_facts t.facts n labels) m)) (
           elim (bytes_eq n m) as (λ c. bytes_eq n m ≡ c → ReadsFrom (or_else (find_child t.children m) (if c then Some (record { facts = new_facts t.facts n labels; children = Leaf }) else None)) (book_below (with_more b (Subsystem [] n labels ∷ [])) m)) [
@@ -278,7 +278,7 @@ module _ {M : Type 0} where
         namespace = root.namespace;
         labels = root.labels;
         depth = root.depth;
-        book = IsBook-in_front b n more root.book (ap (λ ns. has_name ns n) (sym root.children) ∙ has_found t.children n c there) read.book;
+        book = IsBook-in_front b n more root.book (ap (λ ns. has_text ns n) (sym root.children) ∙ has_found t.children n c there) read.book;
       })
       below
     where

@@ -3,7 +3,7 @@ use Rattle.std.specs.Prelude.{◌≡◌, ⊤, ℕ, ◌+◌, Bool, true, false, �
 use Rattle.std.specs.String.{string_bytes}
 use Rattle.fm_grammar.specs.NameTests.{is_snake_case, is_word, is_label_name}
 use Rattle.fm_grammar.specs.declared.MetricType.{MetricType}
-use Rattle.fm_registry_calls.specs.Texts.{Text, Labels, has_name}
+use Rattle.fm_registry_calls.specs.Texts.{Text, Labels, has_text}
 use Rattle.fm_registry_calls.specs.Registration.{Registration, SeenUnit, takes_no_unit, is_same_metric, text_of_unit}
 use Rattle.fm_registry_calls.specs.Taken.{tail_of, tails_of, is_tail_taken, is_child_taken}
 use Rattle.fm_registry_calls.specs.Book.{Call, Subsystem, Register, Book, metrics_at, children_at, missing_along, with_more}
@@ -110,7 +110,7 @@ module _ {M : Type 0} where
 
   -- the same for any subsystem: one that exists is not refused
   abbrev pub child_refusal : List (Registration M) → List Text → Text → Option Refusal
-  child_refusal there children name = if has_name children name then None else new_name_refusal there children name
+  child_refusal there children name = if has_text children name then None else new_name_refusal there children name
 
   -- why a registry at this depth, with these metrics and subsystems, refuses a subsystem
   abbrev pub subsystem_refusal : ℕ → List (Registration M) → List Text → Text → Labels → Option Refusal
@@ -122,7 +122,7 @@ namespace_refusal namespace = first_of ((not (is_snake_case namespace), InvalidN
 
 -- why a label is refused after labels with these names
 abbrev pub label_refusal_behind : List Text → Text → Option Refusal
-label_refusal_behind before name = first_of ((not (is_label_name name), InvalidLabelName name) ∷ (has_name before name, DuplicateLabel name) ∷ [])
+label_refusal_behind before name = first_of ((not (is_label_name name), InvalidLabelName name) ∷ (has_text before name, DuplicateLabel name) ∷ [])
 
 -- the first refusal of labels that come after others with these names
 abbrev pub labels_refusal_behind : List Text → Labels → Option Refusal
@@ -146,7 +146,7 @@ module _ {M : Type 0} where
 
   -- what an accepted call adds to the book: nothing if it creates a subsystem that exists
   abbrev pub gained : Book M → Call M → List (Call M)
-  gained b (Subsystem path name labels) = if has_name (children_at b.calls path) name then [] else Subsystem path name labels ∷ []
+  gained b (Subsystem path name labels) = if has_text (children_at b.calls path) name then [] else Subsystem path name labels ∷ []
   gained b (Register path registration) = Register path registration ∷ []
 
   -- the book after a reply

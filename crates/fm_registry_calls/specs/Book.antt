@@ -1,7 +1,7 @@
 -- A book: a root, and the flat list of the calls that were accepted.
 use Rattle.std.specs.Prelude.{ℕ, ◌+◌, ◌&&◌, List, [], ◌∷◌, ◌++◌, fold, Option, None, Some, if◌then◌else◌}
 use Rattle.std.specs.Str.{bytes_eq}
-use Rattle.fm_registry_calls.specs.Texts.{Text, Path, Labels, path_eq, has_name, merge_labels, join_name}
+use Rattle.fm_registry_calls.specs.Texts.{Text, Path, Labels, path_eq, has_text, merge_labels, join_name}
 use Rattle.fm_registry_calls.specs.Registration.{Registration}
 
 -- an accepted call: at a registry's path, a subsystem with its name and labels, or a metric
@@ -57,7 +57,7 @@ module _ {M : Type 0} where
   -- the first name of a path from a registry that is not that of a subsystem
   abbrev pub missing_along : List (Call M) → Path → Path → Option Text
   missing_along calls place [] = None
-  missing_along calls place (name ∷ path) = if has_name (children_at calls place) name then missing_along calls (place ++ name ∷ []) path else Some name
+  missing_along calls place (name ∷ path) = if has_text (children_at calls place) name then missing_along calls (place ++ name ∷ []) path else Some name
 
   -- the book with more calls at its end
   abbrev pub with_more : Book M → List (Call M) → Book M

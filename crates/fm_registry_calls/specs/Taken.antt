@@ -3,7 +3,7 @@
 use Rattle.std.specs.Prelude.{◌≡◌, ⊤, Bool, ◌||◌, List, [], ◌∷◌, ◌++◌, codes, map, eqb}
 use Rattle.std.specs.List.{AllByRecursion, starts_with, list_any}
 use Rattle.fm_grammar.specs.Names.{AllDifferent}
-use Rattle.fm_registry_calls.specs.Texts.{Text, has_name, suffixed_name}
+use Rattle.fm_registry_calls.specs.Texts.{Text, has_text, suffixed_name}
 use Rattle.fm_registry_calls.specs.Registration.{Registration, printed_unit}
 
 -- a metric's name in the exposition without its registry's namespace: its name, or its name, an underscore and its unit
@@ -41,7 +41,7 @@ is_below name text = starts_with eqb text (name ++ codes "_")
 
 -- whether a metric with this tail would break a rule
 abbrev pub is_tail_taken : List Text → List Text → Text → Bool
-is_tail_taken tails children tail = has_name tails tail || list_any (λ child. is_below child tail) children
+is_tail_taken tails children tail = has_text tails tail || list_any (λ child. is_below child tail) children
 
 -- whether a new subsystem with this name would break a rule
 abbrev pub is_child_taken : List Text → List Text → Text → Bool

@@ -8,7 +8,7 @@ ghost use Rattle.fm_registry_calls.specs.Taken.{AreSeparate, tails_of};
 ghost use Rattle.fm_registry_calls.specs.Book.{Book, metrics_at, children_at};
 ghost use Rattle.fm_registry_calls.specs.Accepted.{IsBook};
 ghost use Rattle.fm_registry_calls.specs.Listing.{listed_name, order};
-ghost use Rattle.fm_registry_calls.specs.Errors.{error_number};
+ghost use Rattle.fm_registry_calls.specs.RegistryErrors.{error_number};
 ghost use Rattle.fm_registry_calls.specs.declared.RegistryError.TheVariants.{Memory};
 
 use std::alloc::{AllocError, AllocFailed};

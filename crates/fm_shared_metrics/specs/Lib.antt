@@ -1,4 +1,4 @@
 pub use Rattle.fm_encoder.specs.Points
 pub use Rattle.fm_encoder.specs.Hands
-pub mod Numbers
+pub mod NumberOrder
 pub mod Counters

@@ -5,7 +5,7 @@ ghost use Rattle.std.specs.Arc.{arc_value};
 ghost use Rattle.fm_grammar.specs.declared.MetricType.TheVariants.{Counter as CounterType};
 ghost use Rattle.fm_raw.specs.declared.error.MetricError.TheVariants.{Memory, NegativeIncrement, LessThanBefore};
 ghost use Rattle.fm_encoder.specs.Points.{CounterPoint, millis};
-ghost use Rattle.fm_shared_metrics.specs.Numbers.{IsBelow};
+ghost use Rattle.fm_shared_metrics.specs.NumberOrder.{IsLess};
 ghost use Rattle.fm_shared_metrics.specs.Counters.{created_of, total_of};
 
 use fm_atomic::{Atomic, CounterValue};
@@ -56,8 +56,8 @@ impl<N: CounterValue> Counter<N> {
     /// Adds `v` and returns the total before. Fails with `NegativeIncrement` if `v` is negative, and then changes
     /// nothing.
     pub fn inc_by(&self, v: N) -> Result<N, MetricError>
-        ensures taken { IfOk result (λ before. N.in_range before × ¬ (IsBelow N.partial_cmp v N.ZERO)) }
-        ensures refused { IfErr result (λ e. (e ≡ NegativeIncrement) × IsBelow N.partial_cmp v N.ZERO) }
+        ensures taken { IfOk result (λ before. N.in_range before × ¬ (IsLess N.partial_cmp v N.ZERO)) }
+        ensures refused { IfErr result (λ e. (e ≡ NegativeIncrement) × IsLess N.partial_cmp v N.ZERO) }
     {
         if v < N::ZERO {
             return Err(MetricError::NegativeIncrement);
@@ -69,7 +69,7 @@ impl<N: CounterValue> Counter<N> {
     /// it.
     pub fn set(&self, v: N) -> Result<(), MetricError>
         ensures raised { (before : N) × N.in_range before × N.Atomic.Atomic.raises (total_of self.now) v before
-            × MatchResult result (λ _. ¬ (IsBelow N.partial_cmp v before)) (λ e. (e ≡ LessThanBefore) × IsBelow N.partial_cmp v before) }
+            × MatchResult result (λ _. ¬ (IsLess N.partial_cmp v before)) (λ e. (e ≡ LessThanBefore) × IsLess N.partial_cmp v before) }
     {
         let before = self.count.total.raise(v);
         if v < before {

@@ -1,3 +1,3 @@
-pub mod Errors
+pub mod TallyErrors
 pub mod Events
 pub mod Shares

@@ -1,6 +1,6 @@
 //! Why a call on a tally fails.
 ghost use Rattle.std.specs.Prelude.{◌≡◌};
-ghost use Rattle.fm_tally.specs.Errors.{error_number};
+ghost use Rattle.fm_tally.specs.TallyErrors.{error_number};
 ghost use Rattle.fm_tally.specs.declared.error.TallyError.TheVariants.{Memory};
 
 use std::alloc::{AllocError, AllocFailed};

@@ -9,11 +9,10 @@ use Rattle.std.specs.Cmp.Lexicographic.{pointwise, pointwise_decides, bytes_deci
 use Rattle.std.specs.Ordering.{on}
 use Rattle.std.proofs.lemmas.Bool.Decides.{Decides-eqb, Decides-int_eq, Decides-and, Decides-like}
 use Rattle.fm_grammar.specs.declared.MetricType.{MetricType}
-use Rattle.fm_grammar.specs.declared.MetricType.TheVariants.{Unknown, Gauge, Counter, StateSet, Info as InfoType, Histogram, GaugeHistogram, Summary}
 use Rattle.fm_grammar.specs.declared.SampleKind.{SampleKind}
-use Rattle.fm_grammar.specs.declared.SampleKind.TheVariants.{Plain, Total, Created, Bucket, Count, Sum, GCount, GSum, Info}
+use Rattle.fm_grammar.specs.Numbering.{type_number, type_at, type_back, kind_number, kind_at, kind_back}
 use Rattle.fm_grammar.specs.Exposition.{Text, Label, Value, Whole, Fixed, Millis, Exemplar, Sample, Family, Exposition}
-use Rattle.fm_exposition.specs.Same.{same_text, same_label, type_number, kind_number, same_value, same_exemplar, same_sample, same_family, same_exposition}
+use Rattle.fm_exposition.specs.Same.{same_text, same_label, same_value, same_exemplar, same_sample, same_family, same_exposition}
 
 -- a test that decides equality is an equivalence, also on how contracts see values
 pub view_equivalence : {J K : Type 0} (view : J → K) (E : K → K → Bool) → ((x y : K) → Decides (E x y) (x ≡ y)) → IsEquivalence (on view E)
@@ -39,52 +38,10 @@ same_text_decides a b = bytes_decides a b
 time_decides : (a b : Option ℕ) → Decides (option_eq nat_eq a b) (a ≡ b)
 time_decides = option_decides nat_eq Decides-eqb
 
--- the index of a type or a kind determines it
-
-abbrev type_at : ℕ → MetricType
-type_at zero = Unknown
-type_at (suc zero) = Gauge
-type_at (suc (suc zero)) = Counter
-type_at (suc (suc (suc zero))) = StateSet
-type_at (suc (suc (suc (suc zero)))) = InfoType
-type_at (suc (suc (suc (suc (suc zero))))) = Histogram
-type_at (suc (suc (suc (suc (suc (suc zero)))))) = GaugeHistogram
-type_at (suc (suc (suc (suc (suc (suc (suc n))))))) = Summary
-
-type_back : (t : MetricType) → type_at (type_number t) ≡ t
-type_back Unknown = refl
-type_back Gauge = refl
-type_back Counter = refl
-type_back StateSet = refl
-type_back InfoType = refl
-type_back Histogram = refl
-type_back GaugeHistogram = refl
-type_back Summary = refl
+-- the number of a type or a kind determines it
 
 pub type_decides : (a b : MetricType) → Decides (type_number a == type_number b) (a ≡ b)
 type_decides a b = Decides-like _ (λ e. sym (type_back a) ∙ ap type_at e ∙ type_back b) (ap type_number) (Decides-eqb (type_number a) (type_number b))
-
-abbrev kind_at : ℕ → SampleKind
-kind_at zero = Plain
-kind_at (suc zero) = Total
-kind_at (suc (suc zero)) = Created
-kind_at (suc (suc (suc zero))) = Bucket
-kind_at (suc (suc (suc (suc zero)))) = Count
-kind_at (suc (suc (suc (suc (suc zero))))) = Sum
-kind_at (suc (suc (suc (suc (suc (suc zero)))))) = GCount
-kind_at (suc (suc (suc (suc (suc (suc (suc zero))))))) = GSum
-kind_at (suc (suc (suc (suc (suc (suc (suc (suc n)))))))) = Info
-
-kind_back : (k : SampleKind) → kind_at (kind_number k) ≡ k
-kind_back Plain = refl
-kind_back Total = refl
-kind_back Created = refl
-kind_back Bucket = refl
-kind_back Count = refl
-kind_back Sum = refl
-kind_back GCount = refl
-kind_back GSum = refl
-kind_back Info = refl
 
 pub kind_decides : (a b : SampleKind) → Decides (kind_number a == kind_number b) (a ≡ b)
 kind_decides a b = Decides-like _ (λ e. sym (kind_back a) ∙ ap kind_at e ∙ kind_back b) (ap kind_number) (Decides-eqb (kind_number a) (kind_number b))

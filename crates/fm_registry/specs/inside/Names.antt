@@ -4,7 +4,7 @@ use Rattle.std.specs.Option.{option_map}
 use Rattle.std.specs.String.{string_bytes}
 use Rattle.fm_raw.specs.Units.{seen_unit}
 use Rattle.fm_raw.specs.declared.metadata.Metadata.{Metadata}
-use Rattle.fm_registry_calls.specs.Texts.{Text, has_name, suffixed_name}
+use Rattle.fm_registry_calls.specs.Texts.{Text, has_text, suffixed_name}
 use Rattle.fm_registry_calls.specs.Taken.{tail_of, tails_of}
 use Rattle.fm_registry_calls.specs.Registration.{Registration, printed_unit}
 use Rattle.fm_registry_calls.specs.Answer.{Refusal, AlreadyExists, NameTaken, first_of, has_metric}
@@ -16,4 +16,4 @@ metadata_tail metadata = suffixed_name (string_bytes metadata.name) (printed_uni
 -- why the metrics of a registry refuse another; the Bool is whether its tail begins with a subsystem's name and an underscore
 abbrev pub refusal_beside : {M : Type 0} → List (Registration M) → Bool → Registration M → Option Refusal
 refusal_beside there below registration =
-    first_of ((has_metric there registration, AlreadyExists registration.name) ∷ (has_name (tails_of there) (tail_of registration) || below, NameTaken registration.name) ∷ [])
+    first_of ((has_metric there registration, AlreadyExists registration.name) ∷ (has_text (tails_of there) (tail_of registration) || below, NameTaken registration.name) ∷ [])

@@ -4,7 +4,7 @@ ghost use Rattle.std.specs.String.{string_bytes};
 ghost use Rattle.fm_exposition.specs.Samples.{labels_of};
 ghost use Rattle.fm_registry_calls.specs.Answer.{refusal_of, asking_refusal, subsystem_refusal, after, IsAnswered};
 ghost use Rattle.fm_registry_calls.specs.Book.{Subsystem as AskSubsystem};
-ghost use Rattle.fm_registry_calls.specs.Texts.{has_name};
+ghost use Rattle.fm_registry_calls.specs.Texts.{has_text};
 ghost use Rattle.fm_registry_calls.specs.Tree.{Reads, names_in};
 ghost use Rattle.fm_registry_calls.specs.Steps.{with_subsystem};
 ghost use Rattle.fm_registry_calls.specs.Running.{IsReply, path_of};
@@ -63,7 +63,7 @@ impl<M: Drop> Registry<M> {
         labels: Vec<(String, String)>,
     ) -> Result<(), RegistryError>
         ensures answer { IsAnswered (refusal_of result) (subsystem_refusal self.old.facts.depth self.old.facts.metrics (names_in self.old.children) (string_bytes name) (labels_of labels.items)) }
-        ensures there { has_name (names_in self.old.children) (string_bytes name) ≡ true → refusal_of result ≡ asking_refusal self.old.facts.depth (string_bytes name) (labels_of labels.items) }
+        ensures there { has_text (names_in self.old.children) (string_bytes name) ≡ true → refusal_of result ≡ asking_refusal self.old.facts.depth (string_bytes name) (labels_of labels.items) }
         ensures ok { OnOk result (self.new ≡ with_subsystem self.old (string_bytes name) (labels_of labels.items)) }
         ensures err { OnErr result (self.new ≡ self.old) }
     {

@@ -5,7 +5,7 @@ ghost use Rattle.std.specs.String.{string_bytes};
 ghost use Rattle.fm_exposition.specs.Samples.{labels_of};
 ghost use Rattle.fm_registry_calls.specs.Answer.{refusal_of, name_or_depth_refusal, asking_refusal, subsystem_refusal, first_bad_label, after, IsAnswered};
 ghost use Rattle.fm_registry_calls.specs.Book.{Subsystem as AskSubsystem};
-ghost use Rattle.fm_registry_calls.specs.Texts.{has_name};
+ghost use Rattle.fm_registry_calls.specs.Texts.{has_text};
 ghost use Rattle.fm_registry_calls.specs.Tree.{Reads, names_in};
 ghost use Rattle.fm_registry_calls.specs.Steps.{with_subsystem};
 ghost use Rattle.fm_registry_calls.specs.Loan.{LoanReads};
@@ -118,7 +118,7 @@ impl<'a, M: Drop> RegistrySubsystemBuilder<'a, M> {
         ensures* writes_back { sem 𝓛 (lends_built M.row self.entry result) }
         ensures answer { IsAnswered (refusal_of result) (subsystem_refusal self.entry.registry.now.facts.depth self.entry.registry.now.facts.metrics (names_in self.entry.registry.now.children) (string_bytes self.entry.name) (labels_of self.entry.labels.items)) }
         // Returning an existing one allocates nothing.
-        ensures there { has_name (names_in self.entry.registry.now.children) (string_bytes self.entry.name) ≡ true → refusal_of result ≡ asking_refusal self.entry.registry.now.facts.depth (string_bytes self.entry.name) (labels_of self.entry.labels.items) }
+        ensures there { has_text (names_in self.entry.registry.now.children) (string_bytes self.entry.name) ≡ true → refusal_of result ≡ asking_refusal self.entry.registry.now.facts.depth (string_bytes self.entry.name) (labels_of self.entry.labels.items) }
         ensures name { IfOk result (λ s. string_bytes s.now.name ≡ string_bytes self.entry.name) }
         ensures reads { IfOk result (λ s. (b : _) → Reads self.entry.registry.now b → LoanReads (with_subsystem self.entry.registry.now (string_bytes self.entry.name) (labels_of self.entry.labels.items)) (string_bytes self.entry.name) s.now.registry (after b (AskSubsystem [] (string_bytes self.entry.name) (labels_of self.entry.labels.items)))) }
         ensures sound { IfOk result (λ s. HasBook self.entry.registry.now → HasBook s.now.registry) }

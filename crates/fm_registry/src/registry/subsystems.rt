@@ -8,7 +8,7 @@ ghost use Rattle.fm_exposition.specs.Samples.{labels_of};
 ghost use Rattle.fm_registry_calls.specs.Answer.{refusal_of, new_name_refusal, child_refusal, asking_refusal, subsystem_refusal, after, IsAnswered};
 ghost use Rattle.fm_registry_calls.specs.Book.{Subsystem as AskSubsystem};
 ghost use Rattle.fm_registry_calls.specs.Taken.{is_below as below_test, is_child_taken, tails_of};
-ghost use Rattle.fm_registry_calls.specs.Texts.{has_name};
+ghost use Rattle.fm_registry_calls.specs.Texts.{has_text};
 ghost use Rattle.fm_registry_calls.specs.Tree.{Reads, names_in};
 ghost use Rattle.fm_registry_calls.specs.Steps.{nth_in, nth_name, place_in, with_subsystem, new_tree};
 ghost use Rattle.fm_registry_calls.specs.Loan.{LoanReads};
@@ -206,7 +206,7 @@ impl<M: Drop> Registry<M> {
     ) -> Result<usize, RegistryError>
         requires { self.old.facts.depth < 64 }
         ensures answer { IsAnswered (refusal_of result) (child_refusal self.old.facts.metrics (names_in self.old.children) (string_bytes name)) }
-        ensures there { has_name (names_in self.old.children) (string_bytes name) ≡ true → refusal_of result ≡ None }
+        ensures there { has_text (names_in self.old.children) (string_bytes name) ≡ true → refusal_of result ≡ None }
         ensures place { IfOk result (λ place. place_in self.new.children (string_bytes name) ≡ Some place) }
         ensures ok { OnOk result (self.new ≡ with_subsystem self.old (string_bytes name) (labels_of labels.items)) }
         ensures err { OnErr result (self.new ≡ self.old) }
@@ -225,7 +225,7 @@ impl<M: Drop> Registry<M> {
         labels: Vec<(String, String)>,
     ) -> Result<usize, RegistryError>
         ensures answer { IsAnswered (refusal_of result) (subsystem_refusal self.old.facts.depth self.old.facts.metrics (names_in self.old.children) (string_bytes name) (labels_of labels.items)) }
-        ensures there { has_name (names_in self.old.children) (string_bytes name) ≡ true → refusal_of result ≡ asking_refusal self.old.facts.depth (string_bytes name) (labels_of labels.items) }
+        ensures there { has_text (names_in self.old.children) (string_bytes name) ≡ true → refusal_of result ≡ asking_refusal self.old.facts.depth (string_bytes name) (labels_of labels.items) }
         ensures place { IfOk result (λ place. place_in self.new.children (string_bytes name) ≡ Some place) }
         ensures ok { OnOk result (self.new ≡ with_subsystem self.old (string_bytes name) (labels_of labels.items)) }
         ensures err { OnErr result (self.new ≡ self.old) }
@@ -249,7 +249,7 @@ impl<M: Drop> Registry<M> {
     ) -> Result<&mut Subsystem<M>, RegistryError>
         ensures* writes_back { sem 𝓛 (lends_subsystem M.row self.entry (string_bytes name) (labels_of labels.items) result) }
         ensures answer { IsAnswered (refusal_of result) (subsystem_refusal self.old.facts.depth self.old.facts.metrics (names_in self.old.children) (string_bytes name) (labels_of labels.items)) }
-        ensures there { has_name (names_in self.old.children) (string_bytes name) ≡ true → refusal_of result ≡ asking_refusal self.old.facts.depth (string_bytes name) (labels_of labels.items) }
+        ensures there { has_text (names_in self.old.children) (string_bytes name) ≡ true → refusal_of result ≡ asking_refusal self.old.facts.depth (string_bytes name) (labels_of labels.items) }
         ensures name { IfOk result (λ s. string_bytes s.now.name ≡ string_bytes name) }
         ensures reads { IfOk result (λ s. (b : _) → Reads self.old b → LoanReads (with_subsystem self.old (string_bytes name) (labels_of labels.items)) (string_bytes name) s.now.registry (after b (AskSubsystem [] (string_bytes name) (labels_of labels.items)))) }
         ensures sound { IfOk result (λ s. HasBook self.old → HasBook s.now.registry) }
@@ -275,7 +275,7 @@ impl<M: Drop> Registry<M> {
         ensures* writes_back { sem 𝓛 (lends_subsystem M.row self.entry (string_bytes name) [] result) }
         ensures answer { IsAnswered (refusal_of result) (subsystem_refusal self.old.facts.depth self.old.facts.metrics (names_in self.old.children) (string_bytes name) []) }
         // Returning an existing one allocates nothing.
-        ensures there { has_name (names_in self.old.children) (string_bytes name) ≡ true → refusal_of result ≡ asking_refusal self.old.facts.depth (string_bytes name) [] }
+        ensures there { has_text (names_in self.old.children) (string_bytes name) ≡ true → refusal_of result ≡ asking_refusal self.old.facts.depth (string_bytes name) [] }
         ensures name { IfOk result (λ s. string_bytes s.now.name ≡ string_bytes name) }
         ensures reads { IfOk result (λ s. (b : _) → Reads self.old b → LoanReads (with_subsystem self.old (string_bytes name) []) (string_bytes name) s.now.registry (after b (AskSubsystem [] (string_bytes name) []))) }
         ensures sound { IfOk result (λ s. HasBook self.old → HasBook s.now.registry) }

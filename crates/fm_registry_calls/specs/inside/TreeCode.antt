@@ -6,7 +6,7 @@ use Rattle.fm_registry_calls.specs.Texts.{Text, Label, Labels}
 use Rattle.fm_registry_calls.specs.Registration.{Registration, SeenUnit}
 use Rattle.fm_registry_calls.specs.Tree.{Facts, Forest, Leaf, Child, Tree}
 use Rattle.fm_grammar.specs.declared.MetricType.{MetricType}
-use Rattle.fm_grammar.specs.declared.MetricType.TheVariants.{Unknown, Gauge, Counter, StateSet, Info, Histogram, GaugeHistogram, Summary}
+use Rattle.fm_grammar.specs.Numbering.{type_number, type_at, type_back}
 
 module _ (M : Type 0) where
   -- an opening mark has the registry's name and facts
@@ -67,39 +67,8 @@ module _ {M : Type 0} where
 abbrev text_code : Coded Text
 text_code = coded_list coded_ℕ
 
--- a number for each type
-abbrev type_number : MetricType → ℕ
-type_number Unknown = 0
-type_number Gauge = 1
-type_number Counter = 2
-type_number StateSet = 3
-type_number Info = 4
-type_number Histogram = 5
-type_number GaugeHistogram = 6
-type_number Summary = 7
-
-abbrev numbered_type : ℕ → MetricType
-numbered_type zero = Unknown
-numbered_type (suc zero) = Gauge
-numbered_type (suc (suc zero)) = Counter
-numbered_type (suc (suc (suc zero))) = StateSet
-numbered_type (suc (suc (suc (suc zero)))) = Info
-numbered_type (suc (suc (suc (suc (suc zero))))) = Histogram
-numbered_type (suc (suc (suc (suc (suc (suc zero)))))) = GaugeHistogram
-numbered_type (suc (suc (suc (suc (suc (suc (suc n))))))) = Summary
-
-pub numbered_type-type_number : (t : MetricType) → numbered_type (type_number t) ≡ t
-numbered_type-type_number Unknown = refl
-numbered_type-type_number Gauge = refl
-numbered_type-type_number Counter = refl
-numbered_type-type_number StateSet = refl
-numbered_type-type_number Info = refl
-numbered_type-type_number Histogram = refl
-numbered_type-type_number GaugeHistogram = refl
-numbered_type-type_number Summary = refl
-
 abbrev type_code : Coded MetricType
-type_code = code_by ℕ coded_ℕ type_number numbered_type numbered_type-type_number
+type_code = code_by ℕ coded_ℕ type_number type_at type_back
 
 abbrev unit_code : Coded SeenUnit
 unit_code = code_by (Bool × Text) (coded× coded_bool text_code) (λ u. (u.own, u.text)) (λ p. record { own = p.0; text = p.1 }) (λ _. refl)
