@@ -1,20 +1,34 @@
 //! Ways to write a registry's document, and to read one.
 ghost use Rattle.fastmetrics.specs.HasBook.{HasBook};
 
-use fastmetrics::format::text::{EncodeError, Exposition, ReadError, encode, read};
+use fastmetrics::format::text::{EncodeError, ReadError, collect, encode, encode_exposition, read};
 use fastmetrics::registry::Registry;
 use std::alloc::Global;
 use std::fs;
 use std::io::{self, BufWriter, Write};
 use std::rt::Files;
 
-/// The document in memory, such as for the body of a web server's answer.
+/// The document in memory, such as for the body of a web server's response.
 pub fn body(alloc: Global, registry: &Registry) -> Result<Vec<u8>, EncodeError>
     requires { HasBook registry.now }
 {
     let mut body = Vec::new(alloc);
     encode(alloc, &mut body, registry)?;
     Ok(body)
+}
+
+/// The same in two steps: `collect` visits the metrics, and the exposition may be looked at before it is written. Without a family
+/// there is no body.
+pub fn body_of_any(alloc: Global, registry: &Registry) -> Result<Option<Vec<u8>>, EncodeError>
+    requires { HasBook registry.now }
+{
+    let exposition = collect(alloc, registry)?;
+    if exposition.families().is_empty() {
+        return Ok(None);
+    }
+    let mut body = Vec::new(alloc);
+    encode_exposition(alloc, &mut body, &exposition)?;
+    Ok(Some(body))
 }
 
 /// The document as a text.

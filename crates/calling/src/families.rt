@@ -3,10 +3,10 @@ ghost use Rattle.std.specs.Prelude.{[], ◌∷◌, codes, decimal};
 ghost use Rattle.fastmetrics.specs.Named.{label};
 
 use fastmetrics::encoder::{
-    EncodeError, EncodeLabelSet, LabelSetEncoder, LabelValue, encode_labels,
+    EncodeError, EncodeLabelSet, LabelSetEncoder, LabelValue, StaticStr, encode_labels,
 };
 use fastmetrics::metrics::counter::Counter;
-use fastmetrics::metrics::family::{DefaultFamily, TextFamily, with_texts};
+use fastmetrics::metrics::family::{DefaultFamily, PairFamily, TextFamily, with_pairs, with_texts};
 use fastmetrics::raw::MetricError;
 use std::alloc::Global;
 use std::sync::Wait;
@@ -41,4 +41,13 @@ pub fn count_answer<H: Wait + Clone + Drop>(
     answer: &Answer,
 ) -> Result<u64, MetricError> {
     answers.with_or_new(answer, |count| count.inc())
+}
+
+/// Counts answers by a number, which takes no memory where the member is there.
+pub fn count_status<H: Wait + Clone + Drop>(
+    statuses: &PairFamily<u64, Counter, H, 1>,
+    status: u64,
+) -> Result<u64, MetricError> {
+    let labels = [(StaticStr("status"), status)];
+    with_pairs(statuses, &labels, |count| count.inc())
 }

@@ -1,4 +1,4 @@
-//! The calls that fill a scene's registry, and what they were answered.
+//! The calls that fill a scene's registry, and what they returned.
 use crate::output::Fault;
 use fastmetrics::encoder::EncodeMetric;
 use fastmetrics::registry::{RegistryCall, RegistryError};

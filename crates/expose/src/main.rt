@@ -66,7 +66,7 @@ fn main(rt: HostRuntime) -> ExitCode {
     ExitCode::from(status)
 }
 
-// The scene that the words behind the program's name say. Words that are no text say none.
+// The scene that the words after the program's name say. Words that are no text say none.
 fn scene_of_words<R: Env + Alloc<A = Global>>(rt: &R) -> Result<Scene, Fault> {
     let words = match env::args(rt) {
         Ok(words) => words,

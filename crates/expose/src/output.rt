@@ -78,7 +78,7 @@ impl Fault {
     }
 }
 
-// Says on a writer why there is no document, and answers the status.
+// Says on a writer why there is no document, and returns the status.
 fn report<E: Write>(errors: &mut E, fault: Fault) -> u8
     ensures { result ≡ status_of fault }
 {
@@ -110,8 +110,8 @@ fn print_document<W: Write>(alloc: Global, out: &mut W, registry: &Registry) -> 
     }
 }
 
-/// Prints the registry's document on the first writer, or the fault on the second, and answers the status: 0 for a whole
-/// document, 1 for a refusal, 2 for an unknown scene. What a write to the second writer answers does not matter.
+/// Prints the registry's document on the first writer, or the fault on the second, and returns the status: 0 for a whole
+/// document, 1 for a refusal, 2 for an unknown scene. What a write to the second writer returns does not matter.
 pub fn finish<W: Write, E: Write>(
     alloc: Global,
     made: Result<Registry, Fault>,

@@ -145,7 +145,7 @@ fn faults_are_said(rt: HostRuntime) {
     }
 }
 
-// A writer that takes nothing: it answers an error, or 0.
+// A writer that takes nothing: it returns an error, or 0.
 #[derive(Drop)]
 struct Unwilling {
     is_failing: bool,

@@ -56,7 +56,7 @@ pub mod metrics {
     pub mod family {
         //! Families: metrics of one type by label set.
         pub use fm_family::{DefaultFactory, Family, FamilyCore, MetricFactory};
-        pub use fm_own::{DefaultFamily, TextFamily, with_texts};
+        pub use fm_own::{DefaultFamily, PairFamily, TextFamily, with_pairs, with_texts};
     }
 
     pub mod labeled {
@@ -91,7 +91,7 @@ pub mod metrics {
     }
 
     pub mod summary {
-        //! Quantiles of summaries. A summary is a metric of a user's own, which hands its point to `encode_summary`.
+        //! Quantiles of summaries. A summary is a metric of a user's own, which emits its point by `encode_summary`.
         pub use fm_bucket::quantile::{QUANTILE_LABEL, Quantile};
     }
 }

@@ -29,7 +29,7 @@ use fm_writer::Lines;
 use std::alloc::{AllocError, Global};
 use std::io::Write;
 
-// Goes on to the family of a metric with this metadata, and appends the lines that stand before its samples.
+// Goes on to the family of a metric with this metadata, and appends the lines that come before its samples.
 fn begin_family(
     alloc: Global,
     encoder: &mut MetricEncoder,
@@ -62,7 +62,7 @@ fn begin_family(
     )
 }
 
-// Appends the lines of a metric's family, unless the metric is empty, or answers the first refusal.
+// Appends the lines of a metric's family, unless the metric is empty, or returns the first refusal.
 fn add_family(
     alloc: Global,
     encoder: &mut MetricEncoder,
@@ -87,7 +87,7 @@ fn add_family(
     encoder.outcome(visited)
 }
 
-// Appends the lines of a listed metric's family, unless the metric is empty, or answers the first refusal.
+// Appends the lines of a listed metric's family, unless the metric is empty, or returns the first refusal.
 fn add_listed(
     alloc: Global,
     encoder: &mut MetricEncoder,

@@ -46,7 +46,7 @@ fn room_of(text: Option<&str>) -> usize {
     }
 }
 
-// Puts namespace, name and unit, those that are there, joined by underscores, in place of a text.
+// Puts namespace, name and unit, those that are there, joined by underscores, into a text instead of what it was.
 pub(crate) fn join_name(
     text: &mut String,
     namespace: Option<&str>,
@@ -105,7 +105,7 @@ pub(crate) fn text_of(unit: Option<&Unit>) -> Option<&str>
     }
 }
 
-// Puts what a metric offers under its printed name, type and constant labels into a sink, or answers the first refusal. The name
+// Puts what a metric offers under its printed name, type and constant labels into a sink, or returns the first refusal. The name
 // comes back with the sink.
 fn offered_by(
     alloc: Global,
@@ -257,8 +257,8 @@ impl<'a> MetricFamilyEncoder<'a> {
     }
 
     /// Takes the next metric: adds its family under this metadata, unless the metric is empty. The metadata is that of a
-    /// metric of the registry under way, whose printed name no family has so far. It is refused for want of memory, or for a fault that stands in the metric, and
-    /// from then on each call answers that refusal and changes nothing. It may wait where the metric waits for a lock.
+    /// metric of the current registry, whose printed name no family has so far. It is refused for want of memory, or for a fault of the metric, and
+    /// from then on each call returns that refusal and changes nothing. It may wait where the metric waits for a lock.
     pub fn encode(
         &mut self,
         metadata: &Metadata,

@@ -120,7 +120,7 @@ impl Counts {
     }
 }
 
-// Counts one value more in the bucket at the place.
+// Counts one value more in the bucket at the index.
 fn count_at(buckets: &mut [Bucket], place: usize)
     requires inside { place < length buckets.old }
     requires small { (d : OneBucket) → (slice_index_or buckets.old place d).count + 1 < 2 ^ 64 }

@@ -173,7 +173,7 @@ impl<S: Sign, H: Wait + Clone> Clone for HistogramOf<S, H> {
     }
 }
 
-/// The time of creation. The counts stand under the lock, and are not shown.
+/// The time of creation. The lock protects the counts, which are not shown.
 impl<H: Wait> Debug for Histogram<H> {
     fn fmt<W: fmt::Write>(&self, f: &mut Formatter<W>) -> fmt::Result {
         f.debug_struct("Histogram")
@@ -182,7 +182,7 @@ impl<H: Wait> Debug for Histogram<H> {
     }
 }
 
-/// Its name. The counts stand under the lock, and are not shown.
+/// Its name. The lock protects the counts, which are not shown.
 impl<H: Wait> Debug for GaugeHistogram<H> {
     fn fmt<W: fmt::Write>(&self, f: &mut Formatter<W>) -> fmt::Result {
         f.debug_struct("GaugeHistogram").finish_non_exhaustive()

@@ -1,5 +1,5 @@
 -- A registration by texts of one's own is one by the texts that they were made of.
-use Rattle.std.proofs.Common.{◌≡◌, ◌⊎◌, inl, inr, subst, sym, Option, Result, String, Global}
+use Rattle.std.proofs.Common.{◌≡◌, inl, inr, subst, sym, Option, Result, String, Global}
 use Rattle.std.specs.String.{string_bytes}
 use Rattle.fm_grammar.specs.declared.MetricType.{MetricType}
 use Rattle.fm_grammar.specs.Exposition.{Text}

@@ -33,7 +33,7 @@ impl<LS: EncodeLabelSet + Send + Sync + Drop> EncodeMetric for Answered<LS> {
           (record { labels = LS.labels a.trace.labels; value = a.trace.value; time = option_map millis a.trace.timestamp } ∷ []) None;
     } ∷ [] };
 
-    // The trace's labels may answer an error of their own.
+    // The trace's labels may return an error of their own.
     ghost may_fault = { λ a. ⊥ ⊎ LS.may_fault a.trace.labels };
 
     fn encode(&self, encoder: &mut MetricEncoder) -> Result<(), EncodeError> {
@@ -72,7 +72,7 @@ impl<LS: EncodeLabelSet + Send + Sync + Drop> EncodeMetric for Durations<LS> {
           d.requests d.seconds None;
     } ∷ [] };
 
-    // The trace's labels may answer an error of their own.
+    // The trace's labels may return an error of their own.
     ghost may_fault = { λ _. Unit {0} };
 
     fn encode(&self, encoder: &mut MetricEncoder) -> Result<(), EncodeError> {

@@ -66,7 +66,7 @@ fn bear_unwritten(refusals: &mut u32, error: EncodeError, writer: &[u8]) -> Resu
     bear(refusals)
 }
 
-// Sees that a writer has this document behind the line `before`.
+// Sees that a writer has this document after the line `before`.
 fn expect_written(writer: &[u8], document: &str) -> Result<(), Fail> {
     if writer.strip_prefix(BEFORE) != Some(document.as_bytes()) {
         return Err(Fail::new("another document"));

@@ -75,7 +75,7 @@ pub fn collect(alloc: Global, registry: &Registry) -> Result<Exposition, EncodeE
     requires { HasBook registry.now }
     // Every book that the registry reads admits the exposition.
     ensures admitted { IfOk result (λ e. (b : _) → Shows registry.now b → Admits (λ m. offers m) (λ m. stamps m) (λ m. may_be_empty m) (order b) e) }
-    // A refusal names a fault that stands there.
+    // A refusal names a fault that the tree has.
     ensures fault { IfErr result (λ k. (k ≡ EncodeError.Memory) ⊎ ((b : _) → Shows registry.now b → Fault k (λ m. offers m) (λ m. stamps m) (λ m. may_fault m) (order b))) }
     ensures not_writing { IfErr result (λ k. ¬ (IsWritersFault k)) }
 {
@@ -92,7 +92,7 @@ pub fn collect(alloc: Global, registry: &Registry) -> Result<Exposition, EncodeE
 /// Writes the document of a registry: renders it in memory while it visits the metrics, and then writes it. No lock is held while
 /// it writes.
 ///
-/// A metric's refusal, and want of memory, write nothing. The writer's error, or its answer of 0, ends the writing with
+/// A metric's refusal, and want of memory, write nothing. The writer's error, or its result 0, ends the writing with
 /// `Write` or `WriteZero`; then a beginning of the document was written. Wrap a file or a socket in a `BufWriter`, and flush it.
 pub fn encode<W: Write>(
     alloc: Global,
@@ -104,7 +104,7 @@ pub fn encode<W: Write>(
     ensures document { OnOk result (WritesAdmitted
         (λ e. (b : _) → Shows registry.now b → Admits (λ m. offers m) (λ m. stamps m) (λ m. may_be_empty m) (order b) e)
         (W.contents writer.old) (W.contents writer.new)) }
-    // A refusal in collecting writes nothing, and names a fault that stands there.
+    // A refusal in collecting writes nothing, and names a fault that the tree has.
     ensures refused { IfErr result (λ k. ¬ (IsWritersFault k) → Keeps (W.contents writer.old) (W.contents writer.new)
         × ((k ≡ EncodeError.Memory) ⊎ ((b : _) → Shows registry.now b → Fault k (λ m. offers m) (λ m. stamps m) (λ m. may_fault m) (order b)))) }
     // A writer's fault leaves a beginning of such a document.

@@ -1,0 +1,38 @@
+//! Families whose labels are pairs of a name and a value that take no memory, such as a text of the program and a number.
+ghost use Rattle.std.specs.Prelude.{◌≡◌, ◌⊎◌, IfOk, IfErr};
+ghost use Rattle.std.specs.Fn.{FnOnceReturnsAt};
+ghost use Rattle.fm_raw.specs.declared.error.MetricError.TheVariants.{Memory};
+ghost use Rattle.fm_family.specs.Members.{ClonesEqual};
+
+use crate::texts::DefaultFamily;
+use fm_encoder::StaticStr;
+use fm_raw::{MetricError, TryDefault};
+use std::hash::Hash;
+use std::sync::Wait;
+
+/// Metrics by `N` pairs of a text of the program and a value of the type `V`, such as a number.
+pub type PairFamily<V, M, H, const N: usize> = DefaultFamily<[(StaticStr, V); N], M, H>;
+
+/// Lends the metric of these labels to `f`, and returns what `f` does. Where there is none, it is made by `try_default` and comes
+/// after the others.
+///
+/// It takes no memory where the metric is there, if its labels take none. Where there is no memory for a new one it returns
+/// `Memory`, and the members are as they were. It waits as `Family::with_or_new` does. A clone of a name and of a value must equal
+/// it, as those of numbers, truth values and `StaticStr` do.
+pub fn with_pairs<
+    K: Clone + Hash + Drop,
+    V: Clone + Hash + Drop,
+    M: TryDefault<H> + Drop,
+    H: Wait + Clone + Drop,
+    R,
+    F: FnOnce(&M) -> R,
+    const N: usize,
+>(family: &DefaultFamily<[(K, V); N], M, H>, labels: &[(K, V); N], f: F) -> Result<R, MetricError>
+    requires callable { F.IsAlwaysCallable f }
+    requires names { ClonesEqual K.is_clone K.eq }
+    requires values { ClonesEqual V.is_clone V.eq }
+    ensures called { IfOk result (λ r. (metric : M) × FnOnceReturnsAt F.FnOnce f metric r) }
+    ensures refused { IfErr result (λ e. (e ≡ Memory) ⊎ M.may_refuse e) }
+{
+    family.with_or_new(labels, f)
+}

@@ -1,0 +1,24 @@
+//! Families by pairs of a name of the program and a value.
+
+use fastmetrics::encoder::StaticStr;
+use fastmetrics::metrics::family::{PairFamily, with_pairs};
+use fastmetrics::metrics::gauge::Gauge;
+use fastmetrics::raw::TryDefault;
+use fm_test_support::support::lines_of;
+use std::test::Fail;
+
+#[test]
+fn members_by_numbers(rt: HostRuntime) -> Result<(), Fail> {
+    let alloc = rt.alloc();
+    let levels = PairFamily::<u64, Gauge, _, 2>::try_default(rt, alloc)?;
+    for (status, before) in [(200, 0), (404, 0), (200, 1)] {
+        let labels = [(StaticStr("status"), status), (StaticStr("shard"), 7)];
+        let level = with_pairs(&levels, &labels, |level| level.inc())?;
+        assert_eq!(rt; level, before);
+    }
+    assert_eq!(rt;
+        lines_of(alloc, Box::new(alloc, levels)?)?.as_str(),
+        "t{status=\"200\",shard=\"7\"} 2\nt{status=\"404\",shard=\"7\"} 1\n# EOF\n"
+    );
+    Ok(())
+}
