@@ -1,1 +1,2 @@
+pub mod IgnoredLemmas
 pub mod ReplyLemmas

@@ -1,5 +1,5 @@
-//! The states of a job, which state sets of the tests have.
-ghost use Rattle.std.specs.Prelude.{◌≡◌, [], ◌∷◌, codes};
+//! The states of a job, which state sets of the tests have, and as many states as there may be.
+ghost use Rattle.std.specs.Prelude.{◌≡◌, [], ◌∷◌, codes, replicate};
 ghost use Rattle.fm_test_support.specs.declared.jobs.Job.TheVariants.{Pending, Running, Completed, Failed};
 
 use fastmetrics::metrics::state_set::StateSetValue;
@@ -43,5 +43,45 @@ impl Default for Job {
 
     fn default() -> Job {
         Job::Pending
+    }
+}
+
+/// As many states as a state set may have, which are all equal.
+#[derive(Clone, Copy, PartialEq, Eq, Debug)]
+pub struct Alike;
+
+/// One state more than a state set may have.
+#[derive(Clone, Copy, PartialEq, Eq, Debug)]
+pub struct OneMore;
+
+static MOST: [Alike; 256] = [Alike; 256];
+
+static TOO_MANY: [OneMore; 257] = [OneMore; 257];
+
+impl StateSetValue for Alike {
+    ghost all = { replicate 256 record {} };
+
+    ghost text = { λ _. codes "x" };
+
+    fn variants() -> &'static [Alike] {
+        &MOST
+    }
+
+    fn as_str(&self) -> &str {
+        "x"
+    }
+}
+
+impl StateSetValue for OneMore {
+    ghost all = { replicate 257 record {} };
+
+    ghost text = { λ _. codes "x" };
+
+    fn variants() -> &'static [OneMore] {
+        &TOO_MANY
+    }
+
+    fn as_str(&self) -> &str {
+        "x"
     }
 }

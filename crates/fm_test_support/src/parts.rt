@@ -55,6 +55,21 @@ impl EncodeLabelSet for HalfAndTrue {
     }
 }
 
+/// Which version runs.
+#[derive(Drop)]
+pub struct Version {
+    /// Its text.
+    pub text: &'static str,
+}
+
+impl EncodeLabelSet for Version {
+    ghost labels = { λ version. (NamePiece (codes "v") ∷ ValuePiece version.text.now ∷ []) ∷ [] };
+
+    fn encode(&self, encoder: &mut LabelSetEncoder) -> Result<(), EncodeError> {
+        encoder.encode(&(LabelStr("v"), LabelStr(self.text)))
+    }
+}
+
 /// A label that hands over its value before its name.
 #[derive(Drop)]
 pub struct ValueFirst(pub &'static str);

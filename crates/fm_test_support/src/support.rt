@@ -110,8 +110,8 @@ pub fn document_of(alloc: Global, registry: &Registry) -> Result<String, Fail>
     Ok(document)
 }
 
-// Fails where a text is not the wanted one.
-fn expect_text(text: &str, want: &str) -> Result<(), Fail> {
+/// Fails where a text is not the wanted one.
+pub fn expect_text(text: &str, want: &str) -> Result<(), Fail> {
     if text == want {
         Ok(())
     } else {

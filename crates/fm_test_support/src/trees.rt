@@ -97,16 +97,25 @@ pub fn refuses(
     }
 }
 
-/// Whether the answer at this place is this refusal.
-pub fn is_refused(
+/// Whether all answers but the one at this index are `Ok`, and that one is the refusal with this number, which names this
+/// text.
+pub fn are_accepted_but(
     answers: &[Result<(), RegistryError>],
-    place: usize,
-    refusal: &RegistryError,
+    index: usize,
+    number: u8,
+    text: &str,
 ) -> bool {
-    match answers.get(place) {
-        Some(Err(error)) => *error == *refusal,
-        _ => false,
+    refuses(answers, index, number, text)
+        && answers.iter().filter(|answer| answer.is_err()).count() == 1
+}
+
+/// The path that goes down so often, from one subsystem to another of the same name.
+pub fn path_down(alloc: Global, name: &str, depth: usize) -> Result<Vec<String>, AllocError> {
+    let mut path = Vec::new(alloc);
+    for _ in 0..depth {
+        path.push(String::from_str(alloc, name)?)?;
     }
+    Ok(path)
 }
 
 /// The call that registers a metric with the help `H` at the end of a path.
@@ -193,7 +202,31 @@ pub fn register(
     register_with(alloc, registry, name, "H", None, metric)
 }
 
-/// Registers a metric in a subsystem, which is made where it is not there.
+/// Registers a metric with this help in a subsystem, which is made where it is not there.
+pub fn register_below_with(
+    alloc: Global,
+    registry: &mut Registry,
+    below: &str,
+    name: &str,
+    help: &str,
+    metric: Box<dyn EncodeMetric>,
+) -> Result<(), RegistryError>
+    requires { HasBook registry.old }
+    ensures { HasBook registry.new }
+{
+    let (Ok(below), Ok(name), Ok(help)) = (
+        String::from_str(alloc, below),
+        String::from_str(alloc, name),
+        String::from_str(alloc, help),
+    ) else {
+        return Err(RegistryError::Memory);
+    };
+    registry
+        .subsystem(alloc, below)?
+        .register(alloc, name, help, metric)
+}
+
+/// Registers a metric with the help `H` in a subsystem, which is made where it is not there.
 pub fn register_below(
     alloc: Global,
     registry: &mut Registry,
@@ -204,16 +237,7 @@ pub fn register_below(
     requires { HasBook registry.old }
     ensures { HasBook registry.new }
 {
-    let (Ok(below), Ok(name), Ok(help)) = (
-        String::from_str(alloc, below),
-        String::from_str(alloc, name),
-        String::from_str(alloc, "H"),
-    ) else {
-        return Err(RegistryError::Memory);
-    };
-    registry
-        .subsystem(alloc, below)?
-        .register(alloc, name, help, metric)
+    register_below_with(alloc, registry, below, name, "H", metric)
 }
 
 /// Sees that there is a subsystem, by its builder.

@@ -3,34 +3,11 @@ ghost use Rattle.fm_registry.specs.HasBook.{HasBook};
 
 use fastmetrics::encoder::EncodeMetric;
 use fastmetrics::format::text::{EncodeError, collect, encode};
-use fastmetrics::registry::{Registry, RegistryError};
-use fm_test_support::support::document_of;
-use fm_test_support::trees::build_below;
+use fastmetrics::registry::Registry;
+use fm_test_support::support::{document_of, expect_text};
+use fm_test_support::trees::{build_below, register_below_with};
 use std::alloc::Global;
 use std::test::Fail;
-
-// Registers a metric with this help in `sub`.
-fn register_beneath(
-    alloc: Global,
-    registry: &mut Registry,
-    name: &str,
-    help: &str,
-    metric: Box<dyn EncodeMetric>,
-) -> Result<(), RegistryError>
-    requires { HasBook registry.old }
-    ensures { HasBook registry.new }
-{
-    let (Ok(below), Ok(name), Ok(help)) = (
-        String::from_str(alloc, "sub"),
-        String::from_str(alloc, name),
-        String::from_str(alloc, help),
-    ) else {
-        return Err(RegistryError::Memory);
-    };
-    registry
-        .subsystem(alloc, below)?
-        .register(alloc, name, help, metric)
-}
 
 /// The document of a metric with this help beneath a subsystem of these labels.
 pub(crate) fn document_with_help(
@@ -42,7 +19,7 @@ pub(crate) fn document_with_help(
 ) -> Result<String, Fail> {
     let mut registry = Registry::default();
     build_below(alloc, &mut registry, "sub", pairs)?;
-    register_beneath(alloc, &mut registry, name, help, metric)?;
+    register_below_with(alloc, &mut registry, "sub", name, help, metric)?;
     document_of(alloc, &registry)
 }
 
@@ -55,37 +32,57 @@ pub(crate) fn document_beneath(
     document_with_help(alloc, &[("k", "v")], name, "H", metric)
 }
 
-// Why a registry is refused, by `encode` and by `collect`. A refusal writes nothing.
-fn refusal_of(alloc: Global, registry: &Registry) -> Result<EncodeError, Fail>
+/// Fails where this is not the document of a metric with the help `H` beneath such a subsystem.
+pub(crate) fn expect_beneath(
+    alloc: Global,
+    name: &str,
+    metric: Box<dyn EncodeMetric>,
+    want: &str,
+) -> Result<(), Fail> {
+    let document = document_beneath(alloc, name, metric)?;
+    expect_text(document.as_str(), want)
+}
+
+/// Fails where a registry is not refused by this error, by `encode` and by `collect`, or where a refusal wrote something.
+pub(crate) fn expect_refused(
+    alloc: Global,
+    registry: &Registry,
+    want: EncodeError,
+) -> Result<(), Fail>
     requires { HasBook registry.now }
 {
     let mut bytes = b"before\n".to_vec(alloc)?;
     let Err(error) = encode(alloc, &mut bytes, registry) else {
         return Err(Fail::new("it was not refused"));
     };
-    if collect(alloc, registry).err() != Some(error) || bytes.as_slice() != b"before\n".as_slice() {
-        return Err(Fail::new("a refusal wrote something, or came in two ways"));
+    if error != want || bytes.as_slice() != b"before\n".as_slice() {
+        return Err(Fail::new(format_args!("it was refused by {error}, or something was written")));
     }
-    Ok(error)
+    match collect(alloc, registry) {
+        Err(error) if error == want => Ok(()),
+        _ => Err(Fail::new("collecting was not refused so")),
+    }
 }
 
-/// Why a metric beneath a subsystem of this label is refused.
-pub(crate) fn refusal_under(
+/// Fails where a metric beneath a subsystem of this label is not refused by this error.
+pub(crate) fn expect_refusal_under(
     alloc: Global,
     label: (&str, &str),
     name: &str,
     metric: Box<dyn EncodeMetric>,
-) -> Result<EncodeError, Fail> {
+    want: EncodeError,
+) -> Result<(), Fail> {
     let mut registry = Registry::default();
     build_below(alloc, &mut registry, "sub", &[label])?;
-    register_beneath(alloc, &mut registry, name, "H", metric)?;
-    refusal_of(alloc, &registry)
+    register_below_with(alloc, &mut registry, "sub", name, "H", metric)?;
+    expect_refused(alloc, &registry, want)
 }
 
-/// Why a metric beneath a subsystem with the label `k` is refused.
-pub(crate) fn refusal_beneath(
+/// Fails where a metric beneath a subsystem with the label `k` is not refused by this error.
+pub(crate) fn expect_refusal_beneath(
     alloc: Global,
     metric: Box<dyn EncodeMetric>,
-) -> Result<EncodeError, Fail> {
-    refusal_under(alloc, ("k", "v"), "t", metric)
+    want: EncodeError,
+) -> Result<(), Fail> {
+    expect_refusal_under(alloc, ("k", "v"), "t", metric, want)
 }

@@ -1,15 +1,12 @@
 //! Snapshots that count 2^64 - 1 values.
 
-use crate::beneath::document_beneath;
+use crate::beneath::expect_beneath;
 use fastmetrics::metrics::gauge_histogram::GaugeHistogramSnapshot;
 use fastmetrics::metrics::histogram::HistogramSnapshot;
 use fastmetrics::raw::{Fixed, MetricError};
+use fm_test_support::histograms::{expect_sum, whole};
 use std::alloc::Global;
 use std::test::Fail;
-
-fn whole(n: i8) -> Fixed {
-    Fixed::from_millionths(i64::from(n) * 1_000_000)
-}
 
 // The snapshot of one value, by the bound 1.
 fn one_value(alloc: Global, value: Fixed) -> Result<HistogramSnapshot, MetricError> {
@@ -29,36 +26,42 @@ fn full(alloc: Global, value: Fixed) -> Result<HistogramSnapshot, MetricError> {
     Ok(all)
 }
 
+// Whether a full snapshot refuses a value and a merge, and takes a negative value, which it does not count.
+fn counts_no_more(all: &mut HistogramSnapshot, one: &HistogramSnapshot) -> bool {
+    all.observe(whole(1)) == Err(MetricError::CountFull)
+        && all.merge(one) == Err(MetricError::CountFull)
+        && all.observe(whole(-1)).is_ok()
+}
+
+// Whether two snapshots have the same count, sum and buckets.
+fn are_same(all: &HistogramSnapshot, other: &HistogramSnapshot) -> bool {
+    all.count() == other.count() && all.sum() == other.sum() && all.buckets() == other.buckets()
+}
+
 #[test]
 fn full_histogram(rt: HostRuntime) -> Result<(), Fail> {
     let alloc = rt.alloc();
+    let one = one_value(alloc, whole(1))?;
     let mut all = full(alloc, whole(1))?;
     let before = all.clone()?;
-    assert_eq!(rt; all.count(), 18446744073709551615);
-    assert_eq!(rt; all.observe(whole(1)), Err(MetricError::CountFull));
-    let one = one_value(alloc, whole(1))?;
-    assert_eq!(rt; all.merge(&one), Err(MetricError::CountFull));
-    assert_eq!(rt; all.observe(whole(-1)), Ok(()));
-    assert_eq!(rt; (all.count(), all.sum()), (before.count(), before.sum()));
-    assert_eq!(rt; all.buckets(), before.buckets());
-    let mut text = String::new(alloc);
-    all.sum().write_text(&mut text)?;
-    assert_eq!(rt; text.as_str(), "18446744073709551615.0");
-    Ok(())
+    assert!(rt; all.count() == 18446744073709551615);
+    assert!(rt; counts_no_more(&mut all, &one));
+    assert!(rt; are_same(&all, &before));
+    expect_sum(alloc, all.sum(), "18446744073709551615.0")
 }
 
 #[test]
 fn document_of_a_full_histogram(rt: HostRuntime) -> Result<(), Fail> {
     let alloc = rt.alloc();
-    let all = Box::new(alloc, full(alloc, whole(1))?)?;
-    assert_eq!(rt;
-        document_beneath(alloc, "h", all)?.as_str(),
+    expect_beneath(
+        alloc,
+        "h",
+        Box::new(alloc, full(alloc, whole(1))?)?,
         "# TYPE sub_h histogram\n# HELP sub_h H\n\
          sub_h_bucket{k=\"v\",le=\"1.0\"} 18446744073709551615\n\
          sub_h_bucket{k=\"v\",le=\"+Inf\"} 18446744073709551615\n\
-         sub_h_count{k=\"v\"} 18446744073709551615\nsub_h_sum{k=\"v\"} 18446744073709551615.0\n# EOF\n"
-    );
-    Ok(())
+         sub_h_count{k=\"v\"} 18446744073709551615\nsub_h_sum{k=\"v\"} 18446744073709551615.0\n# EOF\n",
+    )
 }
 
 // The snapshot of one value of a gauge histogram, by the bound 1.
@@ -79,23 +82,46 @@ fn full_gauge(alloc: Global, value: Fixed) -> Result<GaugeHistogramSnapshot, Met
     Ok(all)
 }
 
+// Whether a full snapshot refuses a value of either sign, and a merge.
+fn gauge_counts_no_more(all: &mut GaugeHistogramSnapshot, one: &GaugeHistogramSnapshot) -> bool {
+    all.observe(whole(1)) == Err(MetricError::CountFull)
+        && all.observe(whole(-1)) == Err(MetricError::CountFull)
+        && all.merge(one) == Err(MetricError::CountFull)
+}
+
+// Whether two snapshots have the same count, sum and buckets.
+fn are_same_gauge(all: &GaugeHistogramSnapshot, other: &GaugeHistogramSnapshot) -> bool {
+    all.gcount() == other.gcount() && all.gsum() == other.gsum() && all.buckets() == other.buckets()
+}
+
 #[test]
 fn full_gauge_histogram(rt: HostRuntime) -> Result<(), Fail> {
     let alloc = rt.alloc();
+    let one = one_gauge_value(alloc, whole(1))?;
     let mut all = full_gauge(alloc, Fixed::from_millionths(-9223372036854775808))?;
     let before = all.clone()?;
-    assert_eq!(rt; all.gcount(), 18446744073709551615);
-    assert_eq!(rt; all.observe(whole(1)), Err(MetricError::CountFull));
-    assert_eq!(rt; all.observe(whole(-1)), Err(MetricError::CountFull));
-    let one = one_gauge_value(alloc, whole(1))?;
-    assert_eq!(rt; all.merge(&one), Err(MetricError::CountFull));
-    assert_eq!(rt;
-        (all.gcount(), all.gsum()),
-        (before.gcount(), before.gsum())
-    );
-    assert_eq!(rt; all.buckets(), before.buckets());
-    let mut text = String::new(alloc);
-    all.gsum().write_text(&mut text)?;
-    assert_eq!(rt; text.as_str(), "-170141183460469231722463931679029.32992");
-    Ok(())
+    assert!(rt; all.gcount() == 18446744073709551615);
+    assert!(rt; gauge_counts_no_more(&mut all, &one));
+    assert!(rt; are_same_gauge(&all, &before));
+    expect_sum(
+        alloc,
+        all.gsum(),
+        "-170141183460469231722463931679029.32992",
+    )
+}
+
+#[test]
+fn document_of_a_full_gauge_histogram(rt: HostRuntime) -> Result<(), Fail> {
+    let alloc = rt.alloc();
+    let all = full_gauge(alloc, Fixed::from_millionths(-9223372036854775808))?;
+    expect_beneath(
+        alloc,
+        "h",
+        Box::new(alloc, all)?,
+        "# TYPE sub_h gaugehistogram\n# HELP sub_h H\n\
+         sub_h_bucket{k=\"v\",le=\"1.0\"} 18446744073709551615\n\
+         sub_h_bucket{k=\"v\",le=\"+Inf\"} 18446744073709551615\n\
+         sub_h_gcount{k=\"v\"} 18446744073709551615\n\
+         sub_h_gsum{k=\"v\"} -170141183460469231722463931679029.32992\n# EOF\n",
+    )
 }

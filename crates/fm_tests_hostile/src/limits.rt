@@ -1,25 +1,16 @@
 //! The deepest registries beneath a subsystem with labels, and the most states there.
-ghost use Rattle.std.specs.Prelude.{codes, replicate};
 
-use crate::beneath::{document_beneath, refusal_under};
+use crate::beneath::{document_beneath, expect_refusal_under};
 use fastmetrics::encoder::EncodeMetric;
 use fastmetrics::format::text::EncodeError;
-use fastmetrics::metrics::state_set::{ConstStateSet, StateSet, StateSetValue};
+use fastmetrics::metrics::state_set::{ConstStateSet, StateSet};
 use fastmetrics::raw::MetricError;
-use fastmetrics::registry::{Registry, RegistryCall, RegistryError};
+use fastmetrics::registry::{Registry, RegistryCall};
+use fm_test_support::jobs::{Alike, OneMore};
 use fm_test_support::support::document_of;
-use fm_test_support::trees::{gauge, is_refused, labels};
+use fm_test_support::trees::{are_accepted_but, gauge, labels, path_down};
 use std::alloc::{AllocError, Global};
 use std::test::Fail;
-
-// The path that goes down so often.
-fn path_down(alloc: Global, depth: usize) -> Result<Vec<String>, AllocError> {
-    let mut path = Vec::new(alloc);
-    for _ in 0..depth {
-        path.push(String::from_str(alloc, "s")?)?;
-    }
-    Ok(path)
-}
 
 // The labels of the subsystem at this depth: the first has one.
 fn labels_at(alloc: Global, depth: usize) -> Result<Vec<(String, String)>, AllocError> {
@@ -35,7 +26,7 @@ fn one_in_another(alloc: Global, count: usize) -> Result<Vec<RegistryCall>, Allo
     let mut calls = Vec::new(alloc);
     for depth in 0..count {
         calls.push(RegistryCall::Subsystem {
-            path: path_down(alloc, depth)?,
+            path: path_down(alloc, "s", depth)?,
             name: String::from_str(alloc, "s")?,
             labels: labels_at(alloc, depth)?,
         })?;
@@ -47,7 +38,7 @@ fn one_in_another(alloc: Global, count: usize) -> Result<Vec<RegistryCall>, Allo
 fn deepest_gauge(alloc: Global) -> Result<RegistryCall, AllocError> {
     let metric: Box<dyn EncodeMetric> = gauge(alloc, 5)?;
     Ok(RegistryCall::Register {
-        path: path_down(alloc, 64)?,
+        path: path_down(alloc, "s", 64)?,
         name: String::from_str(alloc, "g")?,
         help: String::from_str(alloc, "H")?,
         unit: None,
@@ -55,81 +46,50 @@ fn deepest_gauge(alloc: Global) -> Result<RegistryCall, AllocError> {
     })
 }
 
+// Whether a document ends with the deepest gauge.
+fn ends_with_the_gauge(document: &str) -> bool {
+    document.ends_with("_s_s_s_g{k=\"v\"} 5\n# EOF\n") && document.matches("s_").count() == 3 * 64
+}
+
 #[test]
 fn deepest_registries(rt: HostRuntime) -> Result<(), Fail> {
     let alloc = rt.alloc();
-    let mut registry = Registry::default();
     let mut calls = one_in_another(alloc, 65)?;
     calls.push(deepest_gauge(alloc)?)?;
+    let mut registry = Registry::default();
     let answers = registry.run(alloc, calls)?;
-    let accepted = answers.iter().filter(|answer| answer.is_ok()).count();
-    assert_eq!(rt; (accepted, answers.len()), (65, 66));
-    let name = String::from_str(alloc, "s")?;
-    assert!(rt; is_refused(&answers, 64, &RegistryError::TooDeep { name }));
+    assert!(rt; answers.len() == 66 && are_accepted_but(&answers, 64, 11, "s"));
     let document = document_of(alloc, &registry)?;
-    assert!(rt; document.as_str().ends_with("_s_s_s_g{k=\"v\"} 5\n# EOF\n"));
-    assert_eq!(rt; document.as_str().matches("s_").count(), 3 * 64);
+    assert!(rt; ends_with_the_gauge(document.as_str()));
     Ok(())
 }
 
-// Two types whose states are all equal: one with the most states that a state set may have, and one with another state.
-#[derive(Clone, Copy, PartialEq, Eq, Debug)]
-struct Alike;
-
-#[derive(Clone, Copy, PartialEq, Eq, Debug)]
-struct OneMore;
-
-static MOST: [Alike; 256] = [Alike; 256];
-
-static TOO_MANY: [OneMore; 257] = [OneMore; 257];
-
-impl StateSetValue for Alike {
-    ghost all = { replicate 256 record {} };
-
-    ghost text = { λ _. codes "x" };
-
-    fn variants() -> &'static [Alike] {
-        &MOST
-    }
-
-    fn as_str(&self) -> &str {
-        "x"
-    }
-}
-
-impl StateSetValue for OneMore {
-    ghost all = { replicate 257 record {} };
-
-    ghost text = { λ _. codes "x" };
-
-    fn variants() -> &'static [OneMore] {
-        &TOO_MANY
-    }
-
-    fn as_str(&self) -> &str {
-        "x"
-    }
+// Whether a document has 256 states, of which the first is the current one.
+fn has_most_states(document: &str) -> bool {
+    document.starts_with("# TYPE sub_s stateset\n# HELP sub_s H\nsub_s{k=\"v\",sub_s=\"x\"} 1\n")
+        && document.matches("sub_s{k=\"v\",").count() == 256
 }
 
 #[test]
 fn most_states(rt: HostRuntime) -> Result<(), Fail> {
     let alloc = rt.alloc();
     let most = Box::new(alloc, ConstStateSet::new(alloc, Alike)?)?;
-    assert_eq!(rt;
-        refusal_under(alloc, ("sub_s", "v"), "s", most)?,
-        EncodeError::DuplicateLabel
-    );
-    let most = Box::new(alloc, ConstStateSet::new(alloc, Alike)?)?;
     let document = document_beneath(alloc, "s", most)?;
-    assert!(rt;
-        document.as_str().starts_with(
-            "# TYPE sub_s stateset\n# HELP sub_s H\nsub_s{k=\"v\",sub_s=\"x\"} 1\n"
-        )
-    );
-    assert_eq!(rt; document.as_str().matches("sub_s{k=\"v\",").count(), 256);
-    assert_eq!(rt;
-        StateSet::new(alloc, OneMore).err(),
-        Some(MetricError::TooManyStates)
-    );
+    assert!(rt; has_most_states(document.as_str()));
+    Ok(())
+}
+
+#[test]
+fn most_states_named_as_a_label(rt: HostRuntime) -> Result<(), Fail> {
+    let alloc = rt.alloc();
+    let most = Box::new(alloc, ConstStateSet::new(alloc, Alike)?)?;
+    expect_refusal_under(
+        alloc,
+        ("sub_s", "v"),
+        "s",
+        most,
+        EncodeError::DuplicateLabel,
+    )?;
+    assert!(rt; StateSet::new(alloc, OneMore).err() == Some(MetricError::TooManyStates));
     Ok(())
 }

@@ -2,61 +2,54 @@
 
 use fastmetrics::metrics::histogram::{Bound, Histogram, HistogramSnapshot};
 use fastmetrics::raw::{Fixed, TryDefault};
-use std::alloc::{AllocError, Global};
 use std::test::Fail;
 use std::time::Duration;
 
-// The bounds in millionths, without the last, and whether that one is `Inf`.
-fn bounds_of(alloc: Global, all: &HistogramSnapshot) -> Result<(Vec<i64>, bool), AllocError> {
-    let mut bounds = Vec::new(alloc);
-    let mut ends = false;
-    for bucket in all.buckets() {
-        match bucket.upper_bound() {
-            Bound::Finite(bound) => bounds.push(bound.millionths())?,
-            Bound::Inf => ends = true,
-        }
+// Whether the last bound is `Inf`.
+fn ends_with_inf(all: &HistogramSnapshot) -> bool {
+    match all.buckets().last() {
+        Some(last) => last.upper_bound() == Bound::Inf,
+        None => false,
     }
-    Ok((bounds, ends))
+}
+
+// Whether these are the bounds in millionths, and one more, which is `Inf`.
+fn has_bounds(all: &HistogramSnapshot, millionths: &[i64]) -> bool {
+    all.buckets().len() == millionths.len() + 1
+        && ends_with_inf(all)
+        && all.buckets().iter().zip(millionths).all(|(bucket, bound)| {
+            bucket.upper_bound() == Bound::Finite(Fixed::from_millionths(*bound))
+        })
 }
 
 #[test]
 fn bounds_with_a_time_of_creation(rt: HostRuntime) -> Result<(), Fail> {
-    let alloc = rt.alloc();
     let given = [Fixed::from_millionths(2500000), Fixed::ONE];
     let since = Duration::from_secs(7);
-    let sizes = Histogram::with_created(rt, alloc, given.iter().copied(), since)?;
-    let (bounds, ends) = sizes.with_snapshot(|all| bounds_of(alloc, all))?;
-    assert_eq!(rt; bounds.as_slice(), [1000000i64, 2500000].as_slice());
-    assert!(rt; ends);
-    assert_eq!(rt; sizes.created(), Some(since));
+    let sizes = Histogram::with_created(rt, rt.alloc(), given.iter().copied(), since)?;
+    assert!(rt; sizes.with_snapshot(|all| has_bounds(all, &[1000000, 2500000])));
+    assert!(rt; sizes.created() == Some(since));
     Ok(())
 }
 
 #[test]
 fn bounds_without_a_time_of_creation(rt: HostRuntime) -> Result<(), Fail> {
-    let alloc = rt.alloc();
     let given = [Fixed::from_millionths(2500000), Fixed::ONE];
-    let sizes = Histogram::new(rt, alloc, given.iter().copied())?;
-    let (bounds, ends) = sizes.with_snapshot(|all| bounds_of(alloc, all))?;
-    assert_eq!(rt; bounds.as_slice(), [1000000i64, 2500000].as_slice());
-    assert!(rt; ends);
-    assert_eq!(rt; sizes.created(), None);
+    let sizes = Histogram::new(rt, rt.alloc(), given.iter().copied())?;
+    assert!(rt; sizes.with_snapshot(|all| has_bounds(all, &[1000000, 2500000])));
+    assert!(rt; sizes.created().is_none());
     Ok(())
 }
 
+const DEFAULTS: [i64; 11] = [
+    5000, 10000, 25000, 50000, 100000, 250000, 500000, 1000000, 2500000, 5000000, 10000000,
+];
+
 #[test]
 fn default_bounds(rt: HostRuntime) -> Result<(), Fail> {
-    let alloc = rt.alloc();
-    let wanted = [
-        5000i64, 10000, 25000, 50000, 100000, 250000, 500000, 1000000, 2500000, 5000000, 10000000,
-    ];
-    let sizes = Histogram::try_default(rt, alloc)?;
-    let (bounds, ends) = sizes.with_snapshot(|all| bounds_of(alloc, all))?;
-    assert_eq!(rt; bounds.as_slice(), wanted.as_slice());
-    assert!(rt; ends);
-    let snapshot = HistogramSnapshot::try_default(rt, alloc)?;
-    let (bounds, ends) = bounds_of(alloc, &snapshot)?;
-    assert_eq!(rt; bounds.as_slice(), wanted.as_slice());
-    assert!(rt; ends);
+    let sizes = Histogram::try_default(rt, rt.alloc())?;
+    assert!(rt; sizes.with_snapshot(|all| has_bounds(all, &DEFAULTS)));
+    let snapshot = HistogramSnapshot::try_default(rt, rt.alloc())?;
+    assert!(rt; has_bounds(&snapshot, &DEFAULTS));
     Ok(())
 }

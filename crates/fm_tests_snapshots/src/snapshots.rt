@@ -5,147 +5,137 @@ use fastmetrics::metrics::histogram::{
     Bound, Bucket, Histogram, HistogramSnapshot, default_buckets,
 };
 use fastmetrics::raw::{Fixed, FixedSum, MetricError, TryDefault};
-use std::alloc::{AllocError, Global};
+use fm_test_support::histograms::{expect_observed, expect_observed_gauge, have_counts, whole};
+use std::alloc::Global;
 use std::sync::Wait;
 use std::test::Fail;
 use std::thread;
 use std::time::Duration;
 
-const ONE: i64 = 1_000_000;
-
-fn whole(n: i8) -> Fixed {
-    Fixed::from_millionths(i64::from(n) * ONE)
+// The snapshot of these values by these bounds.
+fn observed(
+    alloc: Global,
+    bounds: &[Fixed],
+    values: &[i16],
+) -> Result<HistogramSnapshot, MetricError> {
+    let mut all = HistogramSnapshot::new(alloc, bounds.iter().copied())?;
+    for value in values {
+        all.observe(whole(*value))?;
+    }
+    Ok(all)
 }
 
-fn counts(alloc: Global, buckets: &[Bucket]) -> Result<Vec<u64>, AllocError> {
-    buckets.iter().map(|b| b.count()).collect(alloc)
+// Bounds in no order, with one twice.
+fn five_bounds() -> [Fixed; 5] {
+    [whole(5), whole(1), whole(2), whole(-1), whole(1)]
+}
+
+// The snapshot of six values by such bounds.
+fn six_values(alloc: Global) -> Result<HistogramSnapshot, MetricError> {
+    observed(alloc, &five_bounds(), &[1, 2, 3, 6, -1, 0])
+}
+
+// Such a snapshot, merged with a clone of an empty one that has observed 5.
+fn merged(alloc: Global) -> Result<HistogramSnapshot, MetricError> {
+    let mut all = six_values(alloc)?;
+    let mut other = observed(alloc, &five_bounds(), &[])?.clone()?;
+    other.observe(whole(5))?;
+    all.merge(&other)?;
+    Ok(all)
 }
 
 #[test]
 fn counts_by_bounds(rt: HostRuntime) -> Result<(), Fail> {
+    let all = six_values(rt.alloc())?;
+    assert!(rt; all.buckets().last() == Some(&Bucket::new(Bound::Inf, 1)));
+    expect_observed(&all, &[2, 1, 1, 1], 5, FixedSum::from(whole(12)))
+}
+
+#[test]
+fn counts_of_two_snapshots(rt: HostRuntime) -> Result<(), Fail> {
+    let all = merged(rt.alloc())?;
+    expect_observed(&all, &[2, 1, 2, 1], 6, FixedSum::from(whole(17)))
+}
+
+// Whether another snapshot is not merged into this one for this reason, and this one keeps its count.
+fn is_not_merged(
+    all: &mut HistogramSnapshot,
+    other: &HistogramSnapshot,
+    error: MetricError,
+    count: u64,
+) -> bool {
+    all.merge(other) == Err(error) && all.count() == count
+}
+
+#[test]
+fn other_bounds_are_not_merged(rt: HostRuntime) -> Result<(), Fail> {
     let alloc = rt.alloc();
-    let bounds = [whole(5), whole(1), whole(2), whole(-1), whole(1)];
-    let mut all = HistogramSnapshot::new(alloc, bounds.iter().copied())?;
-    let mut other = all.clone()?;
-    for value in [
-        whole(1),
-        whole(2),
-        whole(3),
-        whole(6),
-        whole(-1),
-        Fixed::ZERO,
-    ] {
-        all.observe(value)?;
-    }
-    assert_eq!(rt;
-        counts(alloc, all.buckets())?.as_slice(),
-        [2, 1, 1, 1].as_slice()
-    );
-    assert_eq!(rt; (all.count(), all.sum()), (5, FixedSum::from(whole(12))));
-    let last = all.buckets().last().copied();
-    assert_eq!(rt; last, Some(Bucket::new(Bound::Inf, 1)));
-    other.observe(whole(5))?;
-    all.merge(&other)?;
-    assert_eq!(rt;
-        counts(alloc, all.buckets())?.as_slice(),
-        [2, 1, 2, 1].as_slice()
-    );
-    assert_eq!(rt; (all.count(), all.sum()), (6, FixedSum::from(whole(17))));
+    let mut all = merged(alloc)?;
     let defaults = HistogramSnapshot::new(alloc, default_buckets().iter().copied())?;
-    assert_eq!(rt; defaults.buckets().len(), 12);
-    assert_eq!(rt; all.merge(&defaults), Err(MetricError::UnequalBounds));
-    assert_eq!(rt; all.count(), 6);
+    assert!(rt; is_not_merged(&mut all, &defaults, MetricError::UnequalBounds, 6));
+    assert!(rt; defaults.buckets().len() == 12);
     Ok(())
 }
 
 #[test]
 fn counts_of_a_hundred(rt: HostRuntime) -> Result<(), Fail> {
-    let alloc = rt.alloc();
     let bounds = [whole(1), whole(2), whole(4), whole(8), whole(16)];
-    let mut all = HistogramSnapshot::new(alloc, bounds.iter().copied())?;
+    let mut all = HistogramSnapshot::new(rt.alloc(), bounds.iter().copied())?;
     for n in 1..101 {
         all.observe(whole(n))?;
     }
-    assert_eq!(rt;
-        counts(alloc, all.buckets())?.as_slice(),
-        [1, 1, 2, 4, 8, 84].as_slice()
-    );
+    assert!(rt; have_counts(all.buckets(), &[1, 1, 2, 4, 8, 84]));
     Ok(())
 }
 
-// The snapshot of these values by the bounds 1 and 2.
-fn observed(alloc: Global, values: &[Fixed]) -> Result<HistogramSnapshot, MetricError> {
+// The snapshot of the first values by the bounds 1 and 2, merged with that of the second.
+fn both(alloc: Global, first: &[i16], second: &[i16]) -> Result<HistogramSnapshot, MetricError> {
     let bounds = [whole(1), whole(2)];
-    let mut all = HistogramSnapshot::new(alloc, bounds.iter().copied())?;
-    for value in values {
-        all.observe(*value)?;
-    }
+    let mut all = observed(alloc, &bounds, first)?;
+    all.merge(&observed(alloc, &bounds, second)?)?;
     Ok(all)
 }
 
 #[test]
 fn merges_in_either_order(rt: HostRuntime) -> Result<(), Fail> {
     let alloc = rt.alloc();
-    let three = [whole(1), whole(2), whole(3)];
-    let twos = [whole(2), whole(2)];
+    let (three, twos) = ([1, 2, 3], [2, 2]);
     for (first, second) in [(three.as_slice(), twos.as_slice()), (&twos, &three)] {
-        let mut all = observed(alloc, first)?;
-        all.merge(&observed(alloc, second)?)?;
-        assert_eq!(rt;
-            counts(alloc, all.buckets())?.as_slice(),
-            [1, 3, 1].as_slice()
-        );
-        assert_eq!(rt; (all.count(), all.sum()), (5, FixedSum::from(whole(10))));
+        let all = both(alloc, first, second)?;
+        expect_observed(&all, &[1, 3, 1], 5, FixedSum::from(whole(10)))?;
+    }
+    Ok(())
+}
+
+// Doubles a snapshot 63 times.
+fn double(all: &mut HistogramSnapshot) -> Result<(), MetricError> {
+    for _ in 0..63u8 {
+        let same = all.clone()?;
+        all.merge(&same)?;
     }
     Ok(())
 }
 
 #[test]
 fn counts_stop_at_the_greatest(rt: HostRuntime) -> Result<(), Fail> {
-    let mut all = HistogramSnapshot::new(rt.alloc(), [].iter().copied())?;
-    all.observe(whole(1))?;
-    for _ in 0..63u8 {
-        let same = all.clone()?;
-        all.merge(&same)?;
-    }
+    let mut all = observed(rt.alloc(), &[], &[1])?;
+    double(&mut all)?;
     let half = all.clone()?;
-    assert_eq!(rt; all.merge(&half), Err(MetricError::CountFull));
-    assert_eq!(rt; all.observe(whole(-1)), Ok(()));
-    assert_eq!(rt; all.count(), 1u64 << 63);
+    assert!(rt; is_not_merged(&mut all, &half, MetricError::CountFull, 1 << 63));
+    assert!(rt; all.observe(whole(-1)).is_ok() && all.count() == 1 << 63);
     Ok(())
 }
 
 #[test]
 fn gauge_counts_negative_values(rt: HostRuntime) -> Result<(), Fail> {
-    let alloc = rt.alloc();
-    let mut all = GaugeHistogramSnapshot::new(alloc, [Fixed::ZERO, whole(-1)].iter().copied())?;
-    for value in [whole(-1), whole(-2), Fixed::ZERO, whole(1)] {
-        all.observe(value)?;
+    let bounds = [Fixed::ZERO, whole(-1)];
+    let mut all = GaugeHistogramSnapshot::new(rt.alloc(), bounds.iter().copied())?;
+    for value in [-1, -2, 0, 1] {
+        all.observe(whole(value))?;
     }
     let other = all.clone()?;
     all.merge(&other)?;
-    assert_eq!(rt;
-        counts(alloc, all.buckets())?.as_slice(),
-        [4, 2, 2].as_slice()
-    );
-    assert_eq!(rt; (all.gcount(), all.gsum()), (8, FixedSum::from(whole(-4))));
-    Ok(())
-}
-
-#[test]
-fn two_threads_observe_in_one_histogram(rt: HostRuntime) -> Result<(), Fail> {
-    let alloc = rt.alloc();
-    let bounds = [whole(1), whole(2), whole(5)];
-    let sizes = Histogram::new(rt, alloc, bounds.iter().copied())?;
-    let clone = sizes.clone()?;
-    let (first, second) = thread::join(&rt, || observe_hundred(&sizes), || observe_hundred(&clone));
-    first?;
-    second?;
-    let own = sizes.with_snapshot(|all| counts(alloc, all.buckets()))?;
-    assert_eq!(rt; own.as_slice(), [2, 2, 6, 190].as_slice());
-    let totals = clone.with_snapshot(|all| (all.count(), all.sum()));
-    assert_eq!(rt; totals, (200, FixedSum::from_millionths(10_100_000_000)));
-    Ok(())
+    expect_observed_gauge(&all, &[4, 2, 2], 8, FixedSum::from(whole(-4)))
 }
 
 // Observes the whole numbers from 1 to 100.
@@ -157,18 +147,34 @@ fn observe_hundred<H: Wait>(sizes: &Histogram<H>) -> Result<(), MetricError> {
 }
 
 #[test]
+fn two_threads_observe_in_one_histogram(rt: HostRuntime) -> Result<(), Fail> {
+    let bounds = [whole(1), whole(2), whole(5)];
+    let sizes = Histogram::new(rt, rt.alloc(), bounds.iter().copied())?;
+    let clone = sizes.clone()?;
+    let both = thread::join(&rt, || observe_hundred(&sizes), || observe_hundred(&clone));
+    assert!(rt; both.0.is_ok() && both.1.is_ok());
+    assert!(rt; sizes.with_snapshot(|all| have_counts(all.buckets(), &[2, 2, 6, 190])));
+    let totals = clone.with_snapshot(|all| (all.count(), all.sum()));
+    assert!(rt; totals == (200, FixedSum::from_millionths(10_100_000_000)));
+    Ok(())
+}
+
+#[test]
 fn histograms_keep_when_they_were_created(rt: HostRuntime) -> Result<(), Fail> {
-    let alloc = rt.alloc();
-    let bounds = [whole(1)];
     let since = Duration::from_secs(7);
-    let sizes = Histogram::with_created(rt, alloc, bounds.iter().copied(), since)?;
-    assert_eq!(rt; sizes.clone()?.created(), Some(since));
-    assert_eq!(rt; sizes.observe(whole(-1)), Ok(()));
-    assert_eq!(rt; sizes.with_snapshot(|all| all.count()), 0);
-    let defaults = Histogram::try_default(rt, alloc)?;
-    assert_eq!(rt; defaults.created(), None);
-    assert_eq!(rt; defaults.with_snapshot(|all| all.buckets().len()), 12);
-    let snapshot = HistogramSnapshot::try_default(rt, alloc)?;
-    assert_eq!(rt; snapshot.buckets().len(), 12);
+    let sizes = Histogram::with_created(rt, rt.alloc(), [whole(1)].iter().copied(), since)?;
+    assert!(rt; sizes.clone()?.created() == Some(since));
+    assert!(rt; sizes.observe(whole(-1)).is_ok());
+    assert!(rt; sizes.with_snapshot(|all| all.count()) == 0);
+    Ok(())
+}
+
+#[test]
+fn default_histograms(rt: HostRuntime) -> Result<(), Fail> {
+    let sizes = Histogram::try_default(rt, rt.alloc())?;
+    assert!(rt; sizes.created().is_none());
+    assert!(rt; sizes.with_snapshot(|all| all.buckets().len()) == 12);
+    let snapshot = HistogramSnapshot::try_default(rt, rt.alloc())?;
+    assert!(rt; snapshot.buckets().len() == 12);
     Ok(())
 }

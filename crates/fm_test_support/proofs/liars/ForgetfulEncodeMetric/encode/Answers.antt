@@ -2,8 +2,8 @@ use Rattle.std.proofs.Common.{[], ◌∷◌, inl, inr, pos, refl}
 use Rattle.fm_grammar.specs.Exposition.{Whole}
 use Rattle.fm_encoder.specs.Points.{GaugePoint}
 use Rattle.fm_encoder.proofs.MemberLemmas.{HandsMembers-weaker}
-use Rattle.fm_tests_handles.proofs.IgnoredLemmas.{HandsMembers-ignored}
-use Rattle.fm_tests_handles.proofs.liars.ForgetfulEncodeMetric.encode.Goals as goal
+use Rattle.fm_test_support.proofs.IgnoredLemmas.{HandsMembers-ignored}
+use Rattle.fm_test_support.proofs.liars.ForgetfulEncodeMetric.encode.Goals as goal
 
 pub returns : goal.returns
 returns g c =

@@ -1,9 +1,11 @@
 //! Counters and gauges that clones and threads share, by their values and by their documents, and the words that hold them.
 
-use fastmetrics::metrics::counter::Counter;
+use fastmetrics::encoder::EncodeMetric;
+use fastmetrics::metrics::counter::{Counter, CounterValue};
 use fastmetrics::metrics::gauge::Gauge;
 use fastmetrics::raw::{Atomic, Fixed, MetricError, Number, TryDefault};
-use fm_test_support::support::expect_document;
+use fm_test_support::support::{document_alone, expect_document, expect_text};
+use std::alloc::Global;
 use std::sync::atomic::{AtomicI32, AtomicI64, AtomicIsize, AtomicU32, AtomicU64, AtomicUsize};
 use std::test::Fail;
 use std::thread;
@@ -23,14 +25,8 @@ fn counters_of_two_threads(rt: HostRuntime) -> Result<(), Fail> {
             clone.inc();
         },
     );
-    assert_eq!(rt; hits.total(), 2000);
-    expect_document(
-        alloc,
-        "c",
-        None,
-        Box::new(alloc, clone)?,
-        "# TYPE c counter\n# HELP c H\nc_total 2000\n# EOF\n",
-    )
+    assert!(rt; hits.total() == 2000);
+    expect_counter(alloc, Box::new(alloc, clone)?, "2000")
 }
 
 #[test]
@@ -47,14 +43,8 @@ fn gauges_of_two_threads(rt: HostRuntime) -> Result<(), Fail> {
             clone.inc();
         },
     );
-    assert_eq!(rt; level.get(), 2000);
-    expect_document(
-        alloc,
-        "g",
-        None,
-        Box::new(alloc, clone)?,
-        "# TYPE g gauge\n# HELP g H\ng 2000\n# EOF\n",
-    )
+    assert!(rt; level.get() == 2000);
+    expect_gauge(alloc, Box::new(alloc, clone)?, "2000")
 }
 
 // Raises a counter to every second value from the first one on, and answers how often the total lay below a value that it
@@ -75,9 +65,38 @@ fn totals_of_two_threads_never_fall(rt: HostRuntime) -> Result<(), Fail> {
     let hits = Counter::<u64>::try_default(rt, rt.alloc())?;
     let clone = hits.clone()?;
     let (even, odd) = thread::join(&rt, || falls(&hits, 0), || falls(&clone, 1));
-    assert_eq!(rt; (even, odd), (0, 0));
-    assert_eq!(rt; hits.total(), 1999999);
+    assert!(rt; even == 0 && odd == 0 && hits.total() == 1999999);
     Ok(())
+}
+
+const COUNTER: &str = "# TYPE c counter\n# HELP c H\nc_total ";
+
+const GAUGE: &str = "# TYPE g gauge\n# HELP g H\ng ";
+
+// Fails where the document of a metric is not this beginning and this number.
+fn expect_number(
+    alloc: Global,
+    name: &str,
+    beginning: &str,
+    metric: Box<dyn EncodeMetric>,
+    number: &str,
+) -> Result<(), Fail> {
+    let document = document_alone(alloc, name, None, metric)?;
+    let own = document
+        .as_str()
+        .strip_prefix(beginning)
+        .and_then(|rest| rest.strip_suffix("\n# EOF\n"));
+    expect_text(own.unwrap_or("no number"), number)
+}
+
+// Fails where this is not the number of a counter's document.
+fn expect_counter(alloc: Global, metric: Box<dyn EncodeMetric>, number: &str) -> Result<(), Fail> {
+    expect_number(alloc, "c", COUNTER, metric, number)
+}
+
+// Fails where this is not the number of a gauge's document.
+fn expect_gauge(alloc: Global, metric: Box<dyn EncodeMetric>, number: &str) -> Result<(), Fail> {
+    expect_number(alloc, "g", GAUGE, metric, number)
 }
 
 #[test]
@@ -85,98 +104,62 @@ fn clones_share_one_value(rt: HostRuntime) -> Result<(), Fail> {
     let alloc = rt.alloc();
     let hits = Counter::<u64>::try_default(rt, alloc)?;
     hits.clone()?.inc();
-    expect_document(
-        alloc,
-        "c",
-        None,
-        Box::new(alloc, hits)?,
-        "# TYPE c counter\n# HELP c H\nc_total 1\n# EOF\n",
-    )?;
+    expect_counter(alloc, Box::new(alloc, hits)?, "1")?;
     let level = Gauge::<i64>::new(alloc, 7)?;
     level.clone()?.set(-5);
-    expect_document(
-        alloc,
-        "g",
-        None,
-        Box::new(alloc, level)?,
-        "# TYPE g gauge\n# HELP g H\ng -5\n# EOF\n",
-    )
+    expect_gauge(alloc, Box::new(alloc, level)?, "-5")
 }
 
 #[test]
-fn steps_that_wrap(rt: HostRuntime) -> Result<(), Fail> {
+fn gauges_that_wrap(rt: HostRuntime) -> Result<(), Fail> {
     let alloc = rt.alloc();
     let level = Gauge::<i32>::new(alloc, 0)?;
     level.clone()?.set(2147483647);
-    assert_eq!(rt; level.inc(), 2147483647);
-    assert_eq!(rt; level.get(), -2147483648);
-    expect_document(
-        alloc,
-        "g",
-        None,
-        Box::new(alloc, level)?,
-        "# TYPE g gauge\n# HELP g H\ng -2147483648\n# EOF\n",
-    )?;
-    let hits = Counter::<u32>::try_default(rt, alloc)?;
-    hits.set(4294967295)?;
-    assert_eq!(rt; hits.inc(), 4294967295);
-    assert_eq!(rt; hits.total(), 0);
-    expect_document(
-        alloc,
-        "c",
-        None,
-        Box::new(alloc, hits)?,
-        "# TYPE c counter\n# HELP c H\nc_total 0\n# EOF\n",
-    )
+    assert!(rt; level.inc() == 2147483647 && level.get() == -2147483648);
+    expect_gauge(alloc, Box::new(alloc, level)?, "-2147483648")
 }
 
 #[test]
-fn refused_changes(rt: HostRuntime) -> Result<(), Fail> {
+fn counters_that_wrap(rt: HostRuntime) -> Result<(), Fail> {
+    let alloc = rt.alloc();
+    let hits = Counter::<u32>::try_default(rt, alloc)?;
+    hits.set(4294967295)?;
+    assert!(rt; hits.inc() == 4294967295 && hits.total() == 0);
+    expect_counter(alloc, Box::new(alloc, hits)?, "0")
+}
+
+// Whether a new counter takes a total, and then refuses a lesser one.
+fn only_rises<N: CounterValue>(counter: &Counter<N>, less: N, greater: N) -> bool {
+    counter.set(greater).is_ok()
+        && counter.set(less) == Err(MetricError::LessThanBefore)
+        && counter.total() == greater
+}
+
+#[test]
+fn refused_totals(rt: HostRuntime) -> Result<(), Fail> {
     let alloc = rt.alloc();
     let hits = Counter::<u64>::try_default(rt, alloc)?;
-    assert_eq!(rt; hits.set(42), Ok(()));
-    assert_eq!(rt; hits.set(10), Err(MetricError::LessThanBefore));
-    assert_eq!(rt; hits.total(), 42);
-    expect_document(
-        alloc,
-        "c",
-        None,
-        Box::new(alloc, hits)?,
-        "# TYPE c counter\n# HELP c H\nc_total 42\n# EOF\n",
-    )?;
+    assert!(rt; only_rises(&hits, 10, 42));
+    expect_counter(alloc, Box::new(alloc, hits)?, "42")
+}
+
+#[test]
+fn refused_increments(rt: HostRuntime) -> Result<(), Fail> {
+    let alloc = rt.alloc();
+    let (less, more) = (Fixed::from_millionths(-1), Fixed::from_millionths(1500000));
     let seconds = Counter::<Fixed>::try_default(rt, alloc)?;
-    seconds.inc_by(Fixed::from_millionths(1500000))?;
-    assert_eq!(rt;
-        seconds.inc_by(Fixed::from_millionths(-1)),
-        Err(MetricError::NegativeIncrement)
-    );
-    expect_document(
-        alloc,
-        "c",
-        None,
-        Box::new(alloc, seconds)?,
-        "# TYPE c counter\n# HELP c H\nc_total 1.5\n# EOF\n",
-    )
+    seconds.inc_by(more)?;
+    assert!(rt; seconds.inc_by(less) == Err(MetricError::NegativeIncrement));
+    expect_counter(alloc, Box::new(alloc, seconds)?, "1.5")
 }
 
 #[test]
 fn totals_of_all_types_rise(rt: HostRuntime) -> Result<(), Fail> {
     let alloc = rt.alloc();
-    let hits = Counter::<u32>::try_default(rt, alloc)?;
-    hits.set(42)?;
-    assert_eq!(rt; hits.set(10), Err(MetricError::LessThanBefore));
-    assert_eq!(rt; hits.total(), 42);
-    let hits = Counter::<usize>::try_default(rt, alloc)?;
-    hits.set(42)?;
-    assert_eq!(rt; hits.set(10), Err(MetricError::LessThanBefore));
-    assert_eq!(rt; hits.total(), 42);
-    let seconds = Counter::<Fixed>::try_default(rt, alloc)?;
-    seconds.set(Fixed::from_millionths(42))?;
-    assert_eq!(rt;
-        seconds.set(Fixed::from_millionths(10)),
-        Err(MetricError::LessThanBefore)
-    );
-    assert_eq!(rt; seconds.total(), Fixed::from_millionths(42));
+    assert!(rt; only_rises(&Counter::<u32>::try_default(rt, alloc)?, 10, 42));
+    assert!(rt; only_rises(&Counter::<usize>::try_default(rt, alloc)?, 10, 42));
+    let (less, greater) = (Fixed::from_millionths(10), Fixed::from_millionths(42));
+    assert!(rt; only_rises(&Counter::<Fixed>::try_default(rt, alloc)?, less, greater));
     Ok(())
 }
 
@@ -193,8 +176,7 @@ fn times_of_creation(rt: HostRuntime) -> Result<(), Fail> {
             "# TYPE c counter\n# HELP c H\nc_total 0\nc_created 18446744073709551615.999\n# EOF\n",
         ),
     ] {
-        let hits = Counter::<u64>::with_created(alloc, created)?;
-        let metric = Box::new(alloc, hits)?;
+        let metric = Box::new(alloc, Counter::<u64>::with_created(alloc, created)?)?;
         expect_document(alloc, "c", None, metric, want)?;
     }
     Ok(())
