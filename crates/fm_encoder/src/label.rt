@@ -6,6 +6,7 @@ ghost use Rattle.fm_encoder.specs.Gathered.{GatheredPieces, GatheredLabels, answ
 ghost use Rattle.fm_encoder.specs.Hands.{HandsPieces, HandsLabels};
 ghost use Rattle.fm_encoder.specs.inside.Steps.{EndsLabel};
 
+use crate::known_names::KnownNames;
 use crate::names::is_reserved;
 use crate::own::own_refusal;
 use fm_encode_error::EncodeError;
@@ -67,11 +68,14 @@ pub struct LabelEncoder {
     metric_type: MetricType,
     labels: LabelText,
     refused: Option<EncodeError>,
+    known: KnownNames,
+    // The labels so far have the first of the known names.
+    is_known: bool,
 }
 
 impl Model for LabelEncoder {
-    ghost use Rattle.std.specs.Prelude.{◌≡◌, ℕ, List, Some};
-    ghost use Rattle.fm_encoder.specs.Labels.{NameFits, pieces_of};
+    ghost use Rattle.fm_encoder.specs.Labels.{pieces_of};
+    ghost use Rattle.fm_encoder.specs.inside.KnownNames.{AreKnown};
     ghost use Rattle.fm_encoder.specs.Gathered.{GatheredPieces};
 
     ghost Value = { GatheredPieces };
@@ -83,8 +87,7 @@ impl Model for LabelEncoder {
       refused = e.refused;
     } };
 
-    ghost invariant = { λ e. (n : List ℕ) → e.labels.name ≡ Some n
-        → NameFits e.metric_type e.labels.labels n };
+    ghost invariant = { λ e. AreKnown e.metric_type e.known e.is_known e.labels.labels e.labels.name };
 }
 
 impl LabelEncoder {
@@ -96,6 +99,7 @@ impl LabelEncoder {
         ensures labels { OnOk result (self.new.labels ≡ before.now.labels) }
     {
         self.refused = None;
+        self.is_known = false;
         self.labels.assign(before)
     }
 
@@ -105,7 +109,9 @@ impl LabelEncoder {
     {
         self.metric_type = metric_type;
         self.refused = None;
+        self.known.begin(metric_type);
         self.labels.clear();
+        self.is_known = true;
     }
 
     fn refuse(&mut self, error: EncodeError) -> Result<(), EncodeError>
@@ -119,6 +125,7 @@ impl LabelEncoder {
     /// Takes the label's name. It is refused, in this order, as `MalformedLabel` behind another piece, as
     /// `InvalidLabelName` where it is no label name, as `ReservedLabel` where the metric's type keeps it for itself,
     /// and as `DuplicateLabel` where a label before has it. It may find no memory.
+    #[tactic(auto, using(crate::proofs::KnownNamesLemmas::fits_known, crate::proofs::KnownNamesLemmas::may_follow, crate::proofs::KnownNamesLemmas::learnt_known, crate::proofs::KnownNamesLemmas::learnt_still))]
     pub fn encode_label_name(&mut self, name: &str) -> Result<(), EncodeError>
         ensures handed { HandsPieces (NamePiece name.now ∷ []) ⊥ self.old self.new result }
         ensures answered { result ≡ answer self.new.refused }
@@ -129,6 +136,12 @@ impl LabelEncoder {
         if self.labels.is_named() || self.labels.is_valued() {
             return self.refuse(EncodeError::MalformedLabel);
         }
+        if self.is_known && self.known.has_at(self.labels.len(), name) {
+            return match self.labels.set_name(name) {
+                Ok(()) => Ok(()),
+                Err(_) => self.refuse(EncodeError::Memory),
+            };
+        }
         if !is_label_name(name) {
             return self.refuse(EncodeError::InvalidLabelName);
         }
@@ -138,6 +151,7 @@ impl LabelEncoder {
         if self.labels.has_name(name) {
             return self.refuse(EncodeError::DuplicateLabel);
         }
+        self.is_known = self.known.learn(self.is_known, self.labels.len(), name);
         match self.labels.set_name(name) {
             Ok(()) => Ok(()),
             Err(_) => self.refuse(EncodeError::Memory),
@@ -227,6 +241,8 @@ impl LabelSetEncoder {
                 metric_type,
                 labels: LabelText::new(alloc),
                 refused: None,
+                known: KnownNames::new(alloc, metric_type),
+                is_known: false,
             },
         }
     }

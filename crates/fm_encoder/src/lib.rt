@@ -7,6 +7,7 @@
 mod constants;
 pub mod exemplar;
 mod gathered;
+mod known_names;
 pub mod label;
 mod label_number;
 pub mod label_set;
