@@ -2,3 +2,4 @@
 pub mod Steps
 pub mod Gathering
 pub mod Constants
+pub mod BoundLabels

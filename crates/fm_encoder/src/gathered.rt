@@ -1,5 +1,5 @@
 // Labels that are gathered behind others.
-ghost use Rattle.std.specs.Prelude.{◌≡◌, ◌⊎◌, ◌++◌, MatchResult};
+ghost use Rattle.std.specs.Prelude.{◌≡◌, ◌⊎◌, ◌++◌, [], ◌∷◌, None, OnOk, MatchResult, ◌≤◌, length, drop, IfOk};
 ghost use Rattle.fm_encoder.specs.Labels.{LabelsClean, LabelsFault, all_written};
 ghost use Rattle.fm_encoder.specs.Gathered.{OwnRefusal};
 
@@ -7,6 +7,20 @@ use crate::label::LabelSetEncoder;
 use crate::label_set::EncodeLabelSet;
 use fm_encode_error::EncodeError;
 use fm_writer::LabelText;
+use std::alloc::{AllocError, Global};
+
+// Adds a label without a test.
+pub(crate) fn push_label(text: &mut LabelText, name: &str, value: &str) -> Result<(), AllocError>
+    ensures { OnOk result (text.new ≡ record {
+      labels = text.old.labels ++ record { name = name.now; value = value.now } ∷ [];
+      name = None;
+      value = None;
+    }) }
+{
+    text.set_name(name)?;
+    text.set_value(value)?;
+    text.end_label()
+}
 
 // Puts copies of the labels before in place of the encoder's own, and behind them those that a label set hands over.
 pub(crate) fn labels_behind<LS: EncodeLabelSet>(
@@ -29,4 +43,20 @@ pub(crate) fn labels_behind<LS: EncodeLabelSet>(
     }
     let visited = labels.encode(encoder);
     encoder.outcome(visited)
+}
+
+// Copies of the labels from an index on.
+pub(crate) fn labels_from(
+    alloc: Global,
+    labels: &LabelText,
+    from: usize,
+) -> Result<LabelText, AllocError>
+    requires { from ≤ length labels.now.labels }
+    ensures { IfOk result (λ text. text.labels ≡ drop from labels.now.labels) }
+{
+    let mut text = LabelText::new(alloc);
+    for (name, value) in labels.pairs(alloc, from)? {
+        push_label(&mut text, name, value)?;
+    }
+    Ok(text)
 }

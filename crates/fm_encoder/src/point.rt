@@ -18,14 +18,16 @@ ghost use Rattle.fm_encoder.specs.inside.Steps.{FitsType, BeginsPoint, BeginsMem
 
 use crate::constants::ConstantLabels;
 use crate::exemplar::{EncodeExemplar, exemplar_if_any};
-use crate::gathered::labels_behind;
+use crate::gathered::{labels_behind, labels_from, push_label};
 use crate::label::LabelSetEncoder;
 use crate::label_set::EncodeLabelSet;
 use crate::own::own_refusal;
+use crate::point::bound_labels::BoundLabels;
 use crate::value::{
     EncodeCounterValue, EncodeGaugeValue, EncodeUnknownValue, counter_number, gauge_number,
     unknown_number,
 };
+use fm_bucket::{BUCKET_LABEL, QUANTILE_LABEL};
 use fm_encode_error::EncodeError;
 use fm_exposition::{Exemplar, Value};
 use fm_grammar::{MetricType, SampleKind};
@@ -35,6 +37,7 @@ use std::marker::Model;
 use std::mem;
 use std::time::Duration;
 
+mod bound_labels;
 pub(crate) mod histogram;
 mod summary;
 mod totals;
@@ -63,6 +66,9 @@ pub struct PointEncoder {
     deferred: Option<EncodeError>,
     sink: Sink,
     refused: Option<EncodeError>,
+    // The own labels of buckets and quantiles.
+    bounds: BoundLabels,
+    quantiles: BoundLabels,
 }
 
 impl Model for PointEncoder {
@@ -91,26 +97,26 @@ fn push_to(
     metric_type: MetricType,
     kind: SampleKind,
     common: &LabelText,
-    own: &[(&str, &str)],
+    own: &LabelText,
     value: Value,
     time: Option<u128>,
     exemplar: Option<Exemplar>,
 ) -> Result<(), EncodeError>
-    requires labels { AreLabels (common.now.labels ++ map shown_label own.now) }
+    requires labels { AreLabels (common.now.labels ++ own.now.labels) }
     requires shared { AreShared common.now.labels sink.old.shared }
     requires fits { FitsType metric_type kind (value_of value) (option_map exemplar_of exemplar) }
     requires time { IfSome time AreMillis }
     ensures shared { sink.new.shared ≡ sink.old.shared }
     ensures formed { IsSample metric_type (record {
       kind = kind;
-      labels = common.now.labels ++ map shown_label own.now;
+      labels = common.now.labels ++ own.now.labels;
       value = value_of value;
       time = time;
       exemplar = option_map exemplar_of exemplar;
     }) }
     ensures pushed { OnOk result (sink.new.output ≡ appended name.now sink.old.output (record {
       kind = kind;
-      labels = common.now.labels ++ map shown_label own.now;
+      labels = common.now.labels ++ own.now.labels;
       value = value_of value;
       time = time;
       exemplar = option_map exemplar_of exemplar;
@@ -170,6 +176,8 @@ impl PointEncoder {
             deferred: None,
             sink,
             refused: None,
+            bounds: BoundLabels::new(alloc, BUCKET_LABEL),
+            quantiles: BoundLabels::new(alloc, QUANTILE_LABEL),
         }
     }
 
@@ -234,16 +242,16 @@ impl PointEncoder {
     fn push_labeled(
         &mut self,
         kind: SampleKind,
-        own: &[(&str, &str)],
+        own: &LabelText,
         value: Value,
         exemplar: Option<Exemplar>,
     ) -> Result<(), EncodeError>
         requires accepting { self.old.refused ≡ None }
-        requires labels { AreLabels self.old.common → AreFree self.old.setting.metric_type self.old.common → AreLabels (self.old.common ++ map shown_label own.now) }
+        requires labels { AreLabels self.old.common → AreFree self.old.setting.metric_type self.old.common → AreLabels (self.old.common ++ own.now.labels) }
         requires fits { FitsType self.old.setting.metric_type kind (value_of value) (option_map exemplar_of exemplar) }
         ensures pushed { PushesSample (record {
           kind = kind;
-          labels = self.old.common ++ map shown_label own.now;
+          labels = self.old.common ++ own.now.labels;
           value = value_of value;
           time = self.old.setting.time;
           exemplar = option_map exemplar_of exemplar;
@@ -284,7 +292,7 @@ impl PointEncoder {
         }) self.old self.new }
         ensures answered { result ≡ answer self.new.refused }
     {
-        self.push_labeled(kind, &[], value, exemplar)
+        self.push_labeled(kind, &LabelText::new(self.alloc), value, exemplar)
     }
 
     /// Takes an unknown metric's point. It is refused as `KindMismatch` in a family of another type, then for its
@@ -389,7 +397,7 @@ impl PointEncoder {
     {
         self.begin_point(MetricType::StateSet)?;
         self.test_states(states.is_empty())?;
-        self.push_states(states)
+        self.push_states(&mut LabelText::new(self.alloc), states)
     }
 
     // Refuses the states, unless there are none, where a common label has the family's name.
@@ -405,7 +413,11 @@ impl PointEncoder {
     }
 
     // Adds a sample for each state, in order.
-    fn push_states(&mut self, states: &[(&str, bool)]) -> Result<(), EncodeError>
+    fn push_states(
+        &mut self,
+        own: &mut LabelText,
+        states: &[(&str, bool)],
+    ) -> Result<(), EncodeError>
         requires accepting { self.old.refused ≡ None }
         requires state_set { self.old.setting.metric_type ≡ MetricType.StateSet }
         requires fresh { (states.now ≡ []) ⊎ (¬ (Contains (label_names self.old.common) self.old.setting.name)) }
@@ -413,35 +425,29 @@ impl PointEncoder {
         ensures answered { result ≡ answer self.new.refused }
     {
         for state in states {
-            self.push_state(state)?;
+            self.push_state(own, state)?;
         }
         Ok(())
     }
 
-    // Adds the sample of one state, under a label of the family's name.
-    fn push_state(&mut self, state: &(&str, bool)) -> Result<(), EncodeError>
+    // Adds the sample of one state, under an own label of the family's name.
+    fn push_state(
+        &mut self,
+        own: &mut LabelText,
+        state: &(&str, bool),
+    ) -> Result<(), EncodeError>
         requires accepting { self.old.refused ≡ None }
         requires state_set { self.old.setting.metric_type ≡ MetricType.StateSet }
         requires fresh { ¬ (Contains (label_names self.old.common) self.old.setting.name) }
         ensures pushed { PushesSample (state_sample self.old.setting self.old.common (state_of state.now)) self.old self.new }
         ensures answered { result ≡ answer self.new.refused }
     {
-        let value = Value::Whole(if state.1 { 1 } else { 0 });
-        let own = [(self.name.as_str(), state.0)];
-        match push_to(
-            &mut self.sink,
-            self.name.as_str(),
-            self.labels.metric_type(),
-            SampleKind::Plain,
-            self.labels.text(),
-            &own,
-            value,
-            self.time,
-            None,
-        ) {
-            Ok(()) => Ok(()),
-            Err(error) => self.refuse(error),
+        own.clear();
+        if let Err(_) = push_label(own, self.name.as_str(), state.0) {
+            return self.refuse(EncodeError::Memory);
         }
+        let value = Value::Whole(if state.1 { 1 } else { 0 });
+        self.push_labeled(SampleKind::Plain, own, value, None)
     }
 
     /// Takes an info's point: its labels, which stand behind the common ones. It is refused as `KindMismatch` in a family of
@@ -455,7 +461,7 @@ impl PointEncoder {
         if let Err(error) = labels_behind(&mut all, self.labels.text(), labels) {
             return self.refuse(error);
         }
-        match all.text().pairs(self.alloc, self.labels.text().len()) {
+        match labels_from(self.alloc, all.text(), self.labels.text().len()) {
             Ok(own) => self.push_labeled(SampleKind::Info, &own, Value::Whole(1), None),
             Err(_) => self.refuse(EncodeError::Memory),
         }

@@ -13,12 +13,12 @@ ghost use Rattle.fm_encoder.specs.inside.Steps.{PushesSample};
 ghost use Rattle.fm_encoder.specs.Buckets.{HasBuckets, slots_of, MaySlotsFault, BeginsBuckets, PushesBucket, PushesBuckets};
 
 use crate::exemplar::{EncodeExemplar, exemplar_if_any};
-use crate::point::PointEncoder;
-use fm_bucket::{BUCKET_LABEL, Bound, Bucket};
+use crate::point::{PointEncoder, push_to};
+use fm_bucket::{Bound, Bucket};
 use fm_encode_error::EncodeError;
 use fm_exposition::{Exemplar, Value};
 use fm_grammar::{MetricType, SampleKind};
-use fm_raw::fixed::{FixedBuffer, FixedSum};
+use fm_raw::fixed::FixedSum;
 use std::time::Duration;
 
 pub mod bare;
@@ -98,7 +98,7 @@ impl PointEncoder {
     {
         let mut values = 0;
         for i in 0..buckets.len() {
-            values = self.push_bucket(values, &buckets[i], exemplars[i])?;
+            values = self.push_bucket(values, i, &buckets[i], exemplars[i])?;
         }
         Ok(())
     }
@@ -107,6 +107,7 @@ impl PointEncoder {
     fn push_bucket<E: EncodeExemplar>(
         &mut self,
         before: u64,
+        index: usize,
         bucket: &Bucket,
         exemplar: Option<&E>,
     ) -> Result<u64, EncodeError>
@@ -125,13 +126,14 @@ impl PointEncoder {
                 return Err(error);
             }
         };
-        self.push_bound(bucket.upper_bound(), values, exemplar)?;
+        self.push_bound(index, bucket.upper_bound(), values, exemplar)?;
         Ok(values)
     }
 
     // Adds a sample that shows so many values up to the bound.
     fn push_bound(
         &mut self,
+        index: usize,
         bound: Bound,
         values: u64,
         exemplar: Option<Exemplar>,
@@ -142,10 +144,22 @@ impl PointEncoder {
         ensures pushed { PushesSample (record (plain_sample self.old.setting self.old.common BucketKind (bound_label bound ∷ []) (Whole (pos values))) { exemplar = option_map exemplar_of exemplar }) self.old self.new }
         ensures answered { result ≡ answer self.new.refused }
     {
-        let mut buffer = FixedBuffer::new();
-        let text = bound.format(&mut buffer);
-        let value = Value::Whole(i128::from(values));
-        let own = [(BUCKET_LABEL, text)];
-        self.push_labeled(SampleKind::Bucket, &own, value, exemplar)
+        let Ok(own) = self.bounds.label(index, bound) else {
+            return self.refuse(EncodeError::Memory);
+        };
+        match push_to(
+            &mut self.sink,
+            self.name.as_str(),
+            self.labels.metric_type(),
+            SampleKind::Bucket,
+            self.labels.text(),
+            own,
+            Value::Whole(i128::from(values)),
+            self.time,
+            exemplar,
+        ) {
+            Ok(()) => Ok(()),
+            Err(error) => self.refuse(error),
+        }
     }
 }

@@ -7,12 +7,12 @@ ghost use Rattle.fm_encoder.specs.Gathered.{answer};
 ghost use Rattle.fm_encoder.specs.Hands.{HandsPoints};
 ghost use Rattle.fm_encoder.specs.inside.Steps.{PushesSample, PushesSamples};
 
-use crate::point::PointEncoder;
-use fm_bucket::{QUANTILE_LABEL, Quantile};
+use crate::point::{PointEncoder, push_to};
+use fm_bucket::{Bound, Quantile};
 use fm_encode_error::EncodeError;
 use fm_exposition::Value;
 use fm_grammar::{MetricType, SampleKind};
-use fm_raw::fixed::{FixedBuffer, FixedSum};
+use fm_raw::fixed::FixedSum;
 use std::time::Duration;
 
 impl PointEncoder {
@@ -42,23 +42,36 @@ impl PointEncoder {
         ensures pushed { PushesSamples (map (quantile_sample self.old.setting self.old.common) quantiles.now) self.old self.new }
         ensures answered { result ≡ answer self.new.refused }
     {
-        for quantile in quantiles {
-            self.push_quantile(quantile)?;
+        for i in 0..quantiles.len() {
+            self.push_quantile(i, &quantiles[i])?;
         }
         Ok(())
     }
 
     // Adds the sample of one quantile.
-    fn push_quantile(&mut self, quantile: &Quantile) -> Result<(), EncodeError>
+    fn push_quantile(&mut self, index: usize, quantile: &Quantile) -> Result<(), EncodeError>
         requires accepting { self.old.refused ≡ None }
         requires summary { self.old.setting.metric_type ≡ MetricType.Summary }
         ensures pushed { PushesSample (quantile_sample self.old.setting self.old.common quantile.now) self.old self.new }
         ensures answered { result ≡ answer self.new.refused }
     {
-        let mut buffer = FixedBuffer::new();
-        let text = buffer.format(FixedSum::from(quantile.quantile()));
-        let value = Value::Fixed(FixedSum::from(quantile.value()));
-        let own = [(QUANTILE_LABEL, text)];
-        self.push_labeled(SampleKind::Plain, &own, value, None)
+        let bound = Bound::Finite(quantile.quantile());
+        let Ok(own) = self.quantiles.label(index, bound) else {
+            return self.refuse(EncodeError::Memory);
+        };
+        match push_to(
+            &mut self.sink,
+            self.name.as_str(),
+            self.labels.metric_type(),
+            SampleKind::Plain,
+            self.labels.text(),
+            own,
+            Value::Fixed(FixedSum::from(quantile.value())),
+            self.time,
+            None,
+        ) {
+            Ok(()) => Ok(()),
+            Err(error) => self.refuse(error),
+        }
     }
 }
