@@ -2,4 +2,3 @@
 pub mod Steps
 pub mod Gathering
 pub mod Constants
-pub mod BoundLabels

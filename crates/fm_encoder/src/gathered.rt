@@ -1,5 +1,6 @@
 // Labels that are gathered behind others.
-ghost use Rattle.std.specs.Prelude.{◌≡◌, ◌⊎◌, ◌++◌, [], ◌∷◌, None, OnOk, MatchResult, ◌≤◌, length, drop, IfOk};
+ghost use Rattle.std.specs.Prelude.{◌≡◌, ◌⊎◌, ◌++◌, [], ◌∷◌, None, OnOk, MatchResult, ◌≤◌, length, drop, map, IfOk};
+ghost use Rattle.fm_exposition.specs.Samples.{shown_label};
 ghost use Rattle.fm_encoder.specs.Labels.{LabelsClean, LabelsFault, all_written};
 ghost use Rattle.fm_encoder.specs.Gathered.{OwnRefusal};
 
@@ -45,6 +46,17 @@ pub(crate) fn labels_behind<LS: EncodeLabelSet>(
     encoder.outcome(visited)
 }
 
+// Copies of lent labels, without a test.
+fn lent_labels(alloc: Global, labels: &[(&str, &str)]) -> Result<LabelText, AllocError>
+    ensures { IfOk result (λ text. text.labels ≡ map shown_label labels.now) }
+{
+    let mut text = LabelText::new(alloc);
+    for label in labels {
+        push_label(&mut text, label.0, label.1)?;
+    }
+    Ok(text)
+}
+
 // Copies of the labels from an index on.
 pub(crate) fn labels_from(
     alloc: Global,
@@ -54,9 +66,6 @@ pub(crate) fn labels_from(
     requires { from ≤ length labels.now.labels }
     ensures { IfOk result (λ text. text.labels ≡ drop from labels.now.labels) }
 {
-    let mut text = LabelText::new(alloc);
-    for (name, value) in labels.pairs(alloc, from)? {
-        push_label(&mut text, name, value)?;
-    }
-    Ok(text)
+    let pairs = labels.pairs(alloc, from)?;
+    lent_labels(alloc, &pairs)
 }

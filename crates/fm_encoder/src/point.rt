@@ -22,12 +22,11 @@ use crate::gathered::{labels_behind, labels_from, push_label};
 use crate::label::LabelSetEncoder;
 use crate::label_set::EncodeLabelSet;
 use crate::own::own_refusal;
-use crate::point::bound_labels::BoundLabels;
+use crate::point::bound_label::BoundLabel;
 use crate::value::{
     EncodeCounterValue, EncodeGaugeValue, EncodeUnknownValue, counter_number, gauge_number,
     unknown_number,
 };
-use fm_bucket::{BUCKET_LABEL, QUANTILE_LABEL};
 use fm_encode_error::EncodeError;
 use fm_exposition::{Exemplar, Value};
 use fm_grammar::{MetricType, SampleKind};
@@ -37,7 +36,7 @@ use std::marker::Model;
 use std::mem;
 use std::time::Duration;
 
-mod bound_labels;
+mod bound_label;
 pub(crate) mod histogram;
 mod summary;
 mod totals;
@@ -66,9 +65,8 @@ pub struct PointEncoder {
     deferred: Option<EncodeError>,
     sink: Sink,
     refused: Option<EncodeError>,
-    // The own labels of buckets and quantiles.
-    bounds: BoundLabels,
-    quantiles: BoundLabels,
+    // The labels of the buckets of the histogram before.
+    bounds: Vec<BoundLabel>,
 }
 
 impl Model for PointEncoder {
@@ -176,8 +174,7 @@ impl PointEncoder {
             deferred: None,
             sink,
             refused: None,
-            bounds: BoundLabels::new(alloc, BUCKET_LABEL),
-            quantiles: BoundLabels::new(alloc, QUANTILE_LABEL),
+            bounds: Vec::new(alloc),
         }
     }
 

@@ -13,8 +13,9 @@ ghost use Rattle.fm_encoder.specs.inside.Steps.{PushesSample};
 ghost use Rattle.fm_encoder.specs.Buckets.{HasBuckets, slots_of, MaySlotsFault, BeginsBuckets, PushesBucket, PushesBuckets};
 
 use crate::exemplar::{EncodeExemplar, exemplar_if_any};
+use crate::point::bound_label::kept_label;
 use crate::point::{PointEncoder, push_to};
-use fm_bucket::{Bound, Bucket};
+use fm_bucket::Bucket;
 use fm_encode_error::EncodeError;
 use fm_exposition::{Exemplar, Value};
 use fm_grammar::{MetricType, SampleKind};
@@ -126,7 +127,7 @@ impl PointEncoder {
                 return Err(error);
             }
         };
-        self.push_bound(index, bucket.upper_bound(), values, exemplar)?;
+        self.push_bound(index, bucket, values, exemplar)?;
         Ok(values)
     }
 
@@ -134,17 +135,17 @@ impl PointEncoder {
     fn push_bound(
         &mut self,
         index: usize,
-        bound: Bound,
+        bucket: &Bucket,
         values: u64,
         exemplar: Option<Exemplar>,
     ) -> Result<(), EncodeError>
         requires accepting { self.old.refused ≡ None }
         requires buckets { HasBuckets self.old.setting.metric_type }
         requires exemplar { IfSome exemplar (λ x. IsExemplar (exemplar_of x)) }
-        ensures pushed { PushesSample (record (plain_sample self.old.setting self.old.common BucketKind (bound_label bound ∷ []) (Whole (pos values))) { exemplar = option_map exemplar_of exemplar }) self.old self.new }
+        ensures pushed { PushesSample (record (plain_sample self.old.setting self.old.common BucketKind (bound_label bucket.now.upper_bound ∷ []) (Whole (pos values))) { exemplar = option_map exemplar_of exemplar }) self.old self.new }
         ensures answered { result ≡ answer self.new.refused }
     {
-        let Ok(own) = self.bounds.label(index, bound) else {
+        let Ok(own) = kept_label(self.alloc, &mut self.bounds, index, bucket) else {
             return self.refuse(EncodeError::Memory);
         };
         match push_to(
