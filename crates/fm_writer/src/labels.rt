@@ -141,10 +141,7 @@ fn append_first<O: Output>(
 
 // Appends labels with commas between them.
 #[tactic(auto, using(crate::proofs::GrownLemmas::grown))]
-fn append_label_list<O: Output>(
-    text: &mut O,
-    labels: &[(String, String)],
-) -> Result<(), AllocError>
+fn append_label_list<O: Output>(text: &mut O, labels: &[(String, String)]) -> Result<(), AllocError>
     ensures { OnOk result (Grows (O.stands_for text.old) (O.stands_for text.new) (label_list_text (labels_of labels.now))) }
 {
     match labels.split_first() {

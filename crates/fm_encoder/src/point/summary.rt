@@ -33,7 +33,8 @@ impl PointEncoder {
         ensures answered { result ≡ answer self.new.refused }
     {
         self.begin_point(MetricType::Summary)?;
-        self.push_quantiles(&mut LabelText::new(self.alloc), quantiles)?;
+        let mut own = LabelText::new(self.alloc);
+        self.push_quantiles(&mut own, quantiles)?;
         self.push_totals(count, sum, created)
     }
 
@@ -55,11 +56,7 @@ impl PointEncoder {
     }
 
     // Adds the sample of one quantile.
-    fn push_quantile(
-        &mut self,
-        own: &mut LabelText,
-        quantile: &Quantile,
-    ) -> Result<(), EncodeError>
+    fn push_quantile(&mut self, own: &mut LabelText, quantile: &Quantile) -> Result<(), EncodeError>
         requires accepting { self.old.refused ≡ None }
         requires summary { self.old.setting.metric_type ≡ MetricType.Summary }
         ensures pushed { PushesSample (quantile_sample self.old.setting self.old.common quantile.now) self.old self.new }
