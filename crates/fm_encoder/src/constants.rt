@@ -5,7 +5,7 @@ ghost use Rattle.fm_exposition.specs.Samples.{label_of, labels_of};
 ghost use Rattle.fm_encoder.specs.Labels.{LabelsClean, LabelsFault, all_written, handed_again};
 ghost use Rattle.fm_encoder.specs.Gathered.{OwnRefusal};
 
-use crate::gathered::labels_behind;
+use crate::gathered::{labels_behind, push_label};
 use crate::label::LabelSetEncoder;
 use crate::label_set::{EncodeLabelSet, encode_written};
 use fm_encode_error::EncodeError;
@@ -14,26 +14,13 @@ use fm_writer::LabelText;
 use std::alloc::{AllocError, Global};
 use std::marker::Model;
 
-// Adds a label without a test.
-fn push_label(text: &mut LabelText, label: &(String, String)) -> Result<(), AllocError>
-    ensures { OnOk result (text.new ≡ record {
-      labels = text.old.labels ++ label_of label.now ∷ [];
-      name = None;
-      value = None;
-    }) }
-{
-    text.set_name(label.0.as_str())?;
-    text.set_value(label.1.as_str())?;
-    text.end_label()
-}
-
 // Copies of the labels, without a test.
 fn copied(alloc: Global, labels: &[(String, String)]) -> Result<LabelText, AllocError>
     ensures { IfOk result (λ text. text.labels ≡ labels_of labels.now) }
 {
     let mut text = LabelText::new(alloc);
     for label in labels {
-        push_label(&mut text, label)?;
+        push_label(&mut text, label.0.as_str(), label.1.as_str())?;
     }
     Ok(text)
 }

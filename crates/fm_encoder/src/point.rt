@@ -1,31 +1,24 @@
 //! Points: what hands them over, and the encoder that puts their samples into a sink.
-ghost use Rattle.std.specs.Prelude.{◌≡◌, ◌⊎◌, ◌++◌, List, [], ◌∷◌, MatchResult, MatchOption, None, Some, OnOk, IfOk, IfErr, IfSome, Contains, map, string_bytes};
-ghost use Rattle.std.specs.Option.{option_map, option_map_or, option_copied};
+ghost use Rattle.std.specs.Prelude.{◌≡◌, ◌⊎◌, ◌++◌, List, [], ◌∷◌, MatchResult, None, Some, OnOk, IfErr, IfSome, string_bytes};
+ghost use Rattle.std.specs.Option.{option_map, option_copied};
 ghost use Rattle.fm_grammar.specs.Names.{IsSnakeCase};
 ghost use Rattle.fm_grammar.specs.declared.MetricType.{MetricType};
-ghost use Rattle.fm_grammar.specs.WellFormed.{AreLabels, AreMillis, IsSample, kinds_of};
-ghost use Rattle.fm_grammar.specs.declared.SampleKind.TheVariants.{Total as TotalKind, Created as CreatedKind};
+ghost use Rattle.fm_grammar.specs.WellFormed.{AreLabels, AreMillis, IsSample};
 ghost use Rattle.fm_encode_error.specs.declared.EncodeError.{EncodeError};
 ghost use Rattle.fm_exposition.specs.Rows.{head_rows};
-ghost use Rattle.fm_exposition.specs.Samples.{shown_label, value_of, exemplar_of};
+ghost use Rattle.fm_exposition.specs.Samples.{value_of, exemplar_of};
 ghost use Rattle.fm_writer.specs.Output.{AreShared, appended, with_lines};
-ghost use Rattle.fm_encoder.specs.Points.{Point, UnknownPoint, GaugePoint, CounterPoint, StateSetPoint, InfoPoint, plain_sample, state_sample, created_samples, millis};
-ghost use Rattle.fm_encoder.specs.Labels.{LabelsClean, LabelsFault, AreFree, all_written, handed_again, label_names};
-ghost use Rattle.fm_encoder.specs.States.{state_of};
+ghost use Rattle.fm_encoder.specs.Points.{Point};
+ghost use Rattle.fm_encoder.specs.Labels.{LabelsClean, LabelsFault, AreFree, all_written, handed_again};
 ghost use Rattle.fm_encoder.specs.Gathered.{OwnRefusal, answer};
 ghost use Rattle.fm_encoder.specs.Hands.{HandsPoints};
-ghost use Rattle.fm_encoder.specs.inside.Steps.{FitsType, BeginsPoint, BeginsMember, PushesSample, PushesSamples, TestsStates, EndsPoints, IsNumber};
+ghost use Rattle.fm_encoder.specs.inside.Steps.{FitsType, BeginsPoint, BeginsMember, PushesSample, EndsPoints};
 
 use crate::constants::ConstantLabels;
-use crate::exemplar::{EncodeExemplar, exemplar_if_any};
-use crate::gathered::labels_behind;
 use crate::label::LabelSetEncoder;
 use crate::label_set::EncodeLabelSet;
 use crate::own::own_refusal;
-use crate::value::{
-    EncodeCounterValue, EncodeGaugeValue, EncodeUnknownValue, counter_number, gauge_number,
-    unknown_number,
-};
+use crate::point::bound_label::BoundLabel;
 use fm_encode_error::EncodeError;
 use fm_exposition::{Exemplar, Value};
 use fm_grammar::{MetricType, SampleKind};
@@ -33,9 +26,11 @@ use fm_writer::{LabelText, Sink};
 use std::alloc::{AllocError, Global};
 use std::marker::Model;
 use std::mem;
-use std::time::Duration;
 
+mod bound_label;
 pub(crate) mod histogram;
+mod numbers;
+mod states;
 mod summary;
 mod totals;
 
@@ -63,6 +58,8 @@ pub struct PointEncoder {
     deferred: Option<EncodeError>,
     sink: Sink,
     refused: Option<EncodeError>,
+    // The labels of the buckets of the histogram before.
+    bounds: Vec<BoundLabel>,
 }
 
 impl Model for PointEncoder {
@@ -91,26 +88,26 @@ fn push_to(
     metric_type: MetricType,
     kind: SampleKind,
     common: &LabelText,
-    own: &[(&str, &str)],
+    own: &LabelText,
     value: Value,
     time: Option<u128>,
     exemplar: Option<Exemplar>,
 ) -> Result<(), EncodeError>
-    requires labels { AreLabels (common.now.labels ++ map shown_label own.now) }
+    requires labels { AreLabels (common.now.labels ++ own.now.labels) }
     requires shared { AreShared common.now.labels sink.old.shared }
     requires fits { FitsType metric_type kind (value_of value) (option_map exemplar_of exemplar) }
     requires time { IfSome time AreMillis }
     ensures shared { sink.new.shared ≡ sink.old.shared }
     ensures formed { IsSample metric_type (record {
       kind = kind;
-      labels = common.now.labels ++ map shown_label own.now;
+      labels = common.now.labels ++ own.now.labels;
       value = value_of value;
       time = time;
       exemplar = option_map exemplar_of exemplar;
     }) }
     ensures pushed { OnOk result (sink.new.output ≡ appended name.now sink.old.output (record {
       kind = kind;
-      labels = common.now.labels ++ map shown_label own.now;
+      labels = common.now.labels ++ own.now.labels;
       value = value_of value;
       time = time;
       exemplar = option_map exemplar_of exemplar;
@@ -170,6 +167,7 @@ impl PointEncoder {
             deferred: None,
             sink,
             refused: None,
+            bounds: Vec::new(alloc),
         }
     }
 
@@ -234,16 +232,16 @@ impl PointEncoder {
     fn push_labeled(
         &mut self,
         kind: SampleKind,
-        own: &[(&str, &str)],
+        own: &LabelText,
         value: Value,
         exemplar: Option<Exemplar>,
     ) -> Result<(), EncodeError>
         requires accepting { self.old.refused ≡ None }
-        requires labels { AreLabels self.old.common → AreFree self.old.setting.metric_type self.old.common → AreLabels (self.old.common ++ map shown_label own.now) }
+        requires labels { AreLabels self.old.common → AreFree self.old.setting.metric_type self.old.common → AreLabels (self.old.common ++ own.now.labels) }
         requires fits { FitsType self.old.setting.metric_type kind (value_of value) (option_map exemplar_of exemplar) }
         ensures pushed { PushesSample (record {
           kind = kind;
-          labels = self.old.common ++ map shown_label own.now;
+          labels = self.old.common ++ own.now.labels;
           value = value_of value;
           time = self.old.setting.time;
           exemplar = option_map exemplar_of exemplar;
@@ -284,181 +282,7 @@ impl PointEncoder {
         }) self.old self.new }
         ensures answered { result ≡ answer self.new.refused }
     {
-        self.push_labeled(kind, &[], value, exemplar)
-    }
-
-    /// Takes an unknown metric's point. It is refused as `KindMismatch` in a family of another type, then for its
-    /// labels, then as `MissingValue` or `ValueTwice` where the value wrote not just one number. It may find no memory.
-    pub fn encode_unknown<V: EncodeUnknownValue>(&mut self, value: &V) -> Result<(), EncodeError>
-        ensures handed { HandsPoints (λ ps. ps ≡ UnknownPoint (V.numbers value.now) ∷ []) (V.may_fault value.now) self.old self.new result }
-        ensures answered { result ≡ answer self.new.refused }
-    {
-        self.begin_point(MetricType::Unknown)?;
-        match unknown_number(value) {
-            Ok(number) => self.push_sample(SampleKind::Plain, number, None),
-            Err(error) => self.refuse(error),
-        }
-    }
-
-    /// Takes a gauge's point, with the refusals of `encode_unknown`.
-    pub fn encode_gauge<V: EncodeGaugeValue>(&mut self, value: &V) -> Result<(), EncodeError>
-        ensures handed { HandsPoints (λ ps. ps ≡ GaugePoint (V.numbers value.now) ∷ []) (V.may_fault value.now) self.old self.new result }
-        ensures answered { result ≡ answer self.new.refused }
-    {
-        self.begin_point(MetricType::Gauge)?;
-        match gauge_number(value) {
-            Ok(number) => self.push_sample(SampleKind::Plain, number, None),
-            Err(error) => self.refuse(error),
-        }
-    }
-
-    /// Takes a counter's point: its total, an exemplar of it, and when it was created, of which whole milliseconds are
-    /// written. Beside the refusals of `encode_unknown` it has those of the exemplar.
-    pub fn encode_counter<V: EncodeCounterValue, E: EncodeExemplar>(
-        &mut self,
-        total: &V,
-        exemplar: Option<&E>,
-        created: Option<Duration>,
-    ) -> Result<(), EncodeError>
-        ensures handed { HandsPoints
-            (λ ps. ps ≡ CounterPoint (V.numbers total.now) (option_map_or (λ e. E.exemplars e.now) exemplar.entry []) (option_map millis created) ∷ [])
-            (V.may_fault total.now ⊎ MatchOption exemplar.entry ⊥ (λ e. E.may_fault e.now)) self.old self.new result }
-        ensures answered { result ≡ answer self.new.refused }
-    {
-        self.begin_point(MetricType::Counter)?;
-        let number = match counter_number(total) {
-            Ok(number) => number,
-            Err(error) => return self.refuse(error),
-        };
-        let exemplar = match exemplar_if_any(self.alloc, exemplar) {
-            Ok(exemplar) => exemplar,
-            Err(error) => return self.refuse(error),
-        };
-        self.push_total(number, exemplar, created)
-    }
-
-    // Adds the sample of a counter's total, and that of its time of creation, where there is one.
-    fn push_total(
-        &mut self,
-        number: Value,
-        exemplar: Option<Exemplar>,
-        created: Option<Duration>,
-    ) -> Result<(), EncodeError>
-        requires accepting { self.old.refused ≡ None }
-        requires counter { self.old.setting.metric_type ≡ MetricType.Counter }
-        requires fits { FitsType self.old.setting.metric_type TotalKind (value_of number) (option_map exemplar_of exemplar) }
-        ensures pushed { PushesSamples
-            (record (plain_sample self.old.setting self.old.common TotalKind [] (value_of number)) { exemplar = option_map exemplar_of exemplar }
-            ∷ created_samples self.old.setting self.old.common (option_map millis created)) self.old self.new }
-        ensures answered { result ≡ answer self.new.refused }
-    {
-        self.push_sample(SampleKind::Total, number, exemplar)?;
-        self.push_created(created)
-    }
-
-    // Adds the sample of a time of creation, where there is one.
-    fn push_created(&mut self, created: Option<Duration>) -> Result<(), EncodeError>
-        requires accepting { self.old.refused ≡ None }
-        requires kind { Contains (kinds_of self.old.setting.metric_type) CreatedKind }
-        ensures pushed { PushesSamples (created_samples self.old.setting self.old.common (option_map millis created)) self.old self.new }
-        ensures answered { result ≡ answer self.new.refused }
-    {
-        match created {
-            Some(time) => self.push_sample(
-                SampleKind::Created,
-                Value::Millis(time.as_millis()),
-                None,
-            ),
-            None => Ok(()),
-        }
-    }
-
-    /// Takes a state set's point: each state's text, and whether it is on. A state's label has the family's name; where a
-    /// common label has it too, the point is refused as `DuplicateLabel`. It is refused as `KindMismatch` in a family of
-    /// another type, then for its labels, and may find no memory.
-    pub fn encode_stateset(&mut self, states: Vec<(&str, bool)>) -> Result<(), EncodeError>
-        ensures handed { HandsPoints (λ ps. ps ≡ StateSetPoint (map state_of states.entry.items) ∷ []) ⊥ self.old self.new result }
-        ensures answered { result ≡ answer self.new.refused }
-    {
-        self.encode_states(states.as_slice())
-    }
-
-    pub(crate) fn encode_states(&mut self, states: &[(&str, bool)]) -> Result<(), EncodeError>
-        ensures handed { HandsPoints (λ ps. ps ≡ StateSetPoint (map state_of states.now) ∷ []) ⊥ self.old self.new result }
-        ensures answered { result ≡ answer self.new.refused }
-    {
-        self.begin_point(MetricType::StateSet)?;
-        self.test_states(states.is_empty())?;
-        self.push_states(states)
-    }
-
-    // Refuses the states, unless there are none, where a common label has the family's name.
-    fn test_states(&mut self, is_empty: bool) -> Result<(), EncodeError>
-        requires accepting { self.old.refused ≡ None }
-        ensures tested { TestsStates is_empty self.old self.new }
-        ensures answered { result ≡ answer self.new.refused }
-    {
-        if !is_empty && self.labels.text().has_name(self.name.as_str()) {
-            return self.refuse(EncodeError::DuplicateLabel);
-        }
-        Ok(())
-    }
-
-    // Adds a sample for each state, in order.
-    fn push_states(&mut self, states: &[(&str, bool)]) -> Result<(), EncodeError>
-        requires accepting { self.old.refused ≡ None }
-        requires state_set { self.old.setting.metric_type ≡ MetricType.StateSet }
-        requires fresh { (states.now ≡ []) ⊎ (¬ (Contains (label_names self.old.common) self.old.setting.name)) }
-        ensures pushed { PushesSamples (map (state_sample self.old.setting self.old.common) (map state_of states.now)) self.old self.new }
-        ensures answered { result ≡ answer self.new.refused }
-    {
-        for state in states {
-            self.push_state(state)?;
-        }
-        Ok(())
-    }
-
-    // Adds the sample of one state, under a label of the family's name.
-    fn push_state(&mut self, state: &(&str, bool)) -> Result<(), EncodeError>
-        requires accepting { self.old.refused ≡ None }
-        requires state_set { self.old.setting.metric_type ≡ MetricType.StateSet }
-        requires fresh { ¬ (Contains (label_names self.old.common) self.old.setting.name) }
-        ensures pushed { PushesSample (state_sample self.old.setting self.old.common (state_of state.now)) self.old self.new }
-        ensures answered { result ≡ answer self.new.refused }
-    {
-        let value = Value::Whole(if state.1 { 1 } else { 0 });
-        let own = [(self.name.as_str(), state.0)];
-        match push_to(
-            &mut self.sink,
-            self.name.as_str(),
-            self.labels.metric_type(),
-            SampleKind::Plain,
-            self.labels.text(),
-            &own,
-            value,
-            self.time,
-            None,
-        ) {
-            Ok(()) => Ok(()),
-            Err(error) => self.refuse(error),
-        }
-    }
-
-    /// Takes an info's point: its labels, which stand behind the common ones. It is refused as `KindMismatch` in a family of
-    /// another type, then for the common labels, then for its own. It may find no memory.
-    pub fn encode_info<LS: EncodeLabelSet>(&mut self, labels: &LS) -> Result<(), EncodeError>
-        ensures handed { HandsPoints (λ ps. ps ≡ InfoPoint (LS.labels labels.now) ∷ []) (LS.may_fault labels.now) self.old self.new result }
-        ensures answered { result ≡ answer self.new.refused }
-    {
-        self.begin_point(MetricType::Info)?;
-        let mut all = LabelSetEncoder::new(self.alloc, self.labels.metric_type());
-        if let Err(error) = labels_behind(&mut all, self.labels.text(), labels) {
-            return self.refuse(error);
-        }
-        match all.text().pairs(self.alloc, self.labels.text().len()) {
-            Ok(own) => self.push_labeled(SampleKind::Info, &own, Value::Whole(1), None),
-            Err(_) => self.refuse(EncodeError::Memory),
-        }
+        self.push_labeled(kind, &LabelText::new(self.alloc), value, exemplar)
     }
 
     pub(crate) fn refused(&self) -> Option<EncodeError>

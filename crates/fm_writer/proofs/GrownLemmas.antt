@@ -1,5 +1,5 @@
 -- Pieces appended to an output one after another.
-use Rattle.std.proofs.Common.{◌≡◌, ℕ, List, [], ◌∷◌, ◌++◌, refl, sym, ap, ◌∙◌, append_assoc, arith, length, length-append, ◌≤◌, ◌<◌, ◌+◌, ◌-◌, ◌^◌, min, get_or, take, drop, drop-cons, add-one, map, subst}
+use Rattle.std.proofs.Common.{◌≡◌, ℕ, List, [], ◌∷◌, ◌++◌, refl, sym, ap, ◌∙◌, codes, append_assoc, arith, length, length-append, ◌≤◌, ◌<◌, ◌+◌, ◌-◌, ◌^◌, min, get_or, take, drop, drop-cons, add-one, map, subst}
 use Rattle.std.proofs.lemmas.List.{append-nil, length-map, take-append-drop}
 use Rattle.std.proofs.lemmas.Grind.{flat_map-append}
 use Rattle.std.specs.List.{flat_map}
@@ -94,9 +94,16 @@ left_of_run f n b rest plain others after whole old now next last plain_is other
 pub list_whole : (a b : Text → Type 0) (first : Label) (others labels : List Label) → labels ≡ first ∷ others → Grows a b (label_text first ++ further_labels others) → Grows a b (label_list_text labels)
 list_whole a b first others labels is g = rw (is, label_list_is first others) g
 
--- the text of a first list that isn't empty, and the labels of a second with a comma before each, are the text of both
-pub joined_whole : (a b : Text → Type 0) (front back : List Label) → ◌<◌ 0 (length front) → Grows a b (label_list_text front ++ further_labels back) → Grows a b (label_list_text (front ++ back))
-joined_whole a b front back some g = rw (list_joined front back some) g
+-- the texts of two lists with a comma between them, where neither is empty, are the text of both
+pub joined_whole : (a b : Text → Type 0) (front back : List Label) → ◌<◌ 0 (length front) → ◌<◌ 0 (length back) → Grows a b (label_list_text front ++ (codes "," ++ label_list_text back)) → Grows a b (label_list_text (front ++ back))
+joined_whole a b front [] some more g = absurd (omega (arith, more))
+joined_whole a b front (first ∷ others) some more g =
+    let further : further_labels (first ∷ others) ≡ codes "," ++ label_list_text (first ∷ others) = ap (λ (t : Text). codes "," ++ t) (sym (label_list_is first others)) in
+    rw (list_joined front (first ∷ others) some, further) g
+
+pub joined_nothing : (a b : Text → Type 0) (front back : List Label) → length back ≡ 0 → Grows a b (label_list_text front) → Grows a b (label_list_text (front ++ back))
+joined_nothing a b front [] none g = rw (append-nil front) g
+joined_nothing a b front (first ∷ others) none g = absurd (omega (arith, none))
 
 -- a block of two lists
 pub block_neither : (front back : List Label) → length front ≡ 0 → length back ≡ 0 → label_block_text (front ++ back) ≡ []

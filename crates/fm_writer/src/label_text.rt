@@ -192,8 +192,11 @@ fn pairs_at<'a>(
 fn append_closed<O: Output>(text: &mut O, list: &[u8], is_empty: bool) -> Result<(), AllocError>
     ensures { OnOk result (Grows (O.stands_for text.old) (O.stands_for text.new) (list.now ++ (if is_empty then [] else codes "\""))) }
 {
-    text.put(list)?;
-    if is_empty { Ok(()) } else { text.put(b"\"") }
+    if is_empty {
+        text.put(list)
+    } else {
+        text.put_three(list, b"\"", b"")
+    }
 }
 
 /// Labels in one text, and the name and the value of a label under way.

@@ -3,7 +3,7 @@ ghost use Rattle.std.specs.Prelude.{◌≡◌, ◌++◌, List, length, map, code
 ghost use Rattle.fm_grammar.specs.Exposition.{Label};
 ghost use Rattle.fm_grammar.specs.Spelling.{escaped, label_text, label_list_text, in_braces};
 ghost use Rattle.fm_exposition.specs.Rows.{further_label, further_labels};
-ghost use Rattle.fm_exposition.specs.Samples.{label_of, labels_of, shown_label};
+ghost use Rattle.fm_exposition.specs.Samples.{label_of, labels_of};
 ghost use Rattle.fm_writer.specs.inside.Grown.{Grows};
 
 use crate::label_text::LabelText;
@@ -11,44 +11,8 @@ use crate::output::Output;
 use crate::rendering::{append_escaped, is_plain};
 use std::alloc::AllocError;
 
-// A label as two texts, owned or lent.
-pub(crate) trait Pair {
-    // The label.
-    ghost label: { Self → Label };
-
-    fn name(&self) -> &[u8]
-        ensures { result.now ≡ (label self.now).name };
-
-    fn value(&self) -> &[u8]
-        ensures { result.now ≡ (label self.now).value };
-}
-
-impl Pair for (String, String) {
-    ghost label = { label_of };
-
-    fn name(&self) -> &[u8] {
-        self.0.as_bytes()
-    }
-
-    fn value(&self) -> &[u8] {
-        self.1.as_bytes()
-    }
-}
-
-impl Pair for (&str, &str) {
-    ghost label = { shown_label };
-
-    fn name(&self) -> &[u8] {
-        self.0.as_bytes()
-    }
-
-    fn value(&self) -> &[u8] {
-        self.1.as_bytes()
-    }
-}
-
-// The common labels of samples, which come before their own.
-pub(crate) trait Front<O: Output> {
+// Labels of samples, the common ones or their own.
+pub(crate) trait LabelSource<O: Output> {
     // The labels.
     ghost labels: { Self → List Label };
 
@@ -64,8 +28,8 @@ pub(crate) trait Front<O: Output> {
         ensures { OnOk result (Grows (O.stands_for text.old) (O.stands_for text.new) (label_list_text (labels self.now))) };
 }
 
-impl<O: Output> Front<O> for LabelText {
-    ghost labels = { λ front. front.labels };
+impl<O: Output> LabelSource<O> for LabelText {
+    ghost labels = { λ source. source.labels };
 
     fn len(&self) -> usize {
         self.len()
@@ -83,10 +47,10 @@ pub(crate) struct Rendered<'a, O> {
     pub(crate) text: &'a O,
 }
 
-impl<O: Output> Front<O> for Rendered<'_, O> {
-    ghost labels = { λ front. labels_of front.labels.now };
+impl<O: Output> LabelSource<O> for Rendered<'_, O> {
+    ghost labels = { λ source. labels_of source.labels.now };
 
-    ghost is_ready = { λ front. O.stands_for front.text.now (label_list_text (labels_of front.labels.now)) };
+    ghost is_ready = { λ source. O.stands_for source.text.now (label_list_text (labels_of source.labels.now)) };
 
     #[tactic(auto, using(crate::proofs::GrownLemmas::two_blocks))]
     fn len(&self) -> usize {
@@ -95,6 +59,19 @@ impl<O: Output> Front<O> for Rendered<'_, O> {
 
     fn append_to(&self, text: &mut O) -> Result<(), AllocError> {
         text.put_output(self.text)
+    }
+}
+
+impl<O: Output> LabelSource<O> for &[(String, String)] {
+    ghost labels = { λ source. labels_of source.now };
+
+    #[tactic(auto, using(crate::proofs::GrownLemmas::two_blocks))]
+    fn len(&self) -> usize {
+        <[(String, String)]>::len(self)
+    }
+
+    fn append_to(&self, text: &mut O) -> Result<(), AllocError> {
+        append_label_list(text, self)
     }
 }
 
@@ -137,28 +114,35 @@ pub(crate) fn append_label<O: Output>(
 }
 
 // Appends labels with a comma before each.
-fn append_further_labels<O: Output, L: Pair>(text: &mut O, labels: &[L]) -> Result<(), AllocError>
-    ensures { OnOk result (Grows (O.stands_for text.old) (O.stands_for text.new) (further_labels (map L.label labels.now))) }
+fn append_further_labels<O: Output>(
+    text: &mut O,
+    labels: &[(String, String)],
+) -> Result<(), AllocError>
+    ensures { OnOk result (Grows (O.stands_for text.old) (O.stands_for text.new) (further_labels (labels_of labels.now))) }
 {
     for label in labels {
-        append_separated(text, b",", label.name(), label.value())?;
+        append_separated(text, b",", label.0.as_bytes(), label.1.as_bytes())?;
     }
     Ok(())
 }
 
 // Appends a label, and others with a comma before each.
 #[tactic(auto, using(crate::proofs::GrownLemmas::grown))]
-fn append_first<O: Output, L: Pair>(text: &mut O, first: &L, others: &[L]) -> Result<(), AllocError>
-    ensures { OnOk result (Grows (O.stands_for text.old) (O.stands_for text.new) (label_text (L.label first.now) ++ further_labels (map L.label others.now))) }
+fn append_first<O: Output>(
+    text: &mut O,
+    first: &(String, String),
+    others: &[(String, String)],
+) -> Result<(), AllocError>
+    ensures { OnOk result (Grows (O.stands_for text.old) (O.stands_for text.new) (label_text (label_of first.now) ++ further_labels (labels_of others.now))) }
 {
-    append_label(text, first.name(), first.value())?;
+    append_label(text, first.0.as_bytes(), first.1.as_bytes())?;
     append_further_labels(text, others)
 }
 
 // Appends labels with commas between them.
 #[tactic(auto, using(crate::proofs::GrownLemmas::grown))]
-fn append_label_list<O: Output, L: Pair>(text: &mut O, labels: &[L]) -> Result<(), AllocError>
-    ensures { OnOk result (Grows (O.stands_for text.old) (O.stands_for text.new) (label_list_text (map L.label labels.now))) }
+fn append_label_list<O: Output>(text: &mut O, labels: &[(String, String)]) -> Result<(), AllocError>
+    ensures { OnOk result (Grows (O.stands_for text.old) (O.stands_for text.new) (label_list_text (labels_of labels.now))) }
 {
     match labels.split_first() {
         Some((first, others)) => append_first(text, first, others),
@@ -190,33 +174,38 @@ pub(crate) fn append_in_braces<O: Output>(
     text.put(b"}")
 }
 
-// Appends common labels, and further ones with a comma before each.
+// Appends two lists of labels with a comma between them. Neither is empty.
 #[tactic(auto, using(crate::proofs::GrownLemmas::grown))]
-fn append_after<O: Output, F: Front<O>, L: Pair>(
+fn append_both<O: Output, F: LabelSource<O>, G: LabelSource<O>>(
     text: &mut O,
     common: &F,
-    own: &[L],
+    own: &G,
 ) -> Result<(), AllocError>
-    requires { F.is_ready common.now }
-    ensures { OnOk result (Grows (O.stands_for text.old) (O.stands_for text.new) (label_list_text (F.labels common.now) ++ further_labels (map L.label own.now))) }
+    requires common { F.is_ready common.now }
+    requires own { G.is_ready own.now }
+    ensures { OnOk result (Grows (O.stands_for text.old) (O.stands_for text.new) (label_list_text (F.labels common.now) ++ (codes "," ++ label_list_text (G.labels own.now)))) }
 {
     common.append_to(text)?;
-    append_further_labels(text, own)
+    text.put(b",")?;
+    own.append_to(text)
 }
 
 // Appends common labels and further ones with commas between them.
-#[tactic(auto, using(crate::proofs::GrownLemmas::grown, fm_exposition::proofs::RowLemmas::joined))]
-pub(crate) fn append_joined_list<O: Output, F: Front<O>, L: Pair>(
+#[tactic(auto, using(fm_exposition::proofs::RowLemmas::joined))]
+pub(crate) fn append_joined_list<O: Output, F: LabelSource<O>, G: LabelSource<O>>(
     text: &mut O,
     common: &F,
-    own: &[L],
+    own: &G,
 ) -> Result<(), AllocError>
-    requires { F.is_ready common.now }
-    ensures { OnOk result (Grows (O.stands_for text.old) (O.stands_for text.new) (label_list_text (F.labels common.now ++ map L.label own.now))) }
+    requires common { F.is_ready common.now }
+    requires own { G.is_ready own.now }
+    ensures { OnOk result (Grows (O.stands_for text.old) (O.stands_for text.new) (label_list_text (F.labels common.now ++ G.labels own.now))) }
 {
-    if common.len() == 0 {
-        append_label_list(text, own)
+    if own.len() == 0 {
+        common.append_to(text)
+    } else if common.len() == 0 {
+        own.append_to(text)
     } else {
-        append_after(text, common, own)
+        append_both(text, common, own)
     }
 }

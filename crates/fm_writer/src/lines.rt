@@ -1,8 +1,8 @@
 //! The lines of a document so far.
-ghost use Rattle.std.specs.Prelude.{◌≡◌, ◌++◌, [], map, OnOk};
+ghost use Rattle.std.specs.Prelude.{◌≡◌, ◌++◌, [], OnOk};
 ghost use Rattle.std.specs.Option.{option_map, option_copied};
 ghost use Rattle.fm_exposition.specs.Rows.{sample_row, head_rows};
-ghost use Rattle.fm_exposition.specs.Samples.{shown_label, value_of, exemplar_at};
+ghost use Rattle.fm_exposition.specs.Samples.{value_of, exemplar_at};
 ghost use Rattle.fm_writer.specs.inside.Grown.{Grown};
 
 use crate::growing::GrowingText;
@@ -79,14 +79,14 @@ impl Lines {
         name: &str,
         kind: SampleKind,
         common: &LabelText,
-        own: &[(&str, &str)],
+        own: &LabelText,
         value: Value,
         time: Option<u128>,
         exemplar: Option<&Exemplar>,
     ) -> Result<(), AllocError>
         ensures { OnOk result (Grown self.old.text self.new.text (sample_row name.now (record {
           kind = kind;
-          labels = common.now.labels ++ map shown_label own.now;
+          labels = common.now.labels ++ own.now.labels;
           value = value_of value;
           time = time;
           exemplar = option_map exemplar_at exemplar.entry;

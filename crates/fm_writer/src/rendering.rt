@@ -1,12 +1,12 @@
 // The texts of the parts of a sample's line, appended to an output.
-ghost use Rattle.std.specs.Prelude.{◌≡◌, ◌⊎◌, ◌≤◌, ◌++◌, [], ◌∷◌, length, take, map, codes, IsTrue, OnOk, None};
+ghost use Rattle.std.specs.Prelude.{◌≡◌, ◌⊎◌, ◌≤◌, ◌++◌, [], ◌∷◌, length, take, codes, IsTrue, OnOk, None};
 ghost use Rattle.std.specs.Option.{option_map};
 ghost use Rattle.fm_grammar.specs.Spelling.{escape, escaped, value_text, time_text, exemplar_text};
 ghost use Rattle.fm_exposition.specs.Rows.{sample_row};
 ghost use Rattle.fm_exposition.specs.Samples.{value_of, exemplar_at};
 ghost use Rattle.fm_writer.specs.inside.Grown.{Grows};
 
-use crate::labels::{Front, Pair, append_in_braces, append_joined_list};
+use crate::labels::{LabelSource, append_in_braces, append_joined_list};
 use crate::output::Output;
 use fm_exposition::{Exemplar, Value};
 use fm_grammar::SampleKind;
@@ -75,17 +75,6 @@ pub(crate) fn append_escaped<O: Output>(text: &mut O, raw: &[u8]) -> Result<(), 
     }
 }
 
-// Appends a value.
-fn append_value<O: Output>(text: &mut O, value: &Value) -> Result<(), AllocError>
-    ensures { OnOk result (Grows (O.stands_for text.old) (O.stands_for text.new) (value_text (value_of value.now))) }
-{
-    match value {
-        Value::Whole(whole) => text.put(Buffer::new().format(*whole).as_bytes()),
-        Value::Fixed(sum) => text.put(FixedBuffer::new().format(*sum).as_bytes()),
-        Value::Millis(millis) => text.put(FixedBuffer::new().format_millis(*millis).as_bytes()),
-    }
-}
-
 // Appends a space and a timestamp, and nothing for none.
 #[tactic(auto, using(crate::proofs::GrownLemmas::grown))]
 fn append_time<O: Output>(text: &mut O, time: Option<u128>) -> Result<(), AllocError>
@@ -119,8 +108,29 @@ fn append_exemplar<O: Output>(text: &mut O, exemplar: Option<&Exemplar>) -> Resu
     }
 }
 
-// Appends a value, a timestamp, an exemplar and a line feed.
+// Appends the text of a value, a timestamp, an exemplar and a line feed.
 #[tactic(auto, using(crate::proofs::GrownLemmas::grown))]
+#[inline(always)]
+fn append_shown<O: Output>(
+    text: &mut O,
+    value: &str,
+    time: Option<u128>,
+    exemplar: Option<&Exemplar>,
+) -> Result<(), AllocError>
+    ensures { OnOk result (Grows (O.stands_for text.old) (O.stands_for text.new) (value.now ++ (time_text time ++ (exemplar_text (option_map exemplar_at exemplar.entry) ++ codes "\n")))) }
+{
+    match (time, exemplar) {
+        (None, None) => text.put_three(value.as_bytes(), b"\n", b""),
+        _ => {
+            text.put(value.as_bytes())?;
+            append_time(text, time)?;
+            append_exemplar(text, exemplar)?;
+            text.put(b"\n")
+        }
+    }
+}
+
+// Appends a value, a timestamp, an exemplar and a line feed.
 #[inline(always)]
 fn append_reading<O: Output>(
     text: &mut O,
@@ -130,34 +140,38 @@ fn append_reading<O: Output>(
 ) -> Result<(), AllocError>
     ensures { OnOk result (Grows (O.stands_for text.old) (O.stands_for text.new) (value_text (value_of value.now) ++ (time_text time ++ (exemplar_text (option_map exemplar_at exemplar.entry) ++ codes "\n")))) }
 {
-    append_value(text, value)?;
-    append_time(text, time)?;
-    append_exemplar(text, exemplar)?;
-    text.put(b"\n")
+    let (mut whole, mut fixed) = (Buffer::new(), FixedBuffer::new());
+    let value = match value {
+        Value::Whole(number) => whole.format(*number),
+        Value::Fixed(sum) => fixed.format(*sum),
+        Value::Millis(millis) => fixed.format_millis(*millis),
+    };
+    append_shown(text, value, time, exemplar)
 }
 
 // Appends a sample's line.
-pub(crate) fn append_sample_row<O: Output, F: Front<O>, L: Pair>(
+pub(crate) fn append_sample_row<O: Output, F: LabelSource<O>, G: LabelSource<O>>(
     text: &mut O,
     name: &str,
     kind: SampleKind,
     common: &F,
-    own: &[L],
+    own: &G,
     value: &Value,
     time: Option<u128>,
     exemplar: Option<&Exemplar>,
 ) -> Result<(), AllocError>
-    requires { F.is_ready common.now }
+    requires common { F.is_ready common.now }
+    requires own { G.is_ready own.now }
     ensures { OnOk result (Grows (O.stands_for text.old) (O.stands_for text.new) (sample_row name.now (record {
       kind = kind;
-      labels = F.labels common.now ++ map L.label own.now;
+      labels = F.labels common.now ++ G.labels own.now;
       value = value_of value.now;
       time = time;
       exemplar = option_map exemplar_at exemplar.entry;
     }))) }
 {
     let (name, suffix) = (name.as_bytes(), kind.suffix().as_bytes());
-    if common.len() == 0 && own.is_empty() {
+    if common.len() == 0 && own.len() == 0 {
         text.put_three(name, suffix, b" ")?;
         return append_reading(text, value, time, exemplar);
     }

@@ -39,12 +39,19 @@ pub fn owned_labels(
     Ok(owned)
 }
 
+// Copies of the labels.
+fn copied(alloc: Global, labels: &LabelText) -> Result<Vec<(String, String)>, AllocError>
+    ensures { IfOk result (λ owned. labels_of owned.items ≡ labels.now.labels) }
+{
+    let pairs = labels.pairs(alloc, 0)?;
+    owned_labels(alloc, &pairs)
+}
+
 // The labels, for samples to share.
 fn shared(alloc: Global, labels: &LabelText) -> Result<CommonLabels, AllocError>
     ensures { IfOk result (λ shared. shared_labels shared ≡ labels.now.labels) }
 {
-    let pairs = labels.pairs(alloc, 0)?;
-    let shared = Arc::new(alloc, owned_labels(alloc, &pairs)?)?;
+    let shared = Arc::new(alloc, copied(alloc, labels)?)?;
     Ok(shared)
 }
 
@@ -151,7 +158,7 @@ impl Sink {
         name: &str,
         kind: SampleKind,
         common: &LabelText,
-        own: &[(&str, &str)],
+        own: &LabelText,
         value: Value,
         time: Option<u128>,
         exemplar: Option<Exemplar>,
@@ -160,7 +167,7 @@ impl Sink {
         ensures shared { self.new.shared ≡ self.old.shared }
         ensures pushed { OnOk result (self.new.output ≡ appended name.now self.old.output (record {
           kind = kind;
-          labels = common.now.labels ++ map shown_label own.now;
+          labels = common.now.labels ++ own.now.labels;
           value = value_of value;
           time = time;
           exemplar = option_map exemplar_of exemplar;
@@ -169,7 +176,7 @@ impl Sink {
     {
         match &mut self.form {
             Form::Samples(_, false) => Err(EncodeError::Memory),
-            Form::Samples(store, true) => match owned_labels(self.alloc, own) {
+            Form::Samples(store, true) => match copied(self.alloc, own) {
                 Ok(own) => store.push(kind, own, value, time, exemplar),
                 Err(_) => Err(EncodeError::Memory),
             },

@@ -38,7 +38,7 @@ fn append_sample<O: Output>(
         name,
         sample.kind(),
         &common,
-        parts::own(sample),
+        &parts::own(sample),
         &sample.value(),
         sample.timestamp_millis(),
         sample.exemplar(),

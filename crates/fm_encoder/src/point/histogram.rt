@@ -13,12 +13,13 @@ ghost use Rattle.fm_encoder.specs.inside.Steps.{PushesSample};
 ghost use Rattle.fm_encoder.specs.Buckets.{HasBuckets, slots_of, MaySlotsFault, BeginsBuckets, PushesBucket, PushesBuckets};
 
 use crate::exemplar::{EncodeExemplar, exemplar_if_any};
-use crate::point::PointEncoder;
-use fm_bucket::{BUCKET_LABEL, Bound, Bucket};
+use crate::point::bound_label::kept_label;
+use crate::point::{PointEncoder, push_to};
+use fm_bucket::Bucket;
 use fm_encode_error::EncodeError;
 use fm_exposition::{Exemplar, Value};
 use fm_grammar::{MetricType, SampleKind};
-use fm_raw::fixed::{FixedBuffer, FixedSum};
+use fm_raw::fixed::FixedSum;
 use std::time::Duration;
 
 pub mod bare;
@@ -98,7 +99,7 @@ impl PointEncoder {
     {
         let mut values = 0;
         for i in 0..buckets.len() {
-            values = self.push_bucket(values, &buckets[i], exemplars[i])?;
+            values = self.push_bucket(values, i, &buckets[i], exemplars[i])?;
         }
         Ok(())
     }
@@ -107,6 +108,7 @@ impl PointEncoder {
     fn push_bucket<E: EncodeExemplar>(
         &mut self,
         before: u64,
+        index: usize,
         bucket: &Bucket,
         exemplar: Option<&E>,
     ) -> Result<u64, EncodeError>
@@ -125,27 +127,40 @@ impl PointEncoder {
                 return Err(error);
             }
         };
-        self.push_bound(bucket.upper_bound(), values, exemplar)?;
+        self.push_bound(index, bucket, values, exemplar)?;
         Ok(values)
     }
 
     // Adds a sample that shows so many values up to the bound.
     fn push_bound(
         &mut self,
-        bound: Bound,
+        index: usize,
+        bucket: &Bucket,
         values: u64,
         exemplar: Option<Exemplar>,
     ) -> Result<(), EncodeError>
         requires accepting { self.old.refused ≡ None }
         requires buckets { HasBuckets self.old.setting.metric_type }
         requires exemplar { IfSome exemplar (λ x. IsExemplar (exemplar_of x)) }
-        ensures pushed { PushesSample (record (plain_sample self.old.setting self.old.common BucketKind (bound_label bound ∷ []) (Whole (pos values))) { exemplar = option_map exemplar_of exemplar }) self.old self.new }
+        ensures pushed { PushesSample (record (plain_sample self.old.setting self.old.common BucketKind (bound_label bucket.now.upper_bound ∷ []) (Whole (pos values))) { exemplar = option_map exemplar_of exemplar }) self.old self.new }
         ensures answered { result ≡ answer self.new.refused }
     {
-        let mut buffer = FixedBuffer::new();
-        let text = bound.format(&mut buffer);
-        let value = Value::Whole(i128::from(values));
-        let own = [(BUCKET_LABEL, text)];
-        self.push_labeled(SampleKind::Bucket, &own, value, exemplar)
+        let Ok(own) = kept_label(self.alloc, &mut self.bounds, index, bucket) else {
+            return self.refuse(EncodeError::Memory);
+        };
+        match push_to(
+            &mut self.sink,
+            self.name.as_str(),
+            self.labels.metric_type(),
+            SampleKind::Bucket,
+            self.labels.text(),
+            own,
+            Value::Whole(i128::from(values)),
+            self.time,
+            exemplar,
+        ) {
+            Ok(()) => Ok(()),
+            Err(error) => self.refuse(error),
+        }
     }
 }

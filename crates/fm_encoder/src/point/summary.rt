@@ -7,12 +7,14 @@ ghost use Rattle.fm_encoder.specs.Gathered.{answer};
 ghost use Rattle.fm_encoder.specs.Hands.{HandsPoints};
 ghost use Rattle.fm_encoder.specs.inside.Steps.{PushesSample, PushesSamples};
 
+use crate::gathered::push_label;
 use crate::point::PointEncoder;
 use fm_bucket::{QUANTILE_LABEL, Quantile};
 use fm_encode_error::EncodeError;
 use fm_exposition::Value;
 use fm_grammar::{MetricType, SampleKind};
 use fm_raw::fixed::{FixedBuffer, FixedSum};
+use fm_writer::LabelText;
 use std::time::Duration;
 
 impl PointEncoder {
@@ -31,25 +33,30 @@ impl PointEncoder {
         ensures answered { result ≡ answer self.new.refused }
     {
         self.begin_point(MetricType::Summary)?;
-        self.push_quantiles(quantiles)?;
+        let mut own = LabelText::new(self.alloc);
+        self.push_quantiles(&mut own, quantiles)?;
         self.push_totals(count, sum, created)
     }
 
     // Adds a sample for each quantile, in order.
-    fn push_quantiles(&mut self, quantiles: &[Quantile]) -> Result<(), EncodeError>
+    fn push_quantiles(
+        &mut self,
+        own: &mut LabelText,
+        quantiles: &[Quantile],
+    ) -> Result<(), EncodeError>
         requires accepting { self.old.refused ≡ None }
         requires summary { self.old.setting.metric_type ≡ MetricType.Summary }
         ensures pushed { PushesSamples (map (quantile_sample self.old.setting self.old.common) quantiles.now) self.old self.new }
         ensures answered { result ≡ answer self.new.refused }
     {
         for quantile in quantiles {
-            self.push_quantile(quantile)?;
+            self.push_quantile(own, quantile)?;
         }
         Ok(())
     }
 
     // Adds the sample of one quantile.
-    fn push_quantile(&mut self, quantile: &Quantile) -> Result<(), EncodeError>
+    fn push_quantile(&mut self, own: &mut LabelText, quantile: &Quantile) -> Result<(), EncodeError>
         requires accepting { self.old.refused ≡ None }
         requires summary { self.old.setting.metric_type ≡ MetricType.Summary }
         ensures pushed { PushesSample (quantile_sample self.old.setting self.old.common quantile.now) self.old self.new }
@@ -57,8 +64,11 @@ impl PointEncoder {
     {
         let mut buffer = FixedBuffer::new();
         let text = buffer.format(FixedSum::from(quantile.quantile()));
+        own.clear();
+        if let Err(_) = push_label(own, QUANTILE_LABEL, text) {
+            return self.refuse(EncodeError::Memory);
+        }
         let value = Value::Fixed(FixedSum::from(quantile.value()));
-        let own = [(QUANTILE_LABEL, text)];
-        self.push_labeled(SampleKind::Plain, &own, value, None)
+        self.push_labeled(SampleKind::Plain, own, value, None)
     }
 }

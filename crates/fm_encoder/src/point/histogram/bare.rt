@@ -58,7 +58,7 @@ fn push_bare_buckets(points: &mut PointEncoder, buckets: &[Bucket]) -> Result<()
 {
     let mut values = 0;
     for i in 0..buckets.len() {
-        values = points.push_bucket(values, &buckets[i], None::<&()>)?;
+        values = points.push_bucket(values, i, &buckets[i], None::<&()>)?;
     }
     Ok(())
 }

@@ -1,5 +1,4 @@
-use Rattle.std.proofs.Common.{◌++◌, ℕ, ap, ◌∙◌, drop, length, map}
-use Rattle.fm_exposition.specs.Samples.{shown_label}
+use Rattle.std.proofs.Common.{◌++◌, ℕ, ap, ◌∙◌, drop, length}
 use Rattle.fm_encoder.specs.Labels.{all_written}
 use Rattle.fm_encoder.proofs.NameLemmas.{AreLabels-behind, own_of_all}
 use Rattle.fm_encoder.proofs.point.PointEncoder.encode_info.Goals as goal
@@ -11,5 +10,5 @@ push_labeled-requires-clause-labels g c = rw (← c.self.view_is) (λ h _.
     let all = c.text-2.result.now.labels in
     let behind = rw (c.text.ensures) at c.in_default.ensures.gathered in
     let count = c.len.ensures ∙ ap length c.text-3.ensures in
-    let own = ap (map shown_label) c.deref.ensures.value ∙ (c.in-Ok.ensures ∙ (ap (λ (n : ℕ). drop n all) count ∙ own_of_all common all (all_written handed) (c.text-2.ensures ∙ behind.1))) in
+    let own = (c.in-Ok.ensures ∙ (ap (λ (n : ℕ). drop n all) count ∙ own_of_all common all (all_written handed) (c.text-2.ensures ∙ behind.1))) in
     AreLabels-behind _ common _ handed h behind.0 (ap (λ ls. common ++ ls) own)))

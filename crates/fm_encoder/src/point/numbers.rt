@@ -1,0 +1,110 @@
+//! The points of unknown metrics, gauges and counters.
+ghost use Rattle.std.specs.Prelude.{◌≡◌, ◌⊎◌, [], ◌∷◌, MatchOption, None, Contains};
+ghost use Rattle.std.specs.Option.{option_map, option_map_or};
+ghost use Rattle.fm_grammar.specs.declared.MetricType.{MetricType};
+ghost use Rattle.fm_grammar.specs.declared.SampleKind.TheVariants.{Total as TotalKind, Created as CreatedKind};
+ghost use Rattle.fm_grammar.specs.WellFormed.{kinds_of};
+ghost use Rattle.fm_exposition.specs.Samples.{value_of, exemplar_of};
+ghost use Rattle.fm_encoder.specs.Points.{UnknownPoint, GaugePoint, CounterPoint, plain_sample, created_samples, millis};
+ghost use Rattle.fm_encoder.specs.Gathered.{answer};
+ghost use Rattle.fm_encoder.specs.Hands.{HandsPoints};
+ghost use Rattle.fm_encoder.specs.inside.Steps.{FitsType, PushesSamples};
+
+use crate::exemplar::{EncodeExemplar, exemplar_if_any};
+use crate::point::PointEncoder;
+use crate::value::{
+    EncodeCounterValue, EncodeGaugeValue, EncodeUnknownValue, counter_number, gauge_number,
+    unknown_number,
+};
+use fm_encode_error::EncodeError;
+use fm_exposition::{Exemplar, Value};
+use fm_grammar::{MetricType, SampleKind};
+use std::time::Duration;
+
+impl PointEncoder {
+    /// Takes an unknown metric's point. It is refused as `KindMismatch` in a family of another type, then for its
+    /// labels, then as `MissingValue` or `ValueTwice` where the value wrote not just one number. It may find no memory.
+    pub fn encode_unknown<V: EncodeUnknownValue>(&mut self, value: &V) -> Result<(), EncodeError>
+        ensures handed { HandsPoints (λ ps. ps ≡ UnknownPoint (V.numbers value.now) ∷ []) (V.may_fault value.now) self.old self.new result }
+        ensures answered { result ≡ answer self.new.refused }
+    {
+        self.begin_point(MetricType::Unknown)?;
+        match unknown_number(value) {
+            Ok(number) => self.push_sample(SampleKind::Plain, number, None),
+            Err(error) => self.refuse(error),
+        }
+    }
+
+    /// Takes a gauge's point, with the refusals of `encode_unknown`.
+    pub fn encode_gauge<V: EncodeGaugeValue>(&mut self, value: &V) -> Result<(), EncodeError>
+        ensures handed { HandsPoints (λ ps. ps ≡ GaugePoint (V.numbers value.now) ∷ []) (V.may_fault value.now) self.old self.new result }
+        ensures answered { result ≡ answer self.new.refused }
+    {
+        self.begin_point(MetricType::Gauge)?;
+        match gauge_number(value) {
+            Ok(number) => self.push_sample(SampleKind::Plain, number, None),
+            Err(error) => self.refuse(error),
+        }
+    }
+
+    /// Takes a counter's point: its total, an exemplar of it, and when it was created, of which whole milliseconds are
+    /// written. Beside the refusals of `encode_unknown` it has those of the exemplar.
+    pub fn encode_counter<V: EncodeCounterValue, E: EncodeExemplar>(
+        &mut self,
+        total: &V,
+        exemplar: Option<&E>,
+        created: Option<Duration>,
+    ) -> Result<(), EncodeError>
+        ensures handed { HandsPoints
+            (λ ps. ps ≡ CounterPoint (V.numbers total.now) (option_map_or (λ e. E.exemplars e.now) exemplar.entry []) (option_map millis created) ∷ [])
+            (V.may_fault total.now ⊎ MatchOption exemplar.entry ⊥ (λ e. E.may_fault e.now)) self.old self.new result }
+        ensures answered { result ≡ answer self.new.refused }
+    {
+        self.begin_point(MetricType::Counter)?;
+        let number = match counter_number(total) {
+            Ok(number) => number,
+            Err(error) => return self.refuse(error),
+        };
+        let exemplar = match exemplar_if_any(self.alloc, exemplar) {
+            Ok(exemplar) => exemplar,
+            Err(error) => return self.refuse(error),
+        };
+        self.push_total(number, exemplar, created)
+    }
+
+    // Adds the sample of a counter's total, and that of its time of creation, where there is one.
+    fn push_total(
+        &mut self,
+        number: Value,
+        exemplar: Option<Exemplar>,
+        created: Option<Duration>,
+    ) -> Result<(), EncodeError>
+        requires accepting { self.old.refused ≡ None }
+        requires counter { self.old.setting.metric_type ≡ MetricType.Counter }
+        requires fits { FitsType self.old.setting.metric_type TotalKind (value_of number) (option_map exemplar_of exemplar) }
+        ensures pushed { PushesSamples
+            (record (plain_sample self.old.setting self.old.common TotalKind [] (value_of number)) { exemplar = option_map exemplar_of exemplar }
+            ∷ created_samples self.old.setting self.old.common (option_map millis created)) self.old self.new }
+        ensures answered { result ≡ answer self.new.refused }
+    {
+        self.push_sample(SampleKind::Total, number, exemplar)?;
+        self.push_created(created)
+    }
+
+    // Adds the sample of a time of creation, where there is one.
+    pub(crate) fn push_created(&mut self, created: Option<Duration>) -> Result<(), EncodeError>
+        requires accepting { self.old.refused ≡ None }
+        requires kind { Contains (kinds_of self.old.setting.metric_type) CreatedKind }
+        ensures pushed { PushesSamples (created_samples self.old.setting self.old.common (option_map millis created)) self.old self.new }
+        ensures answered { result ≡ answer self.new.refused }
+    {
+        match created {
+            Some(time) => self.push_sample(
+                SampleKind::Created,
+                Value::Millis(time.as_millis()),
+                None,
+            ),
+            None => Ok(()),
+        }
+    }
+}

@@ -1,0 +1,102 @@
+//! The points of state sets and infos.
+ghost use Rattle.std.specs.Prelude.{◌≡◌, ◌⊎◌, [], ◌∷◌, None, Contains, map};
+ghost use Rattle.fm_grammar.specs.declared.MetricType.{MetricType};
+ghost use Rattle.fm_encoder.specs.Points.{StateSetPoint, InfoPoint, state_sample};
+ghost use Rattle.fm_encoder.specs.Labels.{label_names};
+ghost use Rattle.fm_encoder.specs.States.{state_of};
+ghost use Rattle.fm_encoder.specs.Gathered.{answer};
+ghost use Rattle.fm_encoder.specs.Hands.{HandsPoints};
+ghost use Rattle.fm_encoder.specs.inside.Steps.{PushesSample, PushesSamples, TestsStates};
+
+use crate::gathered::{labels_behind, labels_from, push_label};
+use crate::label::LabelSetEncoder;
+use crate::label_set::EncodeLabelSet;
+use crate::point::PointEncoder;
+use fm_encode_error::EncodeError;
+use fm_exposition::Value;
+use fm_grammar::{MetricType, SampleKind};
+use fm_writer::LabelText;
+
+impl PointEncoder {
+    /// Takes a state set's point: each state's text, and whether it is on. A state's label has the family's name; where a
+    /// common label has it too, the point is refused as `DuplicateLabel`. It is refused as `KindMismatch` in a family of
+    /// another type, then for its labels, and may find no memory.
+    pub fn encode_stateset(&mut self, states: Vec<(&str, bool)>) -> Result<(), EncodeError>
+        ensures handed { HandsPoints (λ ps. ps ≡ StateSetPoint (map state_of states.entry.items) ∷ []) ⊥ self.old self.new result }
+        ensures answered { result ≡ answer self.new.refused }
+    {
+        self.encode_states(states.as_slice())
+    }
+
+    pub(crate) fn encode_states(&mut self, states: &[(&str, bool)]) -> Result<(), EncodeError>
+        ensures handed { HandsPoints (λ ps. ps ≡ StateSetPoint (map state_of states.now) ∷ []) ⊥ self.old self.new result }
+        ensures answered { result ≡ answer self.new.refused }
+    {
+        self.begin_point(MetricType::StateSet)?;
+        self.test_states(states.is_empty())?;
+        self.push_states(&mut LabelText::new(self.alloc), states)
+    }
+
+    // Refuses the states, unless there are none, where a common label has the family's name.
+    fn test_states(&mut self, is_empty: bool) -> Result<(), EncodeError>
+        requires accepting { self.old.refused ≡ None }
+        ensures tested { TestsStates is_empty self.old self.new }
+        ensures answered { result ≡ answer self.new.refused }
+    {
+        if !is_empty && self.labels.text().has_name(self.name.as_str()) {
+            return self.refuse(EncodeError::DuplicateLabel);
+        }
+        Ok(())
+    }
+
+    // Adds a sample for each state, in order.
+    fn push_states(
+        &mut self,
+        own: &mut LabelText,
+        states: &[(&str, bool)],
+    ) -> Result<(), EncodeError>
+        requires accepting { self.old.refused ≡ None }
+        requires state_set { self.old.setting.metric_type ≡ MetricType.StateSet }
+        requires fresh { (states.now ≡ []) ⊎ (¬ (Contains (label_names self.old.common) self.old.setting.name)) }
+        ensures pushed { PushesSamples (map (state_sample self.old.setting self.old.common) (map state_of states.now)) self.old self.new }
+        ensures answered { result ≡ answer self.new.refused }
+    {
+        for state in states {
+            self.push_state(own, state)?;
+        }
+        Ok(())
+    }
+
+    // Adds the sample of one state, under an own label of the family's name.
+    fn push_state(&mut self, own: &mut LabelText, state: &(&str, bool)) -> Result<(), EncodeError>
+        requires accepting { self.old.refused ≡ None }
+        requires state_set { self.old.setting.metric_type ≡ MetricType.StateSet }
+        requires fresh { ¬ (Contains (label_names self.old.common) self.old.setting.name) }
+        ensures pushed { PushesSample (state_sample self.old.setting self.old.common (state_of state.now)) self.old self.new }
+        ensures answered { result ≡ answer self.new.refused }
+    {
+        own.clear();
+        if let Err(_) = push_label(own, self.name.as_str(), state.0) {
+            return self.refuse(EncodeError::Memory);
+        }
+        let value = Value::Whole(if state.1 { 1 } else { 0 });
+        self.push_labeled(SampleKind::Plain, own, value, None)
+    }
+
+    /// Takes an info's point: its labels, which stand behind the common ones. It is refused as `KindMismatch` in a family of
+    /// another type, then for the common labels, then for its own. It may find no memory.
+    pub fn encode_info<LS: EncodeLabelSet>(&mut self, labels: &LS) -> Result<(), EncodeError>
+        ensures handed { HandsPoints (λ ps. ps ≡ InfoPoint (LS.labels labels.now) ∷ []) (LS.may_fault labels.now) self.old self.new result }
+        ensures answered { result ≡ answer self.new.refused }
+    {
+        self.begin_point(MetricType::Info)?;
+        let mut all = LabelSetEncoder::new(self.alloc, self.labels.metric_type());
+        if let Err(error) = labels_behind(&mut all, self.labels.text(), labels) {
+            return self.refuse(error);
+        }
+        match labels_from(self.alloc, all.text(), self.labels.text().len()) {
+            Ok(own) => self.push_labeled(SampleKind::Info, &own, Value::Whole(1), None),
+            Err(_) => self.refuse(EncodeError::Memory),
+        }
+    }
+}
