@@ -13,7 +13,7 @@ use Rattle.fm_registry_calls.specs.Tree.{Tree, Reads}
 use Rattle.fm_registry_calls.specs.Listing.{Listed, listed_name, IsListable, order}
 use Rattle.fm_registry_calls.proofs.NameLemmas.{printed_names-different}
 use Rattle.fm_encoder.specs.Points.{Member}
-use Rattle.fm_encoder.specs.Gathered.{answer}
+use Rattle.fm_encoder.specs.Gathered.{result_of}
 use Rattle.fm_encoder.proofs.FaultLemmas.{MetricHasFault-not_writing}
 use Rattle.fm_registry.specs.Seen.{seen_list, seen_listed}
 use Rattle.fm_registry.specs.declared.listing.ListedMetric.{ListedMetric}
@@ -90,11 +90,11 @@ module _ {M : Type 0} where
   IsListable-at (y ∷ xs) (suc i) x within is all = IsListable-at xs i x (omega arith) is all.1
 
 -- what holds of a refusal that is kept holds of the one that is answered
-refused_answer : (r : Result (Unit {0}) EncodeError) (refused : Option EncodeError) (P : EncodeError → Type 0) → r ≡ answer refused → ((k : EncodeError) → refused ≡ Some k → P k) → IfErr r P
+refused_answer : (r : Result (Unit {0}) EncodeError) (refused : Option EncodeError) (P : EncodeError → Type 0) → r ≡ result_of refused → ((k : EncodeError) → refused ≡ Some k → P k) → IfErr r P
 refused_answer r None P is h = subst (λ s. IfErr s P) (sym is) tt
 refused_answer r (Some k) P is h = subst (λ s. IfErr s P) (sym is) (h k refl)
 
-pub refused_under : (Offers : List Member → Type 0) (Stamps : Option ℕ → Type 0) (MayFault : Type 0) (above heading : Heading) (r : Result (Unit {0}) EncodeError) (refused : Option EncodeError) → above ≡ heading → r ≡ answer refused
+pub refused_under : (Offers : List Member → Type 0) (Stamps : Option ℕ → Type 0) (MayFault : Type 0) (above heading : Heading) (r : Result (Unit {0}) EncodeError) (refused : Option EncodeError) → above ≡ heading → r ≡ result_of refused
     → ((k : EncodeError) → refused ≡ Some k → (k ≡ Memory) ⊎ FaultUnder Offers Stamps k MayFault above) → IfErr r (λ k. (k ≡ Memory) ⊎ FaultUnder Offers Stamps k MayFault heading)
 refused_under Offers Stamps MayFault above heading r refused same is faults =
     refused_answer r refused (λ k. (k ≡ Memory) ⊎ FaultUnder Offers Stamps k MayFault heading) is (λ k e. subst (λ d. (k ≡ Memory) ⊎ FaultUnder Offers Stamps k MayFault d) same (faults k e))

@@ -15,7 +15,7 @@ use Rattle.fm_encoder.specs.Labels.{IsReserved}
 use Rattle.fm_grammar.proofs.Runs.{all_append}
 use Rattle.fm_encode_error.specs.declared.EncodeError.{EncodeError}
 use Rattle.fm_encoder.specs.Points.{HandedExemplar, Setting, Point, ExemplarClean, values_in, BucketsClean, BucketsFault, PartsClean, type_of, point_samples, bucket_line, bucket_sample, bucket_samples}
-use Rattle.fm_encoder.specs.Gathered.{GatheredPoints, OwnRefusal, answer}
+use Rattle.fm_encoder.specs.Gathered.{GatheredPoints, OwnRefusal, result_of}
 use Rattle.fm_encoder.specs.Hands.{SamePlace, HandsPoints, points_samples}
 use Rattle.fm_encoder.specs.inside.Steps.{FitsType, PushesSample, PushesSamples}
 use Rattle.fm_encoder.specs.Buckets.{HasBuckets, HasTotals, slots_of, BeginsBuckets, PushesBucket, PushesBuckets}
@@ -241,7 +241,7 @@ PushesSamples-buckets buckets slots F old new push none = record {
 }
 
 -- a point whose first tests passed, and the samples that it has then
-pub HandsPoints-made : (point : Point) (xs : Setting → List Label → List Sample) (F : Type 0) (old begun new : GatheredPoints) → SamePlace old begun → begun.output ≡ old.output → ((k : EncodeError) → old.refused ≡ Some k → begun ≡ old) → begun.refused ≡ None → type_of point ≡ old.setting.metric_type → old.deferred ≡ None → PartsClean old.setting old.common point → point_samples old.setting old.common point ≡ xs old.setting old.common → PushesSamples (xs begun.setting begun.common) begun new → HandsPoints (λ ps. ps ≡ point ∷ []) F old new (answer new.refused)
+pub HandsPoints-made : (point : Point) (xs : Setting → List Label → List Sample) (F : Type 0) (old begun new : GatheredPoints) → SamePlace old begun → begun.output ≡ old.output → ((k : EncodeError) → old.refused ≡ Some k → begun ≡ old) → begun.refused ≡ None → type_of point ≡ old.setting.metric_type → old.deferred ≡ None → PartsClean old.setting old.common point → point_samples old.setting old.common point ≡ xs old.setting old.common → PushesSamples (xs begun.setting begun.common) begun new → HandsPoints (λ ps. ps ≡ point ∷ []) F old new (result_of new.refused)
 HandsPoints-made point xs F old begun new place output kept begun_none type deferred parts is push =
     let name = old.setting.name in
     let never : (k : EncodeError) → ¬ (old.refused ≡ Some k) = λ k e. (let same : begun ≡ old = kept k e in cc) in
@@ -263,7 +263,7 @@ HandsPoints-made point xs F old begun new place output kept begun_none type defe
     }
 
 -- a point with buckets: its first tests, its buckets, and the totals after them
-pub HandsPoints-buckets : (point : Point) (totals : Setting → List Label → List Sample) (buckets : List Bucket) (slots : List (List HandedExemplar)) (F : Type 0) (n : ℕ) (old begun pushed new : GatheredPoints) → ((common : List Label) → BucketsClean buckets slots → PartsClean old.setting common point) → ((common : List Label) → point_samples old.setting common point ≡ bucket_samples old.setting common [] buckets slots ++ totals old.setting common) → length slots ≡ n → BeginsBuckets (type_of point) (length buckets) n old begun → begun.refused ≡ None → PushesBuckets buckets slots F begun pushed → pushed.refused ≡ None → PushesSamples (totals pushed.setting pushed.common) pushed new → HandsPoints (λ ps. ps ≡ point ∷ []) F old new (answer new.refused)
+pub HandsPoints-buckets : (point : Point) (totals : Setting → List Label → List Sample) (buckets : List Bucket) (slots : List (List HandedExemplar)) (F : Type 0) (n : ℕ) (old begun pushed new : GatheredPoints) → ((common : List Label) → BucketsClean buckets slots → PartsClean old.setting common point) → ((common : List Label) → point_samples old.setting common point ≡ bucket_samples old.setting common [] buckets slots ++ totals old.setting common) → length slots ≡ n → BeginsBuckets (type_of point) (length buckets) n old begun → begun.refused ≡ None → PushesBuckets buckets slots F begun pushed → pushed.refused ≡ None → PushesSamples (totals pushed.setting pushed.common) pushed new → HandsPoints (λ ps. ps ≡ point ∷ []) F old new (result_of new.refused)
 HandsPoints-buckets point totals buckets slots F n old begun pushed new clean is same_number begins begun_none push pushed_none added =
     let all = PushesSamples-then (bucket_samples begun.setting begun.common [] buckets slots) totals begun pushed new (PushesSamples-buckets buckets slots F begun pushed push pushed_none) pushed_none added in
     let parts = clean old.common (same_number ∙ begins.same_number begun_none, push.fits pushed_none, push.clean pushed_none) in

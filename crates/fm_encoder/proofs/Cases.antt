@@ -1,7 +1,7 @@
 -- Cases of options and answers.
 use Rattle.std.proofs.Common.{◌≡◌, Option, Some, None, Result, Ok, Err, ◌⊎◌, inl, inr, refl}
 use Rattle.fm_encode_error.specs.declared.EncodeError.{EncodeError}
-use Rattle.fm_encoder.specs.Gathered.{answer}
+use Rattle.fm_encoder.specs.Gathered.{result_of}
 
 pub option_cases : {X : Type 0} → (o : Option X) → (o ≡ None) ⊎ ((x : X) × (o ≡ Some x))
 option_cases None = inl refl
@@ -20,6 +20,6 @@ ok_from_not (Ok _) never = refl
 ok_from_not (Err e) never = absurd (never e refl)
 
 -- an encoder that answers no refusal has none
-pub none_from_answer : {r : Result (Unit {0}) EncodeError} → (refused : Option EncodeError) → r ≡ answer refused → r ≡ Ok tt → refused ≡ None
+pub none_from_answer : {r : Result (Unit {0}) EncodeError} → (refused : Option EncodeError) → r ≡ result_of refused → r ≡ Ok tt → refused ≡ None
 none_from_answer None is ok = refl
 none_from_answer (Some k) is ok = absurd cc

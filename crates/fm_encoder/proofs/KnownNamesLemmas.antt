@@ -134,4 +134,4 @@ none_from (Some n) h = absurd (different h)
 pub learnt_set : (type : MetricType) (old new : KnownState) (was is : Bool) (l m : LabelsState) (name : Text) → AreKnown type old was l.labels l.name → is_some l.name ≡ false → NameFits type l.labels name → new.metric_type ≡ old.metric_type → (IsTrue is → (was ≡ true) × (new.names ≡ take (length l.labels) old.names ++ name ∷ [])) → m ≡ record l { name = Some name } → AreKnown type new is m.labels m.name
 learnt_set type old new was is l m name h idle fits kept learnt set =
     subst (λ (s : LabelsState). AreKnown type new is s.labels s.name) (sym set)
-        (learnt_known type old new was is l.labels name (subst (AreKnown type old was l.labels) (none_from l.name idle) h) fits kept learnt)
+    (learnt_known type old new was is l.labels name (subst (AreKnown type old was l.labels) (none_from l.name idle) h) fits kept learnt)

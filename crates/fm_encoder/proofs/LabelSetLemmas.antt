@@ -5,7 +5,7 @@ use Rattle.fm_encode_error.specs.declared.EncodeError.{EncodeError}
 use Rattle.fm_encode_error.specs.declared.EncodeError.TheVariants.{Memory}
 use Rattle.fm_grammar.specs.Exposition.{Label}
 use Rattle.fm_encoder.specs.Labels.{HandedLabel, NamePiece, ValuePiece, NameFits, CannotBegin, IsMalformed, PieceFault, LabelFault, pieces_of, written}
-use Rattle.fm_encoder.specs.Gathered.{GatheredPieces, GatheredLabels, OwnRefusal, own_refusal, answer}
+use Rattle.fm_encoder.specs.Gathered.{GatheredPieces, GatheredLabels, OwnRefusal, own_refusal, result_of}
 use Rattle.fm_encoder.specs.Hands.{HandsPieces, HandsLabels}
 use Rattle.fm_encoder.specs.inside.Steps.{EndsLabel}
 use Rattle.fm_encoder.proofs.Cases.{option_cases, answer_cases}
@@ -36,7 +36,7 @@ label_fault_of_pieces : (k : EncodeError) (type : MetricType) (before : List Lab
 label_fault_of_pieces k type before ps (inl m) = inl (m.0, malformed_of_pieces ps m.1)
 label_fault_of_pieces k type before ps (inr n) = inr n
 
-pub HandsLabels-one : (pieces : HandedLabel) (F : Type 0) (old mid new : GatheredPieces) (visited : Result (Unit {0}) EncodeError) → HandsPieces pieces F old mid visited → EndsLabel visited mid new → (old.refused ≡ None → old.pieces ≡ []) → HandsLabels (pieces ∷ []) F (set_of old) (set_of new) (answer new.refused)
+pub HandsLabels-one : (pieces : HandedLabel) (F : Type 0) (old mid new : GatheredPieces) (visited : Result (Unit {0}) EncodeError) → HandsPieces pieces F old mid visited → EndsLabel visited mid new → (old.refused ≡ None → old.pieces ≡ []) → HandsLabels (pieces ∷ []) F (set_of old) (set_of new) (result_of new.refused)
 HandsLabels-one pieces F old mid new visited hands ends empty =
     let all_pieces : old.refused ≡ None → mid.refused ≡ None → visited ≡ Ok tt → mid.pieces ≡ pieces =
     (λ o m v. rw (empty o) at (hands.handed o m v)) in

@@ -12,7 +12,7 @@ use Rattle.fm_writer.specs.Output.{appended}
 use Rattle.fm_writer.proofs.OutputLemmas.{appended-append, appended-none}
 use Rattle.fm_encoder.specs.Labels.{HandedLabel, LabelsClean, LabelsFault, all_written, handed_again}
 use Rattle.fm_encoder.specs.Points.{Point, Member, Setting, Context, PointClean, PartsFault, point_samples, MembersClean, MembersFault, member_samples, members_samples}
-use Rattle.fm_encoder.specs.Gathered.{GatheredPoints, GatheredMembers, OwnRefusal, own_refusal, answer}
+use Rattle.fm_encoder.specs.Gathered.{GatheredPoints, GatheredMembers, OwnRefusal, own_refusal, result_of}
 use Rattle.fm_encoder.specs.Hands.{HandsPoints, HandsMembers, PointsClean, PointsFault, points_samples, MembersOf, members_of, Joined, OffersOf}
 use Rattle.fm_encoder.specs.inside.Steps.{BeginsMember, EndsPoints}
 use Rattle.fm_encoder.proofs.Cases.{option_cases, answer_cases}
@@ -73,7 +73,7 @@ OwnRefusal-right k (inl m) = inl m
 OwnRefusal-right k (inr f) = inr (f.0, inr f.1)
 
 -- the points of a metric under one member's labels
-pub HandsMembers-one : (constants : List Label) (labels : List HandedLabel) (A : List Point → Type 0) (F G : Type 0) (old begun mid new : GatheredPoints) (visited : Result (Unit {0}) EncodeError) → BeginsMember (handed_again constants ++ labels) F old begun → HandsPoints A G begun mid visited → EndsPoints visited mid new → old.refused ≡ None → HandsMembers (MembersOf labels A) (F ⊎ G) (shown constants old) (shown constants new) (answer new.refused)
+pub HandsMembers-one : (constants : List Label) (labels : List HandedLabel) (A : List Point → Type 0) (F G : Type 0) (old begun mid new : GatheredPoints) (visited : Result (Unit {0}) EncodeError) → BeginsMember (handed_again constants ++ labels) F old begun → HandsPoints A G begun mid visited → EndsPoints visited mid new → old.refused ≡ None → HandsMembers (MembersOf labels A) (F ⊎ G) (shown constants old) (shown constants new) (result_of new.refused)
 HandsMembers-one constants labels A F G old begun mid new visited begins hands ends accepting =
     let begun_none : begun.refused ≡ None = begins.refused ∙ accepting in
     let same_context : context_of constants begun.setting ≡ context_of constants old.setting = ap (context_of constants) begins.setting in

@@ -47,9 +47,9 @@ pub record GatheredMembers : Type 0 where
   pub refused : Option EncodeError
 
 -- what an encoder's own call answers: the first refusal, for good
-abbrev pub answer : Option EncodeError → Result (Unit {0}) EncodeError
-answer None = Ok tt
-answer (Some k) = Err k
+abbrev pub result_of : Option EncodeError → Result (Unit {0}) EncodeError
+result_of None = Ok tt
+result_of (Some k) = Err k
 
 -- the refusal that an encoder makes of an error that what it visited answered of itself
 abbrev pub own_refusal : EncodeError → EncodeError

@@ -6,7 +6,7 @@ ghost use Rattle.fm_grammar.specs.WellFormed.{IsBetween, IsExemplar, AreMillis};
 ghost use Rattle.fm_exposition.specs.Samples.{labels_of, exemplar_of};
 ghost use Rattle.fm_encoder.specs.Labels.{LabelsClean, LabelsFault, all_written};
 ghost use Rattle.fm_encoder.specs.Points.{HandedExemplar, ExemplarPartsClean, ExemplarPartsFault, ExemplarClean, ExemplarFault, written_as, written_exemplar, millis};
-ghost use Rattle.fm_encoder.specs.Gathered.{OwnRefusal, answer};
+ghost use Rattle.fm_encoder.specs.Gathered.{OwnRefusal, result_of};
 ghost use Rattle.fm_encoder.specs.Hands.{HandsExemplars};
 
 use crate::label::LabelSetEncoder;
@@ -95,7 +95,7 @@ impl ExemplarEncoder {
         time: Option<Duration>,
     ) -> Result<(), EncodeError>
         ensures handed { HandsExemplars (record { labels = LS.labels labels.now; value = value; time = option_map millis time } ∷ []) (LS.may_fault labels.now) self.old self.new result }
-        ensures answered { result ≡ answer self.new.refused }
+        ensures answered { result ≡ result_of self.new.refused }
     {
         if let Some(error) = self.refused {
             return Err(error);

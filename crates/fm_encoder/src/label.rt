@@ -2,7 +2,7 @@
 ghost use Rattle.std.specs.Prelude.{◌≡◌, ◌↔◌, IsTrue, IfOk, ℕ, List, [], ◌∷◌, ◌++◌, Bool, ◌⊎◌, Some, None, Ok, Err, OnOk, MatchResult};
 ghost use Rattle.fm_encode_error.specs.declared.EncodeError.{EncodeError};
 ghost use Rattle.fm_encoder.specs.Labels.{HandedLabel, NamePiece, ValuePiece, written};
-ghost use Rattle.fm_encoder.specs.Gathered.{GatheredPieces, GatheredLabels, answer, own_refusal};
+ghost use Rattle.fm_encoder.specs.Gathered.{GatheredPieces, GatheredLabels, result_of, own_refusal};
 ghost use Rattle.fm_encoder.specs.Hands.{HandsPieces, HandsLabels};
 ghost use Rattle.fm_encoder.specs.inside.Steps.{EndsLabel};
 
@@ -128,7 +128,7 @@ impl LabelEncoder {
     #[tactic(auto, using(crate::proofs::KnownNamesLemmas::fits_known, crate::proofs::KnownNamesLemmas::may_follow, crate::proofs::KnownNamesLemmas::learnt_known, crate::proofs::KnownNamesLemmas::learnt_still))]
     pub fn encode_label_name(&mut self, name: &str) -> Result<(), EncodeError>
         ensures handed { HandsPieces (NamePiece name.now ∷ []) ⊥ self.old self.new result }
-        ensures answered { result ≡ answer self.new.refused }
+        ensures answered { result ≡ result_of self.new.refused }
     {
         if let Some(error) = self.refused {
             return Err(error);
@@ -162,7 +162,7 @@ impl LabelEncoder {
     /// and may find no memory.
     pub fn encode_str_value(&mut self, value: &str) -> Result<(), EncodeError>
         ensures handed { HandsPieces (ValuePiece value.now ∷ []) ⊥ self.old self.new result }
-        ensures answered { result ≡ answer self.new.refused }
+        ensures answered { result ≡ result_of self.new.refused }
     {
         if let Some(error) = self.refused {
             return Err(error);
@@ -183,7 +183,7 @@ impl LabelEncoder {
         ensures pieces { self.new.refused ≡ None → self.new.pieces ≡ [] }
         ensures labels { self.new.refused ≡ None → self.new.labels ≡ self.old.labels ++ written self.old.pieces }
         ensures refused { (k : EncodeError) → self.new.refused ≡ Some k → k ≡ EncodeError.Memory }
-        ensures answered { result ≡ answer self.new.refused }
+        ensures answered { result ≡ result_of self.new.refused }
     {
         match self.labels.end_label() {
             Ok(()) => Ok(()),
@@ -194,7 +194,7 @@ impl LabelEncoder {
     // Ends the label under way, where what was visited answered `visited`.
     fn end_label(&mut self, visited: Result<(), EncodeError>) -> Result<(), EncodeError>
         ensures ended { EndsLabel visited self.old self.new }
-        ensures answered { result ≡ answer self.new.refused }
+        ensures answered { result ≡ result_of self.new.refused }
     {
         if let Some(error) = self.refused {
             return Err(error);
@@ -280,7 +280,7 @@ impl LabelSetEncoder {
     /// and an error of the label's own as `Memory` or `MetricFault`.
     pub fn encode<L: EncodeLabel>(&mut self, label: &L) -> Result<(), EncodeError>
         ensures handed { HandsLabels (L.pieces label.now ∷ []) (L.may_fault label.now) self.old self.new result }
-        ensures answered { result ≡ answer self.new.refused }
+        ensures answered { result ≡ result_of self.new.refused }
     {
         let visited = label.encode(&mut self.label);
         self.label.end_label(visited)

@@ -3,7 +3,7 @@ ghost use Rattle.std.specs.Prelude.{◌≡◌, [], ◌∷◌, ◌++◌, ◌⊎�
 ghost use Rattle.std.specs.Option.{option_map_or};
 ghost use Rattle.fm_grammar.specs.Numbers.{fixed_text};
 ghost use Rattle.fm_encoder.specs.Labels.{NamePiece, ValuePiece};
-ghost use Rattle.fm_encoder.specs.Gathered.{answer};
+ghost use Rattle.fm_encoder.specs.Gathered.{result_of};
 ghost use Rattle.fm_encoder.specs.Hands.{HandsPieces};
 
 use crate::label::{EncodeLabel, EncodeLabelName, EncodeLabelValue, LabelEncoder};
@@ -176,7 +176,7 @@ impl LabelEncoder {
     /// Takes `true` or `false` as the label's value, as `encode_str_value` takes a text.
     pub fn encode_bool_value(&mut self, value: bool) -> Result<(), EncodeError>
         ensures handed { HandsPieces (ValuePiece (if value then codes "true" else codes "false") ∷ []) ⊥ self.old self.new result }
-        ensures answered { result ≡ answer self.new.refused }
+        ensures answered { result ≡ result_of self.new.refused }
     {
         self.encode_str_value(if value { "true" } else { "false" })
     }
@@ -184,7 +184,7 @@ impl LabelEncoder {
     /// Takes the number with its decimal places as the label's value, as `encode_str_value` takes a text.
     pub fn encode_fixed_value(&mut self, value: Fixed) -> Result<(), EncodeError>
         ensures handed { HandsPieces (ValuePiece (fixed_text value) ∷ []) ⊥ self.old self.new result }
-        ensures answered { result ≡ answer self.new.refused }
+        ensures answered { result ≡ result_of self.new.refused }
     {
         let mut buffer = FixedBuffer::new();
         self.encode_str_value(buffer.format(FixedSum::from(value)))

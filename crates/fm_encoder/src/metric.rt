@@ -11,7 +11,7 @@ ghost use Rattle.fm_writer.specs.Output.{AreShared, OutputText, with_lines};
 ghost use Rattle.fm_encoder.specs.Labels.{LabelsClean, LabelsFault, all_written, handed_again};
 ghost use Rattle.fm_encoder.specs.Points.{Member, UnknownPoint, GaugePoint, CounterPoint, StateSetPoint, InfoPoint, millis};
 ghost use Rattle.fm_encoder.specs.States.{state_of};
-ghost use Rattle.fm_encoder.specs.Gathered.{OwnRefusal, answer, own_refusal};
+ghost use Rattle.fm_encoder.specs.Gathered.{OwnRefusal, result_of, own_refusal};
 ghost use Rattle.fm_encoder.specs.Hands.{HandsLabels, HandsMembers, MembersOf};
 
 use crate::constants::ConstantLabels;
@@ -255,7 +255,7 @@ impl MetricEncoder {
         point: &P,
     ) -> Result<(), EncodeError>
         ensures handed { HandsMembers (MembersOf (LS.labels labels.now) (P.points point.now)) (LS.may_fault labels.now ⊎ P.may_fault point.now) self.old self.new result }
-        ensures answered { result ≡ answer self.new.refused }
+        ensures answered { result ≡ result_of self.new.refused }
     {
         if let Some(error) = self.points.refused() {
             return Err(error);
@@ -271,7 +271,7 @@ impl MetricEncoder {
           labels = [];
           point = UnknownPoint (V.numbers value.now);
         } ∷ []) (V.may_fault value.now) self.old self.new result }
-        ensures answered { result ≡ answer self.new.refused }
+        ensures answered { result ≡ result_of self.new.refused }
     {
         self.encode(&(), &UnknownNumber(value))
     }
@@ -282,7 +282,7 @@ impl MetricEncoder {
           labels = [];
           point = GaugePoint (V.numbers value.now);
         } ∷ []) (V.may_fault value.now) self.old self.new result }
-        ensures answered { result ≡ answer self.new.refused }
+        ensures answered { result ≡ result_of self.new.refused }
     {
         self.encode(&(), &GaugeNumber(value))
     }
@@ -298,7 +298,7 @@ impl MetricEncoder {
           labels = [];
           point = CounterPoint (V.numbers total.now) (option_map_or (λ e. E.exemplars e.now) exemplar.entry []) (option_map millis created);
         } ∷ []) (V.may_fault total.now ⊎ MatchOption exemplar.entry ⊥ (λ e. E.may_fault e.now)) self.old self.new result }
-        ensures answered { result ≡ answer self.new.refused }
+        ensures answered { result ≡ result_of self.new.refused }
     {
         let point = CounterTotal {
             total,
@@ -314,7 +314,7 @@ impl MetricEncoder {
           labels = [];
           point = StateSetPoint (map state_of states.entry.items);
         } ∷ []) ⊥ self.old self.new result }
-        ensures answered { result ≡ answer self.new.refused }
+        ensures answered { result ≡ result_of self.new.refused }
     {
         self.encode(&(), &States(states.as_slice()))
     }
@@ -325,7 +325,7 @@ impl MetricEncoder {
           labels = [];
           point = InfoPoint (LS.labels labels.now);
         } ∷ []) (LS.may_fault labels.now) self.old self.new result }
-        ensures answered { result ≡ answer self.new.refused }
+        ensures answered { result ≡ result_of self.new.refused }
     {
         self.encode(&(), &InfoLabels(labels))
     }

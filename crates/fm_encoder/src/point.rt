@@ -10,7 +10,7 @@ ghost use Rattle.fm_exposition.specs.Samples.{value_of, exemplar_of};
 ghost use Rattle.fm_writer.specs.Output.{AreShared, appended, with_lines};
 ghost use Rattle.fm_encoder.specs.Points.{Point};
 ghost use Rattle.fm_encoder.specs.Labels.{LabelsClean, LabelsFault, AreFree, all_written, handed_again};
-ghost use Rattle.fm_encoder.specs.Gathered.{OwnRefusal, answer};
+ghost use Rattle.fm_encoder.specs.Gathered.{OwnRefusal, result_of};
 ghost use Rattle.fm_encoder.specs.Hands.{HandsPoints};
 ghost use Rattle.fm_encoder.specs.inside.Steps.{FitsType, BeginsPoint, BeginsMember, PushesSample, EndsPoints};
 
@@ -213,7 +213,7 @@ impl PointEncoder {
     // Tests a point's type, and then whether the common labels were refused. The next sample begins the point.
     fn begin_point(&mut self, metric_type: MetricType) -> Result<(), EncodeError>
         ensures begun { BeginsPoint metric_type self.old self.new }
-        ensures answered { result ≡ answer self.new.refused }
+        ensures answered { result ≡ result_of self.new.refused }
     {
         if let Some(error) = self.refused {
             return Err(error);
@@ -246,7 +246,7 @@ impl PointEncoder {
           time = self.old.setting.time;
           exemplar = option_map exemplar_of exemplar;
         }) self.old self.new }
-        ensures answered { result ≡ answer self.new.refused }
+        ensures answered { result ≡ result_of self.new.refused }
     {
         match push_to(
             &mut self.sink,
@@ -280,7 +280,7 @@ impl PointEncoder {
           time = self.old.setting.time;
           exemplar = option_map exemplar_of exemplar;
         }) self.old self.new }
-        ensures answered { result ≡ answer self.new.refused }
+        ensures answered { result ≡ result_of self.new.refused }
     {
         self.push_labeled(kind, &LabelText::new(self.alloc), value, exemplar)
     }
@@ -313,7 +313,7 @@ impl PointEncoder {
     // Ends a member, where the point answered `visited`.
     pub(crate) fn end_points(&mut self, visited: Result<(), EncodeError>) -> Result<(), EncodeError>
         ensures ended { EndsPoints visited self.old self.new }
-        ensures answered { result ≡ answer self.new.refused }
+        ensures answered { result ≡ result_of self.new.refused }
     {
         if let Some(error) = self.refused {
             return Err(error);

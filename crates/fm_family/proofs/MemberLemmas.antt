@@ -13,7 +13,7 @@ use Rattle.std.proofs.Math.Seq.{take-append_seam}
 use Rattle.fm_encode_error.specs.declared.EncodeError.{EncodeError}
 use Rattle.fm_encoder.specs.Labels.{HandedLabel}
 use Rattle.fm_encoder.specs.Points.{Point, Member}
-use Rattle.fm_encoder.specs.Gathered.{GatheredMembers, answer}
+use Rattle.fm_encoder.specs.Gathered.{GatheredMembers, result_of}
 use Rattle.fm_encoder.specs.Hands.{HandsMembers, OffersOf, MembersOf}
 use Rattle.fm_encoder.proofs.MemberLemmas.{HandsMembers-then, HandsMembers-weaker, OffersOf-push}
 use Rattle.indexmap.specs.IndexMap.{IndexMap, get, get_by, insert_entry}
@@ -58,7 +58,7 @@ pub first_different : {L M : Type 0} (eq : L → L → Bool) → IsEquivalence e
 first_different eq laws labels Points pairs different ms (n, offered) = (take n pairs, rw keys_of-take (distinct-take laws n (keys_of pairs) different), offered)
 
 -- the encoder accepted if it returns `Ok`
-pub accepted : (refused : Option EncodeError) (r : Result (Unit {0}) EncodeError) → r ≡ Ok tt → r ≡ answer refused → refused ≡ None
+pub accepted : (refused : Option EncodeError) (r : Result (Unit {0}) EncodeError) → r ≡ Ok tt → r ≡ result_of refused → refused ≡ None
 accepted None r ok is = refl
 accepted (Some k) r ok is = absurd cc
 

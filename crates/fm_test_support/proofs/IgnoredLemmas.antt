@@ -3,7 +3,7 @@ use Rattle.std.proofs.Common.{◌≡◌, ◌∙◌, ◌++◌, inl, inr, List, []
 use Rattle.fm_encoder.proofs.Cases.{option_cases}
 use Rattle.fm_encode_error.specs.declared.EncodeError.{EncodeError}
 use Rattle.fm_encoder.specs.Points.{Member, Context, MembersFault}
-use Rattle.fm_encoder.specs.Gathered.{GatheredMembers, answer}
+use Rattle.fm_encoder.specs.Gathered.{GatheredMembers, result_of}
 use Rattle.fm_encoder.specs.Hands.{HandsMembers, Joined}
 use Rattle.fm_encoder.proofs.MemberLemmas.{HandsMembers-then, none_before_members}
 
@@ -13,16 +13,16 @@ MembersFault-before k context (x ∷ xs) ys (inl h) = inl h
 MembersFault-before k context (x ∷ xs) ys (inr h) = inr (MembersFault-before k context xs ys h)
 
 -- members of one part, whatever it was answered, and then of another
-pub HandsMembers-ignored : {A B : List Member → Type 0} {F : Type 0} (old mid new : GatheredMembers) (first second : Result (Unit {0}) EncodeError) (others : List Member) → HandsMembers A F old mid first → first ≡ answer mid.refused → HandsMembers B F mid new second → second ≡ answer new.refused → B others → HandsMembers (Joined A B) F old new (Ok tt)
+pub HandsMembers-ignored : {A B : List Member → Type 0} {F : Type 0} (old mid new : GatheredMembers) (first second : Result (Unit {0}) EncodeError) (others : List Member) → HandsMembers A F old mid first → first ≡ result_of mid.refused → HandsMembers B F mid new second → second ≡ result_of new.refused → B others → HandsMembers (Joined A B) F old new (Ok tt)
 HandsMembers-ignored {A} {B} {F} old mid new first second others a first_is b second_is admitted = record {
   context = b.context ∙ a.context;
   kept = λ k e. (let same : mid ≡ old = a.kept k e in b.kept k (ap (λ (g : GatheredMembers). g.refused) same ∙ e) ∙ same);
   handed = λ o n e.
       (let m = none_before_members mid new second b n in
-      (HandsMembers-then old mid new first second a (first_is ∙ ap answer m) (λ _. m) b).handed o n (second_is ∙ ap answer n));
+      (HandsMembers-then old mid new first second a (first_is ∙ ap result_of m) (λ _. m) b).handed o n (second_is ∙ ap result_of n));
   own = λ e n w. absurd cc;
   refused = λ k o n. elim (option_cases mid.refused) [
-    | inl m ↦ (HandsMembers-then old mid new first second a (first_is ∙ ap answer m) (λ _. m) b).refused k o n
+    | inl m ↦ (HandsMembers-then old mid new first second a (first_is ∙ ap result_of m) (λ _. m) b).refused k o n
     | inr (j, e) ↦ (let same : new ≡ mid = b.kept j e in
         elim (a.refused k o (ap (λ (g : GatheredMembers). g.refused) (sym same) ∙ n)) [
           | inl own ↦ inl own

@@ -3,7 +3,7 @@ ghost use Rattle.std.specs.Prelude.{◌≡◌, [], ◌∷◌};
 ghost use Rattle.std.specs.Option.{option_map};
 ghost use Rattle.fm_encoder.specs.Points.{HistogramPoint, GaugeHistogramPoint, millis};
 ghost use Rattle.fm_encoder.specs.Buckets.{slots_of, MaySlotsFault};
-ghost use Rattle.fm_encoder.specs.Gathered.{answer};
+ghost use Rattle.fm_encoder.specs.Gathered.{result_of};
 ghost use Rattle.fm_encoder.specs.Hands.{HandsMembers};
 
 use crate::exemplar::EncodeExemplar;
@@ -73,7 +73,7 @@ impl MetricEncoder {
           labels = [];
           point = HistogramPoint buckets.now (slots_of E.exemplars exemplars.now) count sum (option_map millis created);
         } ∷ []) (MaySlotsFault E.may_fault exemplars.now) self.old self.new result }
-        ensures answered { result ≡ answer self.new.refused }
+        ensures answered { result ≡ result_of self.new.refused }
     {
         let parts = HistogramParts {
             buckets,
@@ -96,7 +96,7 @@ impl MetricEncoder {
           labels = [];
           point = GaugeHistogramPoint buckets.now (slots_of E.exemplars exemplars.now) count sum;
         } ∷ []) (MaySlotsFault E.may_fault exemplars.now) self.old self.new result }
-        ensures answered { result ≡ answer self.new.refused }
+        ensures answered { result ≡ result_of self.new.refused }
     {
         let parts = GaugeHistogramParts {
             buckets,

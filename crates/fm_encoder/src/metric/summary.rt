@@ -2,7 +2,7 @@
 ghost use Rattle.std.specs.Prelude.{◌≡◌, [], ◌∷◌};
 ghost use Rattle.std.specs.Option.{option_map};
 ghost use Rattle.fm_encoder.specs.Points.{SummaryPoint, millis};
-ghost use Rattle.fm_encoder.specs.Gathered.{answer};
+ghost use Rattle.fm_encoder.specs.Gathered.{result_of};
 ghost use Rattle.fm_encoder.specs.Hands.{HandsMembers};
 
 use crate::metric::MetricEncoder;
@@ -42,7 +42,7 @@ impl MetricEncoder {
           labels = [];
           point = SummaryPoint quantiles.now sum count (option_map millis created);
         } ∷ []) ⊥ self.old self.new result }
-        ensures answered { result ≡ answer self.new.refused }
+        ensures answered { result ≡ result_of self.new.refused }
     {
         let parts = SummaryParts {
             quantiles,

@@ -7,7 +7,7 @@ ghost use Rattle.fm_grammar.specs.Exposition.{Whole};
 ghost use Rattle.fm_grammar.specs.declared.SampleKind.TheVariants.{Bucket as BucketKind};
 ghost use Rattle.fm_exposition.specs.Samples.{exemplar_of};
 ghost use Rattle.fm_encoder.specs.Points.{HistogramPoint, GaugeHistogramPoint, millis, plain_sample, bound_label};
-ghost use Rattle.fm_encoder.specs.Gathered.{answer};
+ghost use Rattle.fm_encoder.specs.Gathered.{result_of};
 ghost use Rattle.fm_encoder.specs.Hands.{HandsPoints};
 ghost use Rattle.fm_encoder.specs.inside.Steps.{PushesSample};
 ghost use Rattle.fm_encoder.specs.Buckets.{HasBuckets, slots_of, MaySlotsFault, BeginsBuckets, PushesBucket, PushesBuckets};
@@ -43,7 +43,7 @@ impl PointEncoder {
         ensures handed { HandsPoints
             (λ ps. ps ≡ HistogramPoint buckets.now (slots_of E.exemplars exemplars.now) count sum (option_map millis created) ∷ [])
             (MaySlotsFault E.may_fault exemplars.now) self.old self.new result }
-        ensures answered { result ≡ answer self.new.refused }
+        ensures answered { result ≡ result_of self.new.refused }
     {
         self.begin_buckets(MetricType::Histogram, buckets.len(), exemplars.len())?;
         self.push_buckets(buckets, exemplars)?;
@@ -62,7 +62,7 @@ impl PointEncoder {
         ensures handed { HandsPoints
             (λ ps. ps ≡ GaugeHistogramPoint buckets.now (slots_of E.exemplars exemplars.now) count sum ∷ [])
             (MaySlotsFault E.may_fault exemplars.now) self.old self.new result }
-        ensures answered { result ≡ answer self.new.refused }
+        ensures answered { result ≡ result_of self.new.refused }
     {
         self.begin_buckets(MetricType::GaugeHistogram, buckets.len(), exemplars.len())?;
         self.push_buckets(buckets, exemplars)?;
@@ -77,7 +77,7 @@ impl PointEncoder {
         slots: usize,
     ) -> Result<(), EncodeError>
         ensures begun { BeginsBuckets metric_type buckets slots self.old self.new }
-        ensures answered { result ≡ answer self.new.refused }
+        ensures answered { result ≡ result_of self.new.refused }
     {
         if self.refused.is_none() && metric_type == self.labels.metric_type() && buckets != slots {
             return self.refuse(EncodeError::ExemplarCountMismatch);
@@ -95,7 +95,7 @@ impl PointEncoder {
         requires buckets { HasBuckets self.old.setting.metric_type }
         requires slots { length exemplars.now ≡ length buckets.now }
         ensures pushed { PushesBuckets buckets.now (slots_of E.exemplars exemplars.now) (MaySlotsFault E.may_fault exemplars.now) self.old self.new }
-        ensures answered { result ≡ answer self.new.refused }
+        ensures answered { result ≡ result_of self.new.refused }
     {
         let mut values = 0;
         for i in 0..buckets.len() {
@@ -143,7 +143,7 @@ impl PointEncoder {
         requires buckets { HasBuckets self.old.setting.metric_type }
         requires exemplar { IfSome exemplar (λ x. IsExemplar (exemplar_of x)) }
         ensures pushed { PushesSample (record (plain_sample self.old.setting self.old.common BucketKind (bound_label bucket.now.upper_bound ∷ []) (Whole (pos values))) { exemplar = option_map exemplar_of exemplar }) self.old self.new }
-        ensures answered { result ≡ answer self.new.refused }
+        ensures answered { result ≡ result_of self.new.refused }
     {
         let Ok(own) = kept_label(self.alloc, &mut self.bounds, index, bucket) else {
             return self.refuse(EncodeError::Memory);

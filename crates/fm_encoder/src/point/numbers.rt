@@ -6,7 +6,7 @@ ghost use Rattle.fm_grammar.specs.declared.SampleKind.TheVariants.{Total as Tota
 ghost use Rattle.fm_grammar.specs.WellFormed.{kinds_of};
 ghost use Rattle.fm_exposition.specs.Samples.{value_of, exemplar_of};
 ghost use Rattle.fm_encoder.specs.Points.{UnknownPoint, GaugePoint, CounterPoint, plain_sample, created_samples, millis};
-ghost use Rattle.fm_encoder.specs.Gathered.{answer};
+ghost use Rattle.fm_encoder.specs.Gathered.{result_of};
 ghost use Rattle.fm_encoder.specs.Hands.{HandsPoints};
 ghost use Rattle.fm_encoder.specs.inside.Steps.{FitsType, PushesSamples};
 
@@ -26,7 +26,7 @@ impl PointEncoder {
     /// labels, then as `MissingValue` or `ValueTwice` where the value wrote not just one number. It may find no memory.
     pub fn encode_unknown<V: EncodeUnknownValue>(&mut self, value: &V) -> Result<(), EncodeError>
         ensures handed { HandsPoints (λ ps. ps ≡ UnknownPoint (V.numbers value.now) ∷ []) (V.may_fault value.now) self.old self.new result }
-        ensures answered { result ≡ answer self.new.refused }
+        ensures answered { result ≡ result_of self.new.refused }
     {
         self.begin_point(MetricType::Unknown)?;
         match unknown_number(value) {
@@ -38,7 +38,7 @@ impl PointEncoder {
     /// Takes a gauge's point, with the refusals of `encode_unknown`.
     pub fn encode_gauge<V: EncodeGaugeValue>(&mut self, value: &V) -> Result<(), EncodeError>
         ensures handed { HandsPoints (λ ps. ps ≡ GaugePoint (V.numbers value.now) ∷ []) (V.may_fault value.now) self.old self.new result }
-        ensures answered { result ≡ answer self.new.refused }
+        ensures answered { result ≡ result_of self.new.refused }
     {
         self.begin_point(MetricType::Gauge)?;
         match gauge_number(value) {
@@ -58,7 +58,7 @@ impl PointEncoder {
         ensures handed { HandsPoints
             (λ ps. ps ≡ CounterPoint (V.numbers total.now) (option_map_or (λ e. E.exemplars e.now) exemplar.entry []) (option_map millis created) ∷ [])
             (V.may_fault total.now ⊎ MatchOption exemplar.entry ⊥ (λ e. E.may_fault e.now)) self.old self.new result }
-        ensures answered { result ≡ answer self.new.refused }
+        ensures answered { result ≡ result_of self.new.refused }
     {
         self.begin_point(MetricType::Counter)?;
         let number = match counter_number(total) {
@@ -85,7 +85,7 @@ impl PointEncoder {
         ensures pushed { PushesSamples
             (record (plain_sample self.old.setting self.old.common TotalKind [] (value_of number)) { exemplar = option_map exemplar_of exemplar }
             ∷ created_samples self.old.setting self.old.common (option_map millis created)) self.old self.new }
-        ensures answered { result ≡ answer self.new.refused }
+        ensures answered { result ≡ result_of self.new.refused }
     {
         self.push_sample(SampleKind::Total, number, exemplar)?;
         self.push_created(created)
@@ -96,7 +96,7 @@ impl PointEncoder {
         requires accepting { self.old.refused ≡ None }
         requires kind { Contains (kinds_of self.old.setting.metric_type) CreatedKind }
         ensures pushed { PushesSamples (created_samples self.old.setting self.old.common (option_map millis created)) self.old self.new }
-        ensures answered { result ≡ answer self.new.refused }
+        ensures answered { result ≡ result_of self.new.refused }
     {
         match created {
             Some(time) => self.push_sample(

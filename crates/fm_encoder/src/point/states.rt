@@ -4,7 +4,7 @@ ghost use Rattle.fm_grammar.specs.declared.MetricType.{MetricType};
 ghost use Rattle.fm_encoder.specs.Points.{StateSetPoint, InfoPoint, state_sample};
 ghost use Rattle.fm_encoder.specs.Labels.{label_names};
 ghost use Rattle.fm_encoder.specs.States.{state_of};
-ghost use Rattle.fm_encoder.specs.Gathered.{answer};
+ghost use Rattle.fm_encoder.specs.Gathered.{result_of};
 ghost use Rattle.fm_encoder.specs.Hands.{HandsPoints};
 ghost use Rattle.fm_encoder.specs.inside.Steps.{PushesSample, PushesSamples, TestsStates};
 
@@ -23,14 +23,14 @@ impl PointEncoder {
     /// another type, then for its labels, and may find no memory.
     pub fn encode_stateset(&mut self, states: Vec<(&str, bool)>) -> Result<(), EncodeError>
         ensures handed { HandsPoints (λ ps. ps ≡ StateSetPoint (map state_of states.entry.items) ∷ []) ⊥ self.old self.new result }
-        ensures answered { result ≡ answer self.new.refused }
+        ensures answered { result ≡ result_of self.new.refused }
     {
         self.encode_states(states.as_slice())
     }
 
     pub(crate) fn encode_states(&mut self, states: &[(&str, bool)]) -> Result<(), EncodeError>
         ensures handed { HandsPoints (λ ps. ps ≡ StateSetPoint (map state_of states.now) ∷ []) ⊥ self.old self.new result }
-        ensures answered { result ≡ answer self.new.refused }
+        ensures answered { result ≡ result_of self.new.refused }
     {
         self.begin_point(MetricType::StateSet)?;
         self.test_states(states.is_empty())?;
@@ -41,7 +41,7 @@ impl PointEncoder {
     fn test_states(&mut self, is_empty: bool) -> Result<(), EncodeError>
         requires accepting { self.old.refused ≡ None }
         ensures tested { TestsStates is_empty self.old self.new }
-        ensures answered { result ≡ answer self.new.refused }
+        ensures answered { result ≡ result_of self.new.refused }
     {
         if !is_empty && self.labels.text().has_name(self.name.as_str()) {
             return self.refuse(EncodeError::DuplicateLabel);
@@ -59,7 +59,7 @@ impl PointEncoder {
         requires state_set { self.old.setting.metric_type ≡ MetricType.StateSet }
         requires fresh { (states.now ≡ []) ⊎ (¬ (Contains (label_names self.old.common) self.old.setting.name)) }
         ensures pushed { PushesSamples (map (state_sample self.old.setting self.old.common) (map state_of states.now)) self.old self.new }
-        ensures answered { result ≡ answer self.new.refused }
+        ensures answered { result ≡ result_of self.new.refused }
     {
         for state in states {
             self.push_state(own, state)?;
@@ -73,7 +73,7 @@ impl PointEncoder {
         requires state_set { self.old.setting.metric_type ≡ MetricType.StateSet }
         requires fresh { ¬ (Contains (label_names self.old.common) self.old.setting.name) }
         ensures pushed { PushesSample (state_sample self.old.setting self.old.common (state_of state.now)) self.old self.new }
-        ensures answered { result ≡ answer self.new.refused }
+        ensures answered { result ≡ result_of self.new.refused }
     {
         own.clear();
         if let Err(_) = push_label(own, self.name.as_str(), state.0) {
@@ -87,7 +87,7 @@ impl PointEncoder {
     /// another type, then for the common labels, then for its own. It may find no memory.
     pub fn encode_info<LS: EncodeLabelSet>(&mut self, labels: &LS) -> Result<(), EncodeError>
         ensures handed { HandsPoints (λ ps. ps ≡ InfoPoint (LS.labels labels.now) ∷ []) (LS.may_fault labels.now) self.old self.new result }
-        ensures answered { result ≡ answer self.new.refused }
+        ensures answered { result ≡ result_of self.new.refused }
     {
         self.begin_point(MetricType::Info)?;
         let mut all = LabelSetEncoder::new(self.alloc, self.labels.metric_type());

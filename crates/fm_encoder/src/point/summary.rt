@@ -3,7 +3,7 @@ ghost use Rattle.std.specs.Prelude.{◌≡◌, [], ◌∷◌, None, map};
 ghost use Rattle.std.specs.Option.{option_map};
 ghost use Rattle.fm_grammar.specs.declared.MetricType.{MetricType};
 ghost use Rattle.fm_encoder.specs.Points.{SummaryPoint, millis, quantile_sample};
-ghost use Rattle.fm_encoder.specs.Gathered.{answer};
+ghost use Rattle.fm_encoder.specs.Gathered.{result_of};
 ghost use Rattle.fm_encoder.specs.Hands.{HandsPoints};
 ghost use Rattle.fm_encoder.specs.inside.Steps.{PushesSample, PushesSamples};
 
@@ -30,7 +30,7 @@ impl PointEncoder {
         created: Option<Duration>,
     ) -> Result<(), EncodeError>
         ensures handed { HandsPoints (λ ps. ps ≡ SummaryPoint quantiles.now sum count (option_map millis created) ∷ []) ⊥ self.old self.new result }
-        ensures answered { result ≡ answer self.new.refused }
+        ensures answered { result ≡ result_of self.new.refused }
     {
         self.begin_point(MetricType::Summary)?;
         let mut own = LabelText::new(self.alloc);
@@ -47,7 +47,7 @@ impl PointEncoder {
         requires accepting { self.old.refused ≡ None }
         requires summary { self.old.setting.metric_type ≡ MetricType.Summary }
         ensures pushed { PushesSamples (map (quantile_sample self.old.setting self.old.common) quantiles.now) self.old self.new }
-        ensures answered { result ≡ answer self.new.refused }
+        ensures answered { result ≡ result_of self.new.refused }
     {
         for quantile in quantiles {
             self.push_quantile(own, quantile)?;
@@ -60,7 +60,7 @@ impl PointEncoder {
         requires accepting { self.old.refused ≡ None }
         requires summary { self.old.setting.metric_type ≡ MetricType.Summary }
         ensures pushed { PushesSample (quantile_sample self.old.setting self.old.common quantile.now) self.old self.new }
-        ensures answered { result ≡ answer self.new.refused }
+        ensures answered { result ≡ result_of self.new.refused }
     {
         let mut buffer = FixedBuffer::new();
         let text = buffer.format(FixedSum::from(quantile.quantile()));

@@ -7,7 +7,7 @@ ghost use Rattle.fm_grammar.specs.WellFormed.{ValueFits};
 ghost use Rattle.fm_grammar.specs.Exposition.{Whole, Fixed as Millionths};
 ghost use Rattle.fm_exposition.specs.declared.exposition.Value.TheVariants.{Whole as WholeValue, Fixed as FixedValue};
 ghost use Rattle.fm_encoder.specs.Points.{millis, total_samples, created_samples};
-ghost use Rattle.fm_encoder.specs.Gathered.{answer};
+ghost use Rattle.fm_encoder.specs.Gathered.{result_of};
 ghost use Rattle.fm_encoder.specs.inside.Steps.{PushesSamples};
 ghost use Rattle.fm_encoder.specs.Buckets.{HasTotals};
 
@@ -47,7 +47,7 @@ impl PointEncoder {
         ensures pushed { PushesSamples
             (total_samples self.old.setting self.old.common SampleKind.Count SampleKind.Sum count sum ++ created_samples self.old.setting self.old.common (option_map millis created))
             self.old self.new }
-        ensures answered { result ≡ answer self.new.refused }
+        ensures answered { result ≡ result_of self.new.refused }
     {
         self.push_count_and_sum(SampleKind::Count, count, SampleKind::Sum, sum)?;
         self.push_created(created)
@@ -64,7 +64,7 @@ impl PointEncoder {
         requires accepting { self.old.refused ≡ None }
         requires kinds { HasTotals self.old.setting.metric_type of_count of_sum }
         ensures pushed { PushesSamples (total_samples self.old.setting self.old.common of_count of_sum count sum) self.old self.new }
-        ensures answered { result ≡ answer self.new.refused }
+        ensures answered { result ≡ result_of self.new.refused }
     {
         self.push_sample(of_count, count_value(count), None)?;
         self.push_sample(of_sum, sum_value(sum), None)

@@ -3,7 +3,7 @@ ghost use Rattle.std.specs.Prelude.{◌≡◌, ◌⊎◌, pos, [], ◌∷◌, Ma
 ghost use Rattle.fm_grammar.specs.Exposition.{Whole, Fixed as Millionths};
 ghost use Rattle.fm_encode_error.specs.declared.EncodeError.{EncodeError};
 ghost use Rattle.fm_exposition.specs.Samples.{value_of};
-ghost use Rattle.fm_encoder.specs.Gathered.{answer, own_refusal};
+ghost use Rattle.fm_encoder.specs.Gathered.{result_of, own_refusal};
 ghost use Rattle.fm_encoder.specs.Hands.{HandsNumbers};
 ghost use Rattle.fm_encoder.specs.inside.Steps.{IsNumber};
 
@@ -72,7 +72,7 @@ impl<K> ValueEncoder<K> {
     fn gather(&mut self, number: Value) -> Result<(), EncodeError>
         requires { IsNumber (value_of number) }
         ensures handed { HandsNumbers (value_of number ∷ []) ⊥ self.old self.new result }
-        ensures answered { result ≡ answer self.new.refused }
+        ensures answered { result ≡ result_of self.new.refused }
     {
         if let Some(error) = self.refused {
             return Err(error);
@@ -108,7 +108,7 @@ impl<K> ValueEncoder<K> {
     /// Takes the number; a second one is refused as `ValueTwice`.
     pub fn encode_u32(&mut self, number: u32) -> Result<(), EncodeError>
         ensures handed { HandsNumbers (Whole (pos number) ∷ []) ⊥ self.old self.new result }
-        ensures answered { result ≡ answer self.new.refused }
+        ensures answered { result ≡ result_of self.new.refused }
     {
         self.gather(Value::Whole(i128::from(number)))
     }
@@ -116,7 +116,7 @@ impl<K> ValueEncoder<K> {
     /// Takes the number of millionths; a second one is refused as `ValueTwice`.
     pub fn encode_fixed(&mut self, number: Fixed) -> Result<(), EncodeError>
         ensures handed { HandsNumbers (Millionths number ∷ []) ⊥ self.old self.new result }
-        ensures answered { result ≡ answer self.new.refused }
+        ensures answered { result ≡ result_of self.new.refused }
     {
         self.gather(Value::Fixed(FixedSum::from(number)))
     }
@@ -126,7 +126,7 @@ impl<K: TakesLong> ValueEncoder<K> {
     /// Takes the number; a second one is refused as `ValueTwice`.
     pub fn encode_u64(&mut self, number: u64) -> Result<(), EncodeError>
         ensures handed { HandsNumbers (Whole (pos number) ∷ []) ⊥ self.old self.new result }
-        ensures answered { result ≡ answer self.new.refused }
+        ensures answered { result ≡ result_of self.new.refused }
     {
         self.gather(Value::Whole(i128::from(number)))
     }
@@ -136,7 +136,7 @@ impl<K: TakesSigned> ValueEncoder<K> {
     /// Takes the number; a second one is refused as `ValueTwice`.
     pub fn encode_i32(&mut self, number: i32) -> Result<(), EncodeError>
         ensures handed { HandsNumbers (Whole number ∷ []) ⊥ self.old self.new result }
-        ensures answered { result ≡ answer self.new.refused }
+        ensures answered { result ≡ result_of self.new.refused }
     {
         self.gather(Value::Whole(i128::from(number)))
     }
@@ -144,7 +144,7 @@ impl<K: TakesSigned> ValueEncoder<K> {
     /// Takes the number; a second one is refused as `ValueTwice`.
     pub fn encode_i64(&mut self, number: i64) -> Result<(), EncodeError>
         ensures handed { HandsNumbers (Whole number ∷ []) ⊥ self.old self.new result }
-        ensures answered { result ≡ answer self.new.refused }
+        ensures answered { result ≡ result_of self.new.refused }
     {
         self.gather(Value::Whole(i128::from(number)))
     }
@@ -152,7 +152,7 @@ impl<K: TakesSigned> ValueEncoder<K> {
     /// Takes the number; a second one is refused as `ValueTwice`.
     pub fn encode_isize(&mut self, number: isize) -> Result<(), EncodeError>
         ensures handed { HandsNumbers (Whole number ∷ []) ⊥ self.old self.new result }
-        ensures answered { result ≡ answer self.new.refused }
+        ensures answered { result ≡ result_of self.new.refused }
     {
         self.gather(Value::Whole(number as i128))
     }
@@ -162,7 +162,7 @@ impl ValueEncoder<OfCounter> {
     /// Takes the number; a second one is refused as `ValueTwice`.
     pub fn encode_usize(&mut self, number: usize) -> Result<(), EncodeError>
         ensures handed { HandsNumbers (Whole (pos number) ∷ []) ⊥ self.old self.new result }
-        ensures answered { result ≡ answer self.new.refused }
+        ensures answered { result ≡ result_of self.new.refused }
     {
         self.gather(Value::Whole(number as i128))
     }

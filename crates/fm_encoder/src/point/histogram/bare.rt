@@ -2,7 +2,7 @@
 ghost use Rattle.std.specs.Prelude.{◌≡◌, [], ◌∷◌, None, map};
 ghost use Rattle.std.specs.Option.{option_map};
 ghost use Rattle.fm_encoder.specs.Points.{HistogramPoint, GaugeHistogramPoint, millis};
-ghost use Rattle.fm_encoder.specs.Gathered.{answer};
+ghost use Rattle.fm_encoder.specs.Gathered.{result_of};
 ghost use Rattle.fm_encoder.specs.Hands.{HandsPoints};
 ghost use Rattle.fm_encoder.specs.Buckets.{HasBuckets, PushesBuckets};
 
@@ -24,7 +24,7 @@ pub fn encode_bare_histogram(
     ensures handed { HandsPoints
         (λ ps. ps ≡ HistogramPoint buckets.now (map (λ _. []) buckets.now) count sum (option_map millis created) ∷ [])
         ⊥ points.old points.new result }
-    ensures answered { result ≡ answer points.new.refused }
+    ensures answered { result ≡ result_of points.new.refused }
 {
     points.begin_buckets(MetricType::Histogram, buckets.len(), buckets.len())?;
     push_bare_buckets(points, buckets)?;
@@ -42,7 +42,7 @@ pub fn encode_bare_gauge_histogram(
     ensures handed { HandsPoints
         (λ ps. ps ≡ GaugeHistogramPoint buckets.now (map (λ _. []) buckets.now) count sum ∷ [])
         ⊥ points.old points.new result }
-    ensures answered { result ≡ answer points.new.refused }
+    ensures answered { result ≡ result_of points.new.refused }
 {
     points.begin_buckets(MetricType::GaugeHistogram, buckets.len(), buckets.len())?;
     push_bare_buckets(points, buckets)?;
@@ -54,7 +54,7 @@ fn push_bare_buckets(points: &mut PointEncoder, buckets: &[Bucket]) -> Result<()
     requires accepting { points.old.refused ≡ None }
     requires buckets { HasBuckets points.old.setting.metric_type }
     ensures pushed { PushesBuckets buckets.now (map (λ _. []) buckets.now) ⊥ points.old points.new }
-    ensures answered { result ≡ answer points.new.refused }
+    ensures answered { result ≡ result_of points.new.refused }
 {
     let mut values = 0;
     for i in 0..buckets.len() {
