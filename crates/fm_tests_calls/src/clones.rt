@@ -1,6 +1,6 @@
 //! Clones, other threads, and the times of metrics.
 
-use crate::support::{Job, Silent, Stamped, document_alone};
+use crate::support::{Job, Silent, Stamped};
 use fastmetrics::metrics::counter::{ConstCounter, Counter};
 use fastmetrics::metrics::family::{DefaultFactory, Family};
 use fastmetrics::metrics::gauge::{ConstGauge, Gauge};
@@ -9,51 +9,54 @@ use fastmetrics::metrics::info::Info;
 use fastmetrics::metrics::state_set::{ConstStateSet, StateSet};
 use fastmetrics::metrics::unknown::Unknown;
 use fastmetrics::raw::{MetricType, TypedMetric};
+use fm_test_support::support::expect_document;
 use std::hash::{BuildHasherDefault, FoldHasher};
 use std::test::Fail;
 use std::thread;
 use std::time::Duration;
+
+static SECOND_STATE: &str =
+    "# TYPE s stateset\n# HELP s H\ns{s=\"pending\"} 0\ns{s=\"running\"} 1\n# EOF\n";
 
 #[test]
 fn a_state_set_by_another_thread(rt: HostRuntime) -> Result<(), Fail> {
     let alloc = rt.alloc();
     let job = StateSet::new(alloc, Job::Pending)?;
     let clone = job.clone()?;
-    let (set, _) = thread::join(&rt, || clone.set(Job::Running), || ());
-    set?;
-    assert_eq!(rt; *job.get(), Job::Running);
-    assert_eq!(rt;
-        document_alone(alloc, "s", Box::new(alloc, job)?)?.as_str(),
-        "# TYPE s stateset\n# HELP s H\ns{s=\"pending\"} 0\ns{s=\"running\"} 1\n# EOF\n"
-    );
-    Ok(())
+    let (is_set, _) = thread::join(&rt, || clone.set(Job::Running).is_ok(), || ());
+    assert!(rt; is_set && *job.get() == Job::Running);
+    expect_document(alloc, "s", None, Box::new(alloc, job)?, SECOND_STATE)
 }
 
 #[test]
 fn clones_of_constants(rt: HostRuntime) -> Result<(), Fail> {
-    let alloc = rt.alloc();
     let since = Duration::from_millis(1005);
     let total = ConstCounter::<u64>::with_created(42, since).clone()?;
-    assert_eq!(rt; (total.total(), total.created()), (42, Some(since)));
-    assert_eq!(rt; ConstGauge::<i64>::new(-5).clone()?.get(), -5);
-    assert_eq!(rt; *Unknown::<i64>::new(-5).clone()?.get(), -5);
-    assert_eq!(rt; *Info::new([(1u8, 2u8)]).clone()?.get(), [(1, 2)]);
-    let job = ConstStateSet::new(alloc, Job::Running)?.clone()?;
-    assert_eq!(rt; *job.get(), Job::Running);
-    assert_eq!(rt;
-        document_alone(alloc, "s", Box::new(alloc, job)?)?.as_str(),
-        "# TYPE s stateset\n# HELP s H\ns{s=\"pending\"} 0\ns{s=\"running\"} 1\n# EOF\n"
-    );
+    assert!(rt; total.total() == 42 && total.created() == Some(since));
+    assert!(rt; ConstGauge::<i64>::new(-5).clone()?.get() == -5);
+    assert!(rt; *Unknown::<i64>::new(-5).clone()?.get() == -5);
+    assert!(rt; *Info::new([(1u8, 2u8)]).clone()?.get() == [(1, 2)]);
     Ok(())
 }
 
 #[test]
+fn a_clone_of_a_constant_state_set(rt: HostRuntime) -> Result<(), Fail> {
+    let alloc = rt.alloc();
+    let job = ConstStateSet::new(alloc, Job::Running)?.clone()?;
+    assert!(rt; *job.get() == Job::Running);
+    expect_document(alloc, "s", None, Box::new(alloc, job)?, SECOND_STATE)
+}
+
+#[test]
 fn a_metric_without_points(rt: HostRuntime) -> Result<(), Fail> {
-    assert_eq!(rt;
-        document_alone(rt.alloc(), "s", Box::new(rt.alloc(), Silent)?)?.as_str(),
-        "# TYPE s gauge\n# HELP s H\n# EOF\n"
-    );
-    Ok(())
+    let alloc = rt.alloc();
+    expect_document(
+        alloc,
+        "s",
+        None,
+        Box::new(alloc, Silent)?,
+        "# TYPE s gauge\n# HELP s H\n# EOF\n",
+    )
 }
 
 // The type of a metric's family, and whether its samples carry a timestamp.
@@ -72,47 +75,35 @@ type Of<M> = Family<
 
 #[test]
 fn types_and_timestamps(rt: HostRuntime) {
-    assert_eq!(rt;
+    let types = [
         type_and_timestamp::<Counter>(),
-        (MetricType::Counter, false)
-    );
-    assert_eq!(rt;
         type_and_timestamp::<ConstCounter>(),
-        (MetricType::Counter, false)
-    );
-    assert_eq!(rt; type_and_timestamp::<Gauge>(), (MetricType::Gauge, false));
-    assert_eq!(rt;
+        type_and_timestamp::<Gauge>(),
         type_and_timestamp::<ConstGauge>(),
-        (MetricType::Gauge, false)
-    );
-    assert_eq!(rt;
         type_and_timestamp::<StateSet<Job>>(),
-        (MetricType::StateSet, false)
-    );
-    assert_eq!(rt;
         type_and_timestamp::<ConstStateSet<Job>>(),
-        (MetricType::StateSet, false)
-    );
-    assert_eq!(rt; type_and_timestamp::<Info<()>>(), (MetricType::Info, false));
-    assert_eq!(rt;
+        type_and_timestamp::<Info<()>>(),
         type_and_timestamp::<Unknown<i64>>(),
-        (MetricType::Unknown, false)
-    );
-    assert_eq!(rt;
         type_and_timestamp::<Histogram<HostRuntime>>(),
-        (MetricType::Histogram, false)
-    );
-    assert_eq!(rt;
         type_and_timestamp::<HistogramSnapshot>(),
-        (MetricType::Histogram, false)
-    );
-    assert_eq!(rt; type_and_timestamp::<Stamped>(), (MetricType::Gauge, true));
-    assert_eq!(rt;
+        type_and_timestamp::<Stamped>(),
         type_and_timestamp::<Of<Stamped>>(),
-        (MetricType::Gauge, true)
-    );
-    assert_eq!(rt;
         type_and_timestamp::<Of<Counter>>(),
-        (MetricType::Counter, false)
-    );
+    ];
+    let want = [
+        (MetricType::Counter, false),
+        (MetricType::Counter, false),
+        (MetricType::Gauge, false),
+        (MetricType::Gauge, false),
+        (MetricType::StateSet, false),
+        (MetricType::StateSet, false),
+        (MetricType::Info, false),
+        (MetricType::Unknown, false),
+        (MetricType::Histogram, false),
+        (MetricType::Histogram, false),
+        (MetricType::Gauge, true),
+        (MetricType::Gauge, true),
+        (MetricType::Counter, false),
+    ];
+    assert!(rt; types == want);
 }

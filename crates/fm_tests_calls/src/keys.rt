@@ -1,10 +1,10 @@
 //! Label sets as the keys of families: with random hashers, of lent texts, and of texts of the program.
 
-use crate::support::document_alone;
 use fastmetrics::encoder::{LabelStr, StaticStr};
 use fastmetrics::metrics::counter::Counter;
 use fastmetrics::metrics::family::{DefaultFactory, Family, FamilyCore};
 use fastmetrics::metrics::info::Info;
+use fm_test_support::support::expect_document;
 use std::hash::{BuildHasherDefault, FoldHasher, RandomState};
 use std::test::Fail;
 
@@ -20,9 +20,10 @@ fn texts_that_strangers_choose(rt: HostRuntime) -> Result<(), Fail> {
     let random = RandomState::new(&rt)?;
     let pages = Counters::<RandomState>::with_hasher(rt, alloc, factory, random)?;
     let page = String::from_str(alloc, "/a")?;
-    assert_eq!(rt; pages.with_or_new(&page, |count| count.inc())?, 0);
-    assert_eq!(rt; pages.with_or_new(&page, |count| count.inc())?, 1);
-    assert_eq!(rt; pages.with(&page, |count| count.total()), Some(2));
+    for before in [0, 1] {
+        assert!(rt; pages.with_or_new(&page, |count| count.inc()) == Ok(before));
+    }
+    assert!(rt; pages.with(&page, |count| count.total()) == Some(2));
     Ok(())
 }
 
@@ -30,11 +31,10 @@ fn texts_that_strangers_choose(rt: HostRuntime) -> Result<(), Fail> {
 fn lent_texts(rt: HostRuntime) -> Result<(), Fail> {
     let alloc = rt.alloc();
     let mut core = FamilyCore::<LabelStr<'_>, u64, Hasher>::new(alloc);
-    core.get_or_new(&LabelStr("/a"), &|| Ok(7u64))?;
-    core.get_or_new(&LabelStr("/b"), &|| Ok(8u64))?;
-    assert_eq!(rt; core.get_or_new(&LabelStr("/a"), &|| Ok(9u64)), Ok(&7));
-    assert_eq!(rt; core.get(&LabelStr("/b")), Some(&8));
-    assert_eq!(rt; core.len(), 2);
+    for (text, new, want) in [("/a", 7u64, 7u64), ("/b", 8, 8), ("/a", 9, 7)] {
+        assert!(rt; core.get_or_new(&LabelStr(text), &|| Ok(new)) == Ok(&want));
+    }
+    assert!(rt; core.get(&LabelStr("/b")) == Some(&8) && core.len() == 2);
     assert!(rt; LabelStr("a") < LabelStr("b") && LabelStr("a") == LabelStr("a"));
     Ok(())
 }
@@ -46,9 +46,11 @@ fn texts_of_the_program(rt: HostRuntime) -> Result<(), Fail> {
         (StaticStr("version"), StaticStr("1.2")),
         (StaticStr("commit"), StaticStr("abc")),
     ]);
-    assert_eq!(rt;
-        document_alone(alloc, "build", Box::new(alloc, build)?)?.as_str(),
-        "# TYPE build info\n# HELP build H\nbuild_info{version=\"1.2\",commit=\"abc\"} 1\n# EOF\n"
-    );
-    Ok(())
+    expect_document(
+        alloc,
+        "build",
+        None,
+        Box::new(alloc, build)?,
+        "# TYPE build info\n# HELP build H\nbuild_info{version=\"1.2\",commit=\"abc\"} 1\n# EOF\n",
+    )
 }

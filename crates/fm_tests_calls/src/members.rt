@@ -8,34 +8,34 @@ use std::test::Fail;
 
 type Hasher = BuildHasherDefault<FoldHasher>;
 
+type Core = FamilyCore<u32, u64, Hasher>;
+
+// Whether a label has this member, made as the first number where it has none.
+fn gives(core: &mut Core, label: u32, new: u64, want: u64) -> bool {
+    core.get_or_new(&label, &|| Ok(new)) == Ok(&want)
+}
+
 #[test]
 fn members_by_labels(rt: HostRuntime) -> Result<(), Fail> {
-    let mut core = FamilyCore::<u32, u64, Hasher>::new(rt.alloc());
+    let mut core = Core::new(rt.alloc());
     assert!(rt; core.is_empty());
-    assert_eq!(rt; core.get_or_new(&200, &|| Ok(7u64)), Ok(&7));
-    assert_eq!(rt; core.get_or_new(&404, &|| Ok(8u64)), Ok(&8));
-    assert_eq!(rt; core.get_or_new(&200, &|| Ok(9u64)), Ok(&7));
-    assert_eq!(rt; core.get(&200), Some(&7));
-    assert_eq!(rt; core.get(&404), Some(&8));
-    assert_eq!(rt; core.get(&500), None);
-    assert_eq!(rt; core.len(), 2);
-    assert!(rt; !core.is_empty());
+    for (label, new, want) in [(200, 7, 7), (404, 8, 8), (200, 9, 7)] {
+        assert!(rt; gives(&mut core, label, new, want));
+    }
+    for (label, want) in [(200, Some(&7)), (404, Some(&8)), (500, None)] {
+        assert!(rt; core.get(&label) == want);
+    }
+    assert!(rt; core.len() == 2 && !core.is_empty());
     Ok(())
 }
 
 #[test]
 fn refusals_of_factories_are_handed_on(rt: HostRuntime) -> Result<(), Fail> {
-    let mut core = FamilyCore::<u32, u64, Hasher>::with_hasher(rt.alloc(), Hasher::new());
-    assert_eq!(rt;
-        core.get_or_new(&200, &|| Err(MetricError::CountFull)),
-        Err(MetricError::CountFull)
-    );
-    assert_eq!(rt; core.len(), 0);
-    assert_eq!(rt; core.get_or_new(&200, &|| Ok(7u64)), Ok(&7));
-    assert_eq!(rt;
-        core.get_or_new(&200, &|| Err(MetricError::CountFull)),
-        Ok(&7)
-    );
+    let full = || -> Result<u64, MetricError> { Err(MetricError::CountFull) };
+    let mut core = Core::with_hasher(rt.alloc(), Hasher::new());
+    assert!(rt; core.get_or_new(&200, &full) == Err(MetricError::CountFull));
+    assert!(rt; core.len() == 0 && gives(&mut core, 200, 7, 7));
+    assert!(rt; core.get_or_new(&200, &full) == Ok(&7));
     Ok(())
 }
 
@@ -44,13 +44,14 @@ fn factory_once(rt: HostRuntime) -> Result<(), Fail> {
     let calls = AtomicU64::new(0);
     let factory = || -> Result<u64, MetricError> { Ok(calls.fetch_add(1, Ordering::SeqCst)) };
     let family = Family::<u32, u64, _, Hasher, HostRuntime>::new(rt, rt.alloc(), factory)?;
-    assert_eq!(rt; family.with_or_new(&200, |made| *made)?, 0);
-    assert_eq!(rt; family.with_or_new(&200, |made| *made)?, 0);
-    assert_eq!(rt; calls.load(Ordering::SeqCst), 1);
-    assert_eq!(rt; family.with_or_new(&404, |made| *made)?, 1);
-    assert_eq!(rt; family.with(&404, |made| *made), Some(1));
-    assert_eq!(rt; family.with(&200, |made| *made), Some(0));
-    assert_eq!(rt; calls.load(Ordering::SeqCst), 2);
+    for (label, want, calls_so_far) in [(200, 0, 1), (200, 0, 1), (404, 1, 2)] {
+        assert!(rt; family.with_or_new(&label, |made| *made) == Ok(want));
+        assert!(rt; calls.load(Ordering::SeqCst) == calls_so_far);
+    }
+    for (label, want) in [(404, 1), (200, 0)] {
+        assert!(rt; family.with(&label, |made| *made) == Some(want));
+    }
+    assert!(rt; calls.load(Ordering::SeqCst) == 2);
     Ok(())
 }
 
@@ -63,11 +64,8 @@ fn refused_members_are_not_there(rt: HostRuntime) -> Result<(), Fail> {
         factory,
         Hasher::new(),
     )?;
-    assert_eq!(rt;
-        family.with_or_new(&200, |made| *made),
-        Err(MetricError::CountFull)
-    );
-    assert_eq!(rt; family.with(&200, |made| *made), None);
+    assert!(rt; family.with_or_new(&200, |made| *made) == Err(MetricError::CountFull));
+    assert!(rt; family.with(&200, |made| *made).is_none());
     Ok(())
 }
 
@@ -76,7 +74,7 @@ fn members_made_through_clones(rt: HostRuntime) -> Result<(), Fail> {
     let factory = || -> Result<u64, MetricError> { Ok(7) };
     let family = Family::<u32, u64, _, Hasher, HostRuntime>::new(rt, rt.alloc(), factory)?;
     let clone = family.clone()?;
-    assert_eq!(rt; clone.with_or_new(&200, |made| *made)?, 7);
-    assert_eq!(rt; family.with(&200, |made| *made), Some(7));
+    assert!(rt; clone.with_or_new(&200, |made| *made) == Ok(7));
+    assert!(rt; family.with(&200, |made| *made) == Some(7));
     Ok(())
 }

@@ -12,7 +12,8 @@ use fastmetrics::raw::{Fixed, MetricError, TryDefault};
 use fastmetrics::registry::Registry;
 use fm_test_support::jobs::Job;
 use fm_test_support::replies::{Method, Outcome, Reply};
-use fm_test_support::support::{document_of, expect_document, expect_document_of};
+use fm_test_support::support::{expect_document, expect_document_of};
+use fm_test_support::trees::{labels, register, register_with};
 use std::alloc::Global;
 use std::hash::{BuildHasherDefault, FoldHasher};
 use std::sync::Wait;
@@ -46,21 +47,29 @@ fn no_members(rt: HostRuntime) -> Result<(), Fail> {
     expect_document(alloc, "f", None, Box::new(alloc, replies)?, "# EOF\n")
 }
 
+// Counts three replies, the second through a clone.
+fn count_three<H: Wait + Clone + Drop>(replies: &Counters<Reply, H>) -> Result<(), MetricError> {
+    count(replies, reply(Method::Get, 200, None))?;
+    count(&replies.clone()?, reply(Method::Get, 404, Some(true)))?;
+    count(replies, reply(Method::Put, 200, None))?;
+    Ok(())
+}
+
+// Fails where this is not the document of a metric alone, with the help `Total HTTP requests`.
+fn expect_requests(alloc: Global, metric: Box<dyn EncodeMetric>, want: &str) -> Result<(), Fail> {
+    let mut registry = Registry::default();
+    let help = "Total HTTP requests";
+    register_with(alloc, &mut registry, "http_requests", help, None, metric)?;
+    expect_document_of(alloc, &registry, want)
+}
+
 #[test]
 fn three_members(rt: HostRuntime) -> Result<(), Fail> {
-    let alloc = rt.alloc();
-    let replies = Counters::<Reply, HostRuntime>::try_default(rt, alloc)?;
-    let clone = replies.clone()?;
-    count(&replies, reply(Method::Get, 200, None))?;
-    count(&clone, reply(Method::Get, 404, Some(true)))?;
-    count(&replies, reply(Method::Put, 200, None))?;
-    let mut registry = Registry::default();
-    let name = String::from_str(alloc, "http_requests")?;
-    let help = String::from_str(alloc, "Total HTTP requests")?;
-    registry.register(alloc, name, help, Box::new(alloc, replies)?)?;
-    expect_document_of(
-        alloc,
-        &registry,
+    let replies = Counters::<Reply, HostRuntime>::try_default(rt, rt.alloc())?;
+    count_three(&replies)?;
+    expect_requests(
+        rt.alloc(),
+        Box::new(rt.alloc(), replies)?,
         "# TYPE http_requests counter\n# HELP http_requests Total HTTP requests\n\
          http_requests_total{method=\"GET\",status=\"200\"} 1\n\
          http_requests_total{method=\"GET\",status=\"404\",error=\"true\"} 1\n\
@@ -73,7 +82,7 @@ fn members_that_counted_nothing(rt: HostRuntime) -> Result<(), Fail> {
     let alloc = rt.alloc();
     let outcomes = Counters::<Outcome, HostRuntime>::try_default(rt, alloc)?;
     let outcome = Outcome { error: Some(false) };
-    assert_eq!(rt; outcomes.with_or_new(&outcome, |count| count.total())?, 0);
+    assert!(rt; outcomes.with_or_new(&outcome, |count| count.total()) == Ok(0));
     expect_document(
         alloc,
         "f",
@@ -83,56 +92,65 @@ fn members_that_counted_nothing(rt: HostRuntime) -> Result<(), Fail> {
     )
 }
 
+// Counters by outcome, of which one has counted once.
+fn counted_once<H: Wait + Clone + Drop>(
+    wait: H,
+    alloc: Global,
+    outcome: Outcome,
+) -> Result<Counters<Outcome, H>, MetricError> {
+    let outcomes = Counters::<Outcome, H>::try_default(wait, alloc)?;
+    outcomes.with_or_new(&outcome, |count| count.inc())?;
+    Ok(outcomes)
+}
+
 #[test]
 fn labels_that_are_left_out(rt: HostRuntime) -> Result<(), Fail> {
-    let alloc = rt.alloc();
-    let outcomes = Counters::<Outcome, HostRuntime>::try_default(rt, alloc)?;
-    outcomes.with_or_new(&Outcome { error: None }, |count| count.inc())?;
+    let outcomes = counted_once(rt, rt.alloc(), Outcome { error: None })?;
     expect_document(
-        alloc,
+        rt.alloc(),
         "f",
         None,
-        Box::new(alloc, outcomes)?,
+        Box::new(rt.alloc(), outcomes)?,
         "# TYPE f counter\n# HELP f H\nf_total 1\n# EOF\n",
     )
 }
 
+// Fails where this is not the document of a metric alone, under the constant label `env`.
+fn expect_under_env(alloc: Global, metric: Box<dyn EncodeMetric>, want: &str) -> Result<(), Fail> {
+    let env = labels(alloc, &[("env", "prod")])?;
+    let mut registry = Registry::builder().with_const_labels(env)?.build()?;
+    register(alloc, &mut registry, "f", metric)?;
+    expect_document_of(alloc, &registry, want)
+}
+
 #[test]
-fn labels_left_out_behind_constant_ones(rt: HostRuntime) -> Result<(), Fail> {
-    let alloc = rt.alloc();
-    let env = (
-        String::from_str(alloc, "env")?,
-        String::from_str(alloc, "prod")?,
-    );
-    let mut registry = Registry::builder()
-        .with_const_labels(vec![in alloc; env]?)?
-        .build()?;
-    let outcomes = Counters::<Outcome, HostRuntime>::try_default(rt, alloc)?;
-    outcomes.with_or_new(&Outcome { error: None }, |count| count.inc())?;
-    let (name, help) = (String::from_str(alloc, "f")?, String::from_str(alloc, "H")?);
-    registry.register(alloc, name, help, Box::new(alloc, outcomes)?)?;
-    expect_document_of(
-        alloc,
-        &registry,
+fn labels_left_out_after_constant_ones(rt: HostRuntime) -> Result<(), Fail> {
+    let outcomes = counted_once(rt, rt.alloc(), Outcome { error: None })?;
+    expect_under_env(
+        rt.alloc(),
+        Box::new(rt.alloc(), outcomes)?,
         "# TYPE f counter\n# HELP f H\nf_total{env=\"prod\"} 1\n# EOF\n",
     )
 }
 
+// Whether a reply has this total, or no member where there is none.
+fn has_total<H: Wait + Clone + Drop>(
+    replies: &Counters<Reply, H>,
+    reply: Reply,
+    total: Option<u64>,
+) -> bool {
+    replies.with(&reply, |count| count.total()) == total
+}
+
 #[test]
 fn one_metric_a_label_set(rt: HostRuntime) -> Result<(), Fail> {
-    let alloc = rt.alloc();
-    let replies = Counters::<Reply, HostRuntime>::try_default(rt, alloc)?;
+    let replies = Counters::<Reply, HostRuntime>::try_default(rt, rt.alloc())?;
     let found = reply(Method::Get, 200, None);
     let lost = reply(Method::Get, 404, None);
-    count(&replies, found)?;
-    count(&replies, lost)?;
-    assert_eq!(rt; count(&replies, found)?, 1);
-    assert_eq!(rt; replies.with(&found, |count| count.total()), Some(2));
-    assert_eq!(rt; replies.with(&lost, |count| count.total()), Some(1));
-    assert_eq!(rt;
-        replies.with(&reply(Method::Put, 404, None), |count| count.total()),
-        None
-    );
+    assert!(rt; count(&replies, found) == Ok(0) && count(&replies, lost) == Ok(0));
+    assert!(rt; count(&replies, found) == Ok(1));
+    assert!(rt; has_total(&replies, found, Some(2)) && has_total(&replies, lost, Some(1)));
+    assert!(rt; has_total(&replies, reply(Method::Put, 404, None), None));
     Ok(())
 }
 
@@ -175,42 +193,32 @@ fn count_hundreds<H: Wait + Clone + Drop>(replies: &Counters<Reply, H>) -> Resul
 
 #[test]
 fn four_threads_lose_nothing(rt: HostRuntime) -> Result<(), Fail> {
-    let alloc = rt.alloc();
-    let replies = Counters::<Reply, HostRuntime>::try_default(rt, alloc)?;
-    let ((first, second), (third, fourth)) = thread::join(
+    let replies = Counters::<Reply, HostRuntime>::try_default(rt, rt.alloc())?;
+    let all = thread::join(
         &rt,
         || thread::join(
             &rt,
-            || count_hundreds(&replies),
-            || count_hundreds(&replies),
+            || count_hundreds(&replies).is_ok(),
+            || count_hundreds(&replies).is_ok(),
         ),
         || thread::join(
             &rt,
-            || count_hundreds(&replies),
-            || count_hundreds(&replies),
+            || count_hundreds(&replies).is_ok(),
+            || count_hundreds(&replies).is_ok(),
         ),
     );
-    first?;
-    second?;
-    third?;
-    fourth?;
-    let get = reply(Method::Get, 200, None);
-    let put = reply(Method::Put, 200, None);
-    assert_eq!(rt; replies.with(&get, |count| count.total()), Some(400));
-    assert_eq!(rt; replies.with(&put, |count| count.total()), Some(400));
+    assert!(rt; all == ((true, true), (true, true)));
+    assert!(rt; has_total(&replies, reply(Method::Get, 200, None), Some(400)));
+    assert!(rt; has_total(&replies, reply(Method::Put, 200, None), Some(400)));
     Ok(())
 }
 
-// What a metric alone prints. A second time it prints the same.
-fn printed_twice(alloc: Global, metric: Box<dyn EncodeMetric>) -> Result<String, Fail> {
+// Fails where this is not the document of a metric alone, each time that it is written.
+fn expect_twice(alloc: Global, metric: Box<dyn EncodeMetric>, want: &str) -> Result<(), Fail> {
     let mut registry = Registry::default();
-    let (name, help) = (String::from_str(alloc, "m")?, String::from_str(alloc, "H")?);
-    registry.register(alloc, name, help, metric)?;
-    let first = document_of(alloc, &registry)?;
-    if document_of(alloc, &registry)? != first {
-        return Err(Fail::new("writing changed the metric"));
-    }
-    Ok(first)
+    register(alloc, &mut registry, "m", metric)?;
+    expect_document_of(alloc, &registry, want)?;
+    expect_document_of(alloc, &registry, want)
 }
 
 const FAILED: Outcome = Outcome { error: Some(true) };
@@ -222,23 +230,21 @@ fn gauges_by_labels(rt: HostRuntime) -> Result<(), Fail> {
         Gauge::new(alloc, -7i64)
     })?;
     levels.with_or_new(&FAILED, |level| level.inc())?;
-    assert_eq!(rt;
-        printed_twice(alloc, Box::new(alloc, levels)?)?.as_str(),
-        "# TYPE m gauge\n# HELP m H\nm{error=\"true\"} -6\n# EOF\n"
-    );
-    Ok(())
+    expect_twice(
+        alloc,
+        Box::new(alloc, levels)?,
+        "# TYPE m gauge\n# HELP m H\nm{error=\"true\"} -6\n# EOF\n",
+    )
 }
 
 #[test]
 fn counters_by_labels(rt: HostRuntime) -> Result<(), Fail> {
-    let alloc = rt.alloc();
-    let replies = Counters::<Outcome, HostRuntime>::try_default(rt, alloc)?;
-    replies.with_or_new(&FAILED, |count| count.inc())?;
-    assert_eq!(rt;
-        printed_twice(alloc, Box::new(alloc, replies)?)?.as_str(),
-        "# TYPE m counter\n# HELP m H\nm_total{error=\"true\"} 1\n# EOF\n"
-    );
-    Ok(())
+    let replies = counted_once(rt, rt.alloc(), FAILED)?;
+    expect_twice(
+        rt.alloc(),
+        Box::new(rt.alloc(), replies)?,
+        "# TYPE m counter\n# HELP m H\nm_total{error=\"true\"} 1\n# EOF\n",
+    )
 }
 
 #[test]
@@ -248,69 +254,87 @@ fn state_sets_by_labels(rt: HostRuntime) -> Result<(), Fail> {
         StateSet::new(alloc, Job::Pending)
     })?;
     jobs.with_or_new(&FAILED, |job| job.set(Job::Completed))??;
-    assert_eq!(rt;
-        printed_twice(alloc, Box::new(alloc, jobs)?)?.as_str(),
+    expect_twice(
+        alloc,
+        Box::new(alloc, jobs)?,
         "# TYPE m stateset\n# HELP m H\n\
          m{error=\"true\",m=\"pending\"} 0\nm{error=\"true\",m=\"running\"} 0\n\
-         m{error=\"true\",m=\"completed\"} 1\nm{error=\"true\",m=\"failed\"} 0\n# EOF\n"
-    );
+         m{error=\"true\",m=\"completed\"} 1\nm{error=\"true\",m=\"failed\"} 0\n# EOF\n",
+    )
+}
+
+#[test]
+fn constant_state_sets_by_labels(rt: HostRuntime) -> Result<(), Fail> {
+    let alloc = rt.alloc();
     let jobs = Family::<Outcome, ConstStateSet<Job>, _, Hasher, HostRuntime>::new(
         rt,
         alloc,
         move || ConstStateSet::new(alloc, Job::Failed),
     )?;
     jobs.with_or_new(&FAILED, |_| ())?;
-    assert_eq!(rt;
-        printed_twice(alloc, Box::new(alloc, jobs)?)?.as_str(),
+    expect_twice(
+        alloc,
+        Box::new(alloc, jobs)?,
         "# TYPE m stateset\n# HELP m H\n\
          m{error=\"true\",m=\"pending\"} 0\nm{error=\"true\",m=\"running\"} 0\n\
-         m{error=\"true\",m=\"completed\"} 0\nm{error=\"true\",m=\"failed\"} 1\n# EOF\n"
-    );
-    Ok(())
+         m{error=\"true\",m=\"completed\"} 0\nm{error=\"true\",m=\"failed\"} 1\n# EOF\n",
+    )
 }
 
 #[test]
-fn values_without_a_type_by_labels(rt: HostRuntime) -> Result<(), Fail> {
+fn information_by_labels(rt: HostRuntime) -> Result<(), Fail> {
     let alloc = rt.alloc();
     let infos = Family::<Outcome, Info<()>, _, Hasher, HostRuntime>::new(rt, alloc, || {
         Ok(Info::new(()))
     })?;
     infos.with_or_new(&FAILED, |_| ())?;
-    assert_eq!(rt;
-        printed_twice(alloc, Box::new(alloc, infos)?)?.as_str(),
-        "# TYPE m info\n# HELP m H\nm_info{error=\"true\"} 1\n# EOF\n"
-    );
+    expect_twice(
+        alloc,
+        Box::new(alloc, infos)?,
+        "# TYPE m info\n# HELP m H\nm_info{error=\"true\"} 1\n# EOF\n",
+    )
+}
+
+#[test]
+fn values_without_a_type_by_labels(rt: HostRuntime) -> Result<(), Fail> {
+    let alloc = rt.alloc();
     let unknowns = Family::<Outcome, Unknown<i64>, _, Hasher, HostRuntime>::new(rt, alloc, || {
         Ok(Unknown::new(-5i64))
     })?;
     unknowns.with_or_new(&FAILED, |_| ())?;
-    assert_eq!(rt;
-        printed_twice(alloc, Box::new(alloc, unknowns)?)?.as_str(),
-        "# TYPE m unknown\n# HELP m H\nm{error=\"true\"} -5\n# EOF\n"
-    );
-    Ok(())
+    expect_twice(
+        alloc,
+        Box::new(alloc, unknowns)?,
+        "# TYPE m unknown\n# HELP m H\nm{error=\"true\"} -5\n# EOF\n",
+    )
 }
 
 #[test]
-fn constants_by_labels(rt: HostRuntime) -> Result<(), Fail> {
+fn constant_gauges_by_labels(rt: HostRuntime) -> Result<(), Fail> {
     let alloc = rt.alloc();
     let levels = Family::<Outcome, ConstGauge<i64>, _, Hasher, HostRuntime>::new(rt, alloc, || {
         Ok(ConstGauge::new(-5i64))
     })?;
     levels.with_or_new(&FAILED, |_| ())?;
-    assert_eq!(rt;
-        printed_twice(alloc, Box::new(alloc, levels)?)?.as_str(),
-        "# TYPE m gauge\n# HELP m H\nm{error=\"true\"} -5\n# EOF\n"
-    );
+    expect_twice(
+        alloc,
+        Box::new(alloc, levels)?,
+        "# TYPE m gauge\n# HELP m H\nm{error=\"true\"} -5\n# EOF\n",
+    )
+}
+
+#[test]
+fn constant_counters_by_labels(rt: HostRuntime) -> Result<(), Fail> {
+    let alloc = rt.alloc();
     let counts = Family::<Outcome, ConstCounter<u64>, _, Hasher, HostRuntime>::new(
         rt,
         alloc,
         || Ok(ConstCounter::new(7u64)),
     )?;
     counts.with_or_new(&FAILED, |_| ())?;
-    assert_eq!(rt;
-        printed_twice(alloc, Box::new(alloc, counts)?)?.as_str(),
-        "# TYPE m counter\n# HELP m H\nm_total{error=\"true\"} 7\n# EOF\n"
-    );
-    Ok(())
+    expect_twice(
+        alloc,
+        Box::new(alloc, counts)?,
+        "# TYPE m counter\n# HELP m H\nm_total{error=\"true\"} 7\n# EOF\n",
+    )
 }

@@ -1,12 +1,13 @@
 //! Which of two faults is named.
 
-use crate::points::{CounterWith, OneSlot, TwoBuckets, TwoExemplars, TwoGaugeBuckets};
+use crate::points::{OneSlot, TwoBuckets, TwoExemplars, TwoGaugeBuckets};
 use fastmetrics::encoder::EncodeError;
 use fastmetrics::raw::bucket::{Bound, Bucket};
 use fastmetrics::raw::{Fixed, FixedSum, MetricType};
 use fm_test_support::members::OneMember;
 use fm_test_support::parts::{Faulty, Silent};
-use fm_test_support::support::refusal;
+use fm_test_support::points::CounterWith;
+use fm_test_support::support::expect_refusal;
 use fm_test_support::trees::labels;
 use std::test::Fail;
 
@@ -42,11 +43,7 @@ fn member<LS, P>(metric_type: MetricType, labels: LS, point: P) -> OneMember<LS,
 fn type_before_slots(rt: HostRuntime) -> Result<(), Fail> {
     let alloc = rt.alloc();
     let metric = member(MetricType::Histogram, (), OneSlot(buckets(3, 2)));
-    assert_eq!(rt;
-        refusal(alloc, Box::new(alloc, metric)?)?,
-        EncodeError::KindMismatch
-    );
-    Ok(())
+    expect_refusal(alloc, Box::new(alloc, metric)?, EncodeError::KindMismatch)
 }
 
 #[test]
@@ -58,36 +55,28 @@ fn slots_before_labels(rt: HostRuntime) -> Result<(), Fail> {
         labels(alloc, &[("1a", "1")])?,
         slots,
     );
-    assert_eq!(rt;
-        refusal(alloc, Box::new(alloc, metric)?)?,
-        EncodeError::ExemplarCountMismatch
-    );
-    Ok(())
+    expect_refusal(
+        alloc,
+        Box::new(alloc, metric)?,
+        EncodeError::ExemplarCountMismatch,
+    )
 }
 
 #[test]
 fn labels_before_the_sum(rt: HostRuntime) -> Result<(), Fail> {
     let alloc = rt.alloc();
-    let overflow = TwoGaugeBuckets(two_buckets(18446744073709551615, 1, ()));
-    let metric = member(
-        MetricType::GaugeHistogram,
-        labels(alloc, &[("1a", "1")])?,
-        overflow,
-    );
-    assert_eq!(rt;
-        refusal(alloc, Box::new(alloc, metric)?)?,
-        EncodeError::InvalidLabelName
-    );
-    let overflow = TwoGaugeBuckets(two_buckets(18446744073709551615, 1, ()));
-    let metric = member(
-        MetricType::GaugeHistogram,
-        labels(alloc, &[("a", "1")])?,
-        overflow,
-    );
-    assert_eq!(rt;
-        refusal(alloc, Box::new(alloc, metric)?)?,
-        EncodeError::BucketOverflow
-    );
+    for (name, error) in [
+        ("1a", EncodeError::InvalidLabelName),
+        ("a", EncodeError::BucketOverflow),
+    ] {
+        let overflow = TwoGaugeBuckets(two_buckets(18446744073709551615, 1, ()));
+        let metric = member(
+            MetricType::GaugeHistogram,
+            labels(alloc, &[(name, "1")])?,
+            overflow,
+        );
+        expect_refusal(alloc, Box::new(alloc, metric)?, error)?;
+    }
     Ok(())
 }
 
@@ -96,11 +85,7 @@ fn exemplar_of_a_bucket_before_the_sum_of_the_next(rt: HostRuntime) -> Result<()
     let alloc = rt.alloc();
     let point = two_buckets(18446744073709551615, 1, TwoExemplars((), Fixed::ONE));
     let metric = member(MetricType::Histogram, (), point);
-    assert_eq!(rt;
-        refusal(alloc, Box::new(alloc, metric)?)?,
-        EncodeError::ExemplarTwice
-    );
-    Ok(())
+    expect_refusal(alloc, Box::new(alloc, metric)?, EncodeError::ExemplarTwice)
 }
 
 #[test]
@@ -112,10 +97,7 @@ fn number_before_the_exemplar(rt: HostRuntime) -> Result<(), Fail> {
             exemplar: Faulty(own),
         };
         let metric = member(MetricType::Counter, (), point);
-        assert_eq!(rt;
-            refusal(alloc, Box::new(alloc, metric)?)?,
-            EncodeError::MissingValue
-        );
+        expect_refusal(alloc, Box::new(alloc, metric)?, EncodeError::MissingValue)?;
     }
     Ok(())
 }
@@ -128,9 +110,9 @@ fn labels_before_the_exemplar(rt: HostRuntime) -> Result<(), Fail> {
         exemplar: TwoExemplars((), Fixed::ONE),
     };
     let metric = member(MetricType::Counter, labels(alloc, &[("1a", "1")])?, point);
-    assert_eq!(rt;
-        refusal(alloc, Box::new(alloc, metric)?)?,
-        EncodeError::InvalidLabelName
-    );
-    Ok(())
+    expect_refusal(
+        alloc,
+        Box::new(alloc, metric)?,
+        EncodeError::InvalidLabelName,
+    )
 }

@@ -5,7 +5,7 @@ use fastmetrics::encoder::EncodeError;
 use fastmetrics::metrics::gauge::ConstGauge;
 use fastmetrics::raw::MetricType;
 use fm_test_support::members::OneMember;
-use fm_test_support::support::{document_alone, refusal};
+use fm_test_support::support::{expect_document, expect_refusal};
 use std::alloc::Global;
 use std::test::Fail;
 
@@ -40,7 +40,7 @@ fn each_kind_in_each_other_family(rt: HostRuntime) -> Result<(), Fail> {
         for point in TYPES {
             if family != point {
                 let metric = Box::new(alloc, five_in(alloc, family, point))?;
-                assert_eq!(rt; refusal(alloc, metric)?, EncodeError::KindMismatch);
+                expect_refusal(alloc, metric, EncodeError::KindMismatch)?;
             }
         }
     }
@@ -58,10 +58,7 @@ fn gauge_point_in_each_other_family(rt: HostRuntime) -> Result<(), Fail> {
                 labels: (),
                 point: ConstGauge::new(5i64),
             };
-            assert_eq!(rt;
-                refusal(alloc, Box::new(alloc, metric)?)?,
-                EncodeError::KindMismatch
-            );
+            expect_refusal(alloc, Box::new(alloc, metric)?, EncodeError::KindMismatch)?;
         }
     }
     Ok(())
@@ -105,7 +102,7 @@ fn each_kind_in_its_own_family(rt: HostRuntime) -> Result<(), Fail> {
         ),
     ] {
         let metric = Box::new(alloc, five_in(alloc, metric_type, metric_type))?;
-        assert_eq!(rt; document_alone(alloc, "t", None, metric)?.as_str(), want);
+        expect_document(alloc, "t", None, metric, want)?;
     }
     Ok(())
 }

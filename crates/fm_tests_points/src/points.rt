@@ -1,36 +1,17 @@
 //! Points and exemplars of a user's own, which hand over whatever they have.
-ghost use Rattle.std.specs.Prelude.{◌≡◌, ◌⊎◌, ◌++◌, [], ◌∷◌, None, pos, codes};
+ghost use Rattle.std.specs.Prelude.{◌≡◌, [], ◌∷◌, None, pos, codes};
 ghost use Rattle.fm_encoder.specs.Labels.{NamePiece, ValuePiece};
-ghost use Rattle.fm_encoder.specs.Points.{CounterPoint, HistogramPoint, GaugeHistogramPoint, SummaryPoint};
+ghost use Rattle.fm_encoder.specs.Points.{HistogramPoint, GaugeHistogramPoint, SummaryPoint};
 ghost use Rattle.fm_tests_points.specs.Kinds.{five_of};
 
 use fastmetrics::encoder::{
-    EncodeCounterValue, EncodeError, EncodeExemplar, EncodeLabel, EncodeLabelSet, EncodePoint,
-    ExemplarEncoder, LabelEncoder, PointEncoder,
+    EncodeError, EncodeExemplar, EncodeLabel, EncodeLabelSet, EncodePoint, ExemplarEncoder,
+    LabelEncoder, PointEncoder,
 };
 use fastmetrics::metrics::summary::Quantile;
 use fastmetrics::raw::bucket::Bucket;
 use fastmetrics::raw::{Fixed, FixedSum, MetricType};
 use std::alloc::Global;
-
-/// A counter's point with an exemplar.
-#[derive(Drop)]
-pub struct CounterWith<V, E> {
-    /// Its total.
-    pub total: V,
-    /// The exemplar.
-    pub exemplar: E,
-}
-
-impl<V: EncodeCounterValue, E: EncodeExemplar> EncodePoint for CounterWith<V, E> {
-    ghost points = { λ p ps. ps ≡ CounterPoint (V.numbers p.total) (E.exemplars p.exemplar) None ∷ [] };
-
-    ghost may_fault = { λ p. V.may_fault p.total ⊎ E.may_fault p.exemplar };
-
-    fn encode(&self, encoder: &mut PointEncoder) -> Result<(), EncodeError> {
-        encoder.encode_counter(&self.total, Some(&self.exemplar), None)
-    }
-}
 
 /// Two buckets, an exemplar of the first, so many values and their sum, as the point of a histogram.
 #[derive(Drop)]

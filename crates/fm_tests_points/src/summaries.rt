@@ -6,7 +6,7 @@ use fastmetrics::metrics::summary::{QUANTILE_LABEL, Quantile};
 use fastmetrics::raw::{Fixed, FixedSum, MetricType};
 use fastmetrics::registry::Registry;
 use fm_test_support::members::OneMember;
-use fm_test_support::support::{document_alone, document_of, refusal};
+use fm_test_support::support::{document_of, expect_document, expect_refusal};
 use fm_test_support::trees::{build_below, labels, register_below};
 use std::test::Fail;
 
@@ -39,32 +39,36 @@ fn summary<LS>(labels: LS) -> OneMember<LS, TwoQuantiles> {
 #[test]
 fn quantiles_then_count_and_sum(rt: HostRuntime) -> Result<(), Fail> {
     let alloc = rt.alloc();
-    assert_eq!(rt;
-        document_alone(alloc, "s", None, Box::new(alloc, summary(()))?)?.as_str(),
+    expect_document(
+        alloc,
+        "s",
+        None,
+        Box::new(alloc, summary(()))?,
         "# TYPE s summary\n# HELP s H\ns{quantile=\"0.5\"} 2.0\ns{quantile=\"0.99\"} 7.25\n\
-        s_count 20\ns_sum 100.0\n# EOF\n"
-    );
-    Ok(())
+        s_count 20\ns_sum 100.0\n# EOF\n",
+    )
 }
 
 #[test]
 fn quantiles_under_member_labels(rt: HostRuntime) -> Result<(), Fail> {
     let alloc = rt.alloc();
     let metric = summary(labels(alloc, &[("le", "1")])?);
-    assert_eq!(rt;
-        document_alone(alloc, "s", None, Box::new(alloc, metric)?)?.as_str(),
+    expect_document(
+        alloc,
+        "s",
+        None,
+        Box::new(alloc, metric)?,
         "# TYPE s summary\n# HELP s H\ns{le=\"1\",quantile=\"0.5\"} 2.0\ns{le=\"1\",quantile=\"0.99\"} 7.25\n\
-        s_count{le=\"1\"} 20\ns_sum{le=\"1\"} 100.0\n# EOF\n"
-    );
-    Ok(())
+        s_count{le=\"1\"} 20\ns_sum{le=\"1\"} 100.0\n# EOF\n",
+    )
 }
 
 #[test]
 fn label_of_quantiles_is_reserved(rt: HostRuntime) -> Result<(), Fail> {
     let alloc = rt.alloc();
     let metric = Box::new(alloc, summary(labels(alloc, &[(QUANTILE_LABEL, "1")])?))?;
-    assert_eq!(rt; refusal(alloc, metric)?, EncodeError::ReservedLabel);
-    assert_eq!(rt; QUANTILE_LABEL, "quantile");
+    expect_refusal(alloc, metric, EncodeError::ReservedLabel)?;
+    assert!(rt; QUANTILE_LABEL == "quantile");
     Ok(())
 }
 

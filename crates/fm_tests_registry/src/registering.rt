@@ -7,77 +7,75 @@ use fastmetrics::metrics::tally::TallyError;
 use fastmetrics::raw::{MetricType, Unit};
 use fastmetrics::registry::{Registry, RegistryError, SetRegistryError};
 use fm_test_support::members::OneMember;
-use fm_test_support::support::document_of;
-use fm_test_support::trees::register_with;
-use std::alloc::Global;
+use fm_test_support::support::{document_of, expect_text};
+use fm_test_support::trees::{expect_refused, gauge, register_with};
+use std::alloc::{AllocError, Global};
+use std::fmt::Display;
 use std::test::Fail;
 
-// What registering one metric answers.
-fn answer_to(
+// Fails where registering one metric is not refused so, or at all where there is no refusal. A document has what was not refused.
+fn expect_answer(
     alloc: Global,
     name: &str,
     unit: Option<Unit>,
     metric: Box<dyn EncodeMetric>,
-) -> Result<Result<(), RegistryError>, Fail> {
+    refusal: Option<(u8, &str)>,
+) -> Result<(), Fail> {
     let mut registry = Registry::default();
     let answer = register_with(alloc, &mut registry, name, "H", unit, metric);
     let is_empty = document_of(alloc, &registry)?.as_str() == "# EOF\n";
     if is_empty == answer.is_ok() {
         return Err(Fail::new("the document does not fit the answer"));
     }
-    Ok(answer)
+    match refusal {
+        Some((number, text)) => expect_refused(answer, number, text),
+        None => Ok(answer?),
+    }
 }
 
 #[test]
 fn names_of_metrics(rt: HostRuntime) -> Result<(), Fail> {
     let alloc = rt.alloc();
     for name in ["name1", "name_1", "name_1_2", "x", "a1_2b"] {
-        let answer = answer_to(alloc, name, None, Box::new(alloc, ConstGauge::new(1i64))?)?;
-        assert_eq!(rt; answer, Ok(()), "{name}");
+        let gauge = gauge(alloc, 1)?;
+        expect_answer(alloc, name, None, gauge, None)?;
     }
     for name in [
         "_", "1name", "name__1", "name_", "name!", "", "Bad", "é", "_name", "a:b", "a b",
     ] {
-        let answer = answer_to(alloc, name, None, Box::new(alloc, ConstGauge::new(1i64))?)?;
-        let text = String::from_str(alloc, name)?;
-        assert_eq!(rt;
-            answer,
-            Err(RegistryError::InvalidNameFormat { name: text }),
-            "{name}"
-        );
+        let gauge = gauge(alloc, 1)?;
+        expect_answer(alloc, name, None, gauge, Some((1, name)))?;
     }
     Ok(())
+}
+
+// Fails where registering a gauge with this unit is not refused so.
+fn expect_unit(
+    alloc: Global,
+    name: &str,
+    unit: &str,
+    refusal: Option<(u8, &str)>,
+) -> Result<(), Fail> {
+    let gauge = gauge(alloc, 1)?;
+    let unit = Some(Unit::from(String::from_str(alloc, unit)?));
+    expect_answer(alloc, name, unit, gauge, refusal)
 }
 
 #[test]
 fn units_of_gauges(rt: HostRuntime) -> Result<(), Fail> {
     let alloc = rt.alloc();
-    for text in ["1a", "hertz", "0"] {
-        let unit = Some(Unit::from(String::from_str(alloc, text)?));
-        let answer = answer_to(alloc, "ok", unit, Box::new(alloc, ConstGauge::new(1i64))?)?;
-        assert_eq!(rt; answer, Ok(()), "{text}");
+    for unit in ["1a", "hertz", "0"] {
+        expect_unit(alloc, "ok", unit, None)?;
     }
-    for text in ["X", "", "a_b", "1A", "é", "a b"] {
-        let unit = Some(Unit::from(String::from_str(alloc, text)?));
-        let answer = answer_to(alloc, "ok", unit, Box::new(alloc, ConstGauge::new(1i64))?)?;
-        let unit = String::from_str(alloc, text)?;
-        assert_eq!(rt;
-            answer,
-            Err(RegistryError::OtherUnitFormatMustBeLowercase { unit }),
-            "{text}"
-        );
+    for unit in ["X", "", "a_b", "1A", "é", "a b"] {
+        expect_unit(alloc, "ok", unit, Some((3, unit)))?;
     }
     Ok(())
 }
 
 #[test]
 fn names_before_units(rt: HostRuntime) -> Result<(), Fail> {
-    let alloc = rt.alloc();
-    let unit = Some(Unit::from(String::from_str(alloc, "X")?));
-    let answer = answer_to(alloc, "Bad", unit, Box::new(alloc, ConstGauge::new(1i64))?)?;
-    let name = String::from_str(alloc, "Bad")?;
-    assert_eq!(rt; answer, Err(RegistryError::InvalidNameFormat { name }));
-    Ok(())
+    expect_unit(rt.alloc(), "Bad", "X", Some((1, "Bad")))
 }
 
 #[test]
@@ -91,86 +89,73 @@ fn types_without_units(rt: HostRuntime) -> Result<(), Fail> {
                 labels: (),
                 point: ConstGauge::new(1i64),
             };
+            let metric = Box::new(alloc, metric)?;
             let unit = Some(Unit::from(String::from_str(alloc, "X")?));
-            let answer = answer_to(alloc, name, unit, Box::new(alloc, metric)?)?;
-            assert_eq!(rt; answer.err().map(|error| error.number()), Some(number));
+            expect_answer(alloc, name, unit, metric, Some((number, name)))?;
         }
     }
     Ok(())
 }
 
+// The refusal with this number, which names `ok`.
+fn refusal_of(alloc: Global, number: u8) -> Result<RegistryError, AllocError> {
+    let name = String::from_str(alloc, "ok")?;
+    Ok(match number {
+        1 => RegistryError::InvalidNameFormat { name },
+        2 => RegistryError::MustHaveAnEmptyUnitString { name },
+        3 => RegistryError::OtherUnitFormatMustBeLowercase { unit: name },
+        4 => RegistryError::AlreadyExists { name },
+        6 => RegistryError::InvalidNamespace { namespace: name },
+        7 => RegistryError::InvalidSubsystemName { name },
+        8 => RegistryError::InvalidLabelName { name },
+        9 => RegistryError::DuplicateLabel { name },
+        10 => RegistryError::NoSuchSubsystem { name },
+        11 => RegistryError::TooDeep { name },
+        12 => RegistryError::NameTaken { name },
+        _ => RegistryError::Memory,
+    })
+}
+
+// Fails where an error has another text.
+fn expect_shown<E: Display>(alloc: Global, error: &E, want: &str) -> Result<(), Fail> {
+    let text = format!(in alloc; "{error}")?;
+    expect_text(text.as_str(), want)
+}
+
 #[test]
 fn refusals_of_registries(rt: HostRuntime) -> Result<(), Fail> {
-    let alloc = rt.alloc();
-    let ok = || String::from_str(alloc, "ok");
-    for (error, number, want) in [
+    for (number, want) in [
+        (1, "The name of metric 'ok' should be snake_case"),
+        (2, "The type of metric 'ok' must have an empty unit string"),
+        (3, "The format of unit 'ok' must be lowercase"),
         (
-            RegistryError::InvalidNameFormat { name: ok()? },
-            1,
-            "The name of metric 'ok' should be snake_case",
-        ),
-        (
-            RegistryError::MustHaveAnEmptyUnitString { name: ok()? },
-            2,
-            "The type of metric 'ok' must have an empty unit string",
-        ),
-        (
-            RegistryError::OtherUnitFormatMustBeLowercase { unit: ok()? },
-            3,
-            "The format of unit 'ok' must be lowercase",
-        ),
-        (
-            RegistryError::AlreadyExists { name: ok()? },
             4,
             "The metric 'ok' to be registered already exists in the registry",
         ),
-        (RegistryError::Memory, 5, "Memory"),
-        (
-            RegistryError::InvalidNamespace { namespace: ok()? },
-            6,
-            "InvalidNamespace",
-        ),
-        (
-            RegistryError::InvalidSubsystemName { name: ok()? },
-            7,
-            "InvalidSubsystemName",
-        ),
-        (
-            RegistryError::InvalidLabelName { name: ok()? },
-            8,
-            "InvalidLabelName",
-        ),
-        (
-            RegistryError::DuplicateLabel { name: ok()? },
-            9,
-            "DuplicateLabel",
-        ),
-        (
-            RegistryError::NoSuchSubsystem { name: ok()? },
-            10,
-            "NoSuchSubsystem",
-        ),
-        (RegistryError::TooDeep { name: ok()? }, 11, "TooDeep"),
-        (RegistryError::NameTaken { name: ok()? }, 12, "NameTaken"),
+        (5, "Memory"),
+        (6, "InvalidNamespace"),
+        (7, "InvalidSubsystemName"),
+        (8, "InvalidLabelName"),
+        (9, "DuplicateLabel"),
+        (10, "NoSuchSubsystem"),
+        (11, "TooDeep"),
+        (12, "NameTaken"),
     ] {
-        assert_eq!(rt; error.number(), number);
-        assert_eq!(rt; error.to_string(alloc)?.as_str(), want);
+        let error = refusal_of(rt.alloc(), number)?;
+        assert!(rt; error.number() == number);
+        expect_shown(rt.alloc(), &error, want)?;
     }
     Ok(())
 }
 
 #[test]
 fn refusals_of_global_registries(rt: HostRuntime) -> Result<(), Fail> {
-    assert_eq!(rt;
-        SetRegistryError.to_string(rt.alloc())?.as_str(),
-        "Global registry has already been initialized"
-    );
-    Ok(())
+    let want = "Global registry has already been initialized";
+    expect_shown(rt.alloc(), &SetRegistryError, want)
 }
 
 #[test]
-fn refusals_of_encoders_and_tallies(rt: HostRuntime) -> Result<(), Fail> {
-    let alloc = rt.alloc();
+fn refusals_of_encoders(rt: HostRuntime) -> Result<(), Fail> {
     for (error, number, want) in [
         (EncodeError::Memory, 1, "Memory"),
         (EncodeError::InvalidLabelName, 2, "InvalidLabelName"),
@@ -192,9 +177,14 @@ fn refusals_of_encoders_and_tallies(rt: HostRuntime) -> Result<(), Fail> {
         (EncodeError::Write, 14, "Write"),
         (EncodeError::WriteZero, 15, "WriteZero"),
     ] {
-        assert_eq!(rt; error.number(), number);
-        assert_eq!(rt; error.to_string(alloc)?.as_str(), want);
+        assert!(rt; error.number() == number);
+        expect_shown(rt.alloc(), &error, want)?;
     }
+    Ok(())
+}
+
+#[test]
+fn refusals_of_tallies(rt: HostRuntime) -> Result<(), Fail> {
     for (error, number, want) in [
         (TallyError::Memory, 1, "Memory"),
         (TallyError::Full, 2, "Full"),
@@ -204,8 +194,8 @@ fn refusals_of_encoders_and_tallies(rt: HostRuntime) -> Result<(), Fail> {
         (TallyError::SpawnFailed, 6, "SpawnFailed"),
         (TallyError::Overrun, 7, "Overrun"),
     ] {
-        assert_eq!(rt; error.number(), number);
-        assert_eq!(rt; error.to_string(alloc)?.as_str(), want);
+        assert!(rt; error.number() == number);
+        expect_shown(rt.alloc(), &error, want)?;
     }
     Ok(())
 }

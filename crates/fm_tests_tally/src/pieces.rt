@@ -1,15 +1,14 @@
 //! Observations cut among workers.
 
+use fastmetrics::metrics::gauge_histogram::GaugeHistogramSnapshot;
+use fastmetrics::metrics::histogram::HistogramSnapshot;
 use fastmetrics::metrics::tally::{Gate, OpenGate, TallyError, observe_all, observe_all_gauge};
 use fastmetrics::raw::Fixed;
 use fastmetrics::raw::bucket::{Bound, Bucket};
+use fm_test_support::histograms::{expect_sum, have_counts, whole};
 use std::alloc::{AllocError, Global};
 use std::sync::atomic::{AtomicU64, Ordering};
 use std::test::Fail;
-
-fn whole(n: i16) -> Fixed {
-    Fixed::from_millionths(i64::from(n) * 1_000_000)
-}
 
 fn up_to(alloc: Global, n: u8) -> Result<Vec<Fixed>, AllocError> {
     let mut values = Vec::new(alloc);
@@ -19,8 +18,32 @@ fn up_to(alloc: Global, n: u8) -> Result<Vec<Fixed>, AllocError> {
     Ok(values)
 }
 
-fn counts(alloc: Global, buckets: &[Bucket]) -> Result<Vec<u64>, AllocError> {
-    buckets.iter().map(|b| b.count()).collect(alloc)
+// Fails where these are not the counts of a histogram's buckets, its count, and its sum as it is written.
+fn expect_counted(
+    alloc: Global,
+    all: &HistogramSnapshot,
+    counts: &[u64],
+    count: u64,
+    sum: &str,
+) -> Result<(), Fail> {
+    if !have_counts(all.buckets(), counts) || all.count() != count {
+        return Err(Fail::new("other counts"));
+    }
+    expect_sum(alloc, all.sum(), sum)
+}
+
+// The same of a gauge histogram.
+fn expect_gauge_counted(
+    alloc: Global,
+    all: &GaugeHistogramSnapshot,
+    counts: &[u64],
+    count: u64,
+    sum: &str,
+) -> Result<(), Fail> {
+    if !have_counts(all.buckets(), counts) || all.gcount() != count {
+        return Err(Fail::new("other counts"));
+    }
+    expect_sum(alloc, all.gsum(), sum)
 }
 
 #[test]
@@ -29,83 +52,65 @@ fn two_hundred_values(rt: HostRuntime) -> Result<(), Fail> {
     let bounds = [whole(1), whole(2), whole(5)];
     let pieces = [up_to(alloc, 100)?, up_to(alloc, 100)?, Vec::new(alloc)];
     for cut in [2, 3] {
-        let Ok(all) = observe_all(&rt, alloc, &bounds, &pieces[..cut], &OpenGate) else {
-            return Err(Fail::new("no histogram"));
-        };
-        assert_eq!(rt;
-            counts(alloc, all.buckets())?.as_slice(),
-            [2, 2, 6, 190].as_slice()
-        );
-        assert_eq!(rt; all.count(), 200);
-        let mut text = String::new(alloc);
-        all.sum().write_text(&mut text)?;
-        assert_eq!(rt; text.as_str(), "10100.0");
+        let all = observe_all(&rt, alloc, &bounds, &pieces[..cut], &OpenGate)?;
+        expect_counted(alloc, &all, &[2, 2, 6, 190], 200, "10100.0")?;
     }
     Ok(())
 }
 
-#[test]
-fn no_pieces(rt: HostRuntime) -> Result<(), Fail> {
-    let alloc = rt.alloc();
-    let bounds = [whole(1), whole(2), whole(5)];
-    let Ok(all) = observe_all(&rt, alloc, &bounds, &[], &OpenGate) else {
-        return Err(Fail::new("no histogram"));
-    };
+// Whether a histogram has the bounds 1, 2 and 5, and nothing in it.
+fn is_empty(all: &HistogramSnapshot) -> bool {
     let empty = [
         Bucket::new(Bound::Finite(whole(1)), 0),
         Bucket::new(Bound::Finite(whole(2)), 0),
         Bucket::new(Bound::Finite(whole(5)), 0),
         Bucket::new(Bound::Inf, 0),
     ];
-    assert_eq!(rt; all.buckets(), empty.as_slice());
-    assert_eq!(rt; (all.count(), all.sum().millionths()), (0, 0));
+    all.buckets() == empty.as_slice() && all.count() == 0 && all.sum().millionths() == 0
+}
+
+#[test]
+fn no_pieces(rt: HostRuntime) -> Result<(), Fail> {
+    let bounds = [whole(1), whole(2), whole(5)];
+    let all = observe_all(&rt, rt.alloc(), &bounds, &[], &OpenGate)?;
+    assert!(rt; is_empty(&all));
     Ok(())
 }
 
-// Bounds and values of temperatures, cut in two.
-const BOUNDS: [i64; 6] = [
-    -273_150_000,
-    -200_000_000,
-    -100_000_000,
-    0,
-    100_000_000,
-    200_000_000,
-];
+// Bounds of temperatures.
+fn bounds() -> [Fixed; 6] {
+    let zero = Fixed::from_millionths(-273_150_000);
+    [
+        zero,
+        whole(-200),
+        whole(-100),
+        whole(0),
+        whole(100),
+        whole(200),
+    ]
+}
+
+// Temperatures, cut in two.
+fn temperatures(alloc: Global) -> Result<[Vec<Fixed>; 2], AllocError> {
+    let first = vec![in alloc; whole(-250), whole(0)]?;
+    let second = vec![in alloc; whole(100), whole(1000)]?;
+    Ok([first, second])
+}
 
 #[test]
-fn temperatures(rt: HostRuntime) -> Result<(), Fail> {
+fn temperatures_in_a_gauge_histogram(rt: HostRuntime) -> Result<(), Fail> {
     let alloc = rt.alloc();
-    let mut bounds = Vec::new(alloc);
-    for millionths in BOUNDS {
-        bounds.push(Fixed::from_millionths(millionths))?;
-    }
-    let pieces = [
-        vec![in alloc; whole(-250), whole(0)]?,
-        vec![in alloc; whole(100), whole(1000)]?,
-    ];
-    let Ok(gauge) = observe_all_gauge(&rt, alloc, &bounds, &pieces, &OpenGate) else {
-        return Err(Fail::new("no gauge histogram"));
-    };
-    assert_eq!(rt;
-        counts(alloc, gauge.buckets())?.as_slice(),
-        [0, 1, 0, 1, 1, 0, 1].as_slice()
-    );
-    assert_eq!(rt; gauge.gcount(), 4);
-    let mut text = String::new(alloc);
-    gauge.gsum().write_text(&mut text)?;
-    assert_eq!(rt; text.as_str(), "850.0");
-    let Ok(histogram) = observe_all(&rt, alloc, &bounds, &pieces, &OpenGate) else {
-        return Err(Fail::new("no histogram"));
-    };
-    assert_eq!(rt;
-        counts(alloc, histogram.buckets())?.as_slice(),
-        [1, 1, 0, 1].as_slice()
-    );
-    assert_eq!(rt; histogram.count(), 3);
-    let mut text = String::new(alloc);
-    histogram.sum().write_text(&mut text)?;
-    assert_eq!(rt; text.as_str(), "1100.0");
-    Ok(())
+    let pieces = temperatures(alloc)?;
+    let all = observe_all_gauge(&rt, alloc, &bounds(), &pieces, &OpenGate)?;
+    expect_gauge_counted(alloc, &all, &[0, 1, 0, 1, 1, 0, 1], 4, "850.0")
+}
+
+#[test]
+fn temperatures_in_a_histogram(rt: HostRuntime) -> Result<(), Fail> {
+    let alloc = rt.alloc();
+    let pieces = temperatures(alloc)?;
+    let all = observe_all(&rt, alloc, &bounds(), &pieces, &OpenGate)?;
+    expect_counted(alloc, &all, &[1, 1, 0, 1], 3, "1100.0")
 }
 
 // Refuses all pieces from one on.
@@ -124,13 +129,12 @@ impl Gate for RefusesFrom {
 fn first_refused_piece(rt: HostRuntime) -> Result<(), Fail> {
     let alloc = rt.alloc();
     let pieces = [up_to(alloc, 3)?, up_to(alloc, 3)?, up_to(alloc, 3)?];
-    let refused = observe_all(&rt, alloc, &[whole(1)], &pieces, &RefusesFrom(1));
-    let Err(fault) = refused else {
-        return Err(Fail::new("no fault"));
-    };
-    assert_eq!(rt; fault, TallyError::GateRefused { piece: 1 });
-    assert_eq!(rt; fault.number(), 4);
-    Ok(())
+    match observe_all(&rt, alloc, &[whole(1)], &pieces, &RefusesFrom(1)) {
+        Err(fault) if fault == TallyError::GateRefused { piece: 1 } && fault.number() == 4 => Ok(
+            (),
+        ),
+        _ => Err(Fail::new("no fault, or another one")),
+    }
 }
 
 // Lets a piece through once both have come, and gives up after many turns.
@@ -153,17 +157,18 @@ impl Gate for WaitsForBoth {
     }
 }
 
+// A gate that nothing has come to.
+fn waits_for_both() -> WaitsForBoth {
+    WaitsForBoth {
+        come: AtomicU64::new(0),
+    }
+}
+
 #[test]
 fn gate_holds_both(rt: HostRuntime) -> Result<(), Fail> {
     let alloc = rt.alloc();
     let pieces = [up_to(alloc, 3)?, up_to(alloc, 3)?];
-    let gate = WaitsForBoth {
-        come: AtomicU64::new(0),
-    };
-    assert!(rt; observe_all(&rt, alloc, &[whole(1)], &pieces, &gate).is_ok());
-    let gate = WaitsForBoth {
-        come: AtomicU64::new(0),
-    };
-    assert!(rt; observe_all_gauge(&rt, alloc, &[whole(1)], &pieces, &gate).is_ok());
+    assert!(rt; observe_all(&rt, alloc, &[whole(1)], &pieces, &waits_for_both()).is_ok());
+    assert!(rt; observe_all_gauge(&rt, alloc, &[whole(1)], &pieces, &waits_for_both()).is_ok());
     Ok(())
 }
