@@ -1,4 +1,4 @@
-use Rattle.std.proofs.Common.{◌≡◌, ◌++◌, arith}
+use Rattle.std.proofs.Common.{◌≡◌, ◌<◌, ◌++◌, arith, length}
 use Rattle.fm_grammar.specs.Spelling.{label_block_text, in_braces}
 use Rattle.fm_exposition.proofs.ResultLemmas.{on_ok_more}
 use Rattle.fm_writer.proofs.GrownLemmas.{block_neither, block_front, block_back}
