@@ -1,6 +1,6 @@
 //! What a registry's metrics write is read as what was collected.
 use fastmetrics::encoder::{EncodeMetric, LabeledExemplar, StaticStr};
-use fastmetrics::format::text::{collect, read};
+use fastmetrics::format::text::{collect, encode, read};
 use fastmetrics::metrics::counter::{ConstCounter, Counter};
 use fastmetrics::metrics::family::{DefaultFactory, Family};
 use fastmetrics::metrics::gauge::{ConstGauge, Gauge};
@@ -11,12 +11,11 @@ use fastmetrics::metrics::state_set::{ConstStateSet, StateSet};
 use fastmetrics::metrics::summary::Quantile;
 use fastmetrics::metrics::unknown::Unknown;
 use fastmetrics::raw::bucket::{Bound, Bucket};
-use fastmetrics::raw::{Fixed, FixedSum, MetricType, TryDefault, Unit};
+use fastmetrics::raw::{Fixed, FixedSum, TryDefault, Unit};
 use fastmetrics::registry::{Registry, RegistryCall};
 use fm_test_support::jobs::Job;
 use fm_test_support::members::OneMember;
 use fm_test_support::replies::Outcome;
-use fm_test_support::support::document_of;
 use fm_test_support::trees::{labels, subsystem_at, texts};
 use own_points::{Answered, Durations, Latencies};
 use std::alloc::{AllocError, Global};
@@ -48,14 +47,12 @@ fn metric_at(
 // Makes the calls, and compares what is read of the registry's document with what is collected. It has so many families.
 fn is_read_back(alloc: Global, calls: Vec<RegistryCall>, families: usize) -> Result<bool, Fail> {
     let mut registry = Registry::default();
-    if registry
-        .run(alloc, calls)?
-        .iter()
-        .any(|answer| answer.is_err())
-    {
-        return Err(Fail::new("a call was refused"));
+    for answer in registry.run(alloc, calls)? {
+        answer?;
     }
-    let text = document_of(alloc, &registry)?;
+    let mut bytes: Vec<u8> = Vec::new(alloc);
+    encode(alloc, &mut bytes, &registry)?;
+    let text = String::from_utf8(bytes)?;
     let exposition = read(alloc, &text)?;
     Ok(exposition == collect(alloc, &registry)? && exposition.families().len() == families)
 }
@@ -69,83 +66,42 @@ fn observed(alloc: Global) -> Result<HistogramSnapshot, Fail> {
     Ok(all)
 }
 
-// A gauge with a timestamp.
-fn stamped() -> OneMember<Outcome, ConstGauge<i64>> {
-    OneMember {
-        metric_type: MetricType::Gauge,
-        time: Some(Duration::from_millis(1005)),
-        labels: Outcome { error: Some(true) },
-        point: ConstGauge::new(i64::MIN),
-    }
-}
-
-// The types of metrics without a handle.
-#[derive(Clone, Copy)]
-enum Constant {
-    Counter,
-    Gauge,
-    Unknown,
-    Info,
-    States,
-    Histogram,
-    Stamped,
-}
-
-// A metric of this type.
-fn constant(alloc: Global, constant: Constant) -> Result<Box<dyn EncodeMetric>, Fail> {
-    let created = Duration::from_millis(1005);
-    let version = [(StaticStr("version"), StaticStr("1.2 \"b\""))];
-    Ok(match constant {
-        Constant::Counter => Box::new(alloc, ConstCounter::with_created(7u32, created))?,
-        Constant::Gauge => Box::new(alloc, ConstGauge::new(Fixed::from_millionths(-1)))?,
-        Constant::Unknown => Box::new(alloc, Unknown::new(-5i64))?,
-        Constant::Info => Box::new(alloc, Info::new(version))?,
-        Constant::States => Box::new(alloc, ConstStateSet::new(alloc, Job::Running)?)?,
-        Constant::Histogram => Box::new(alloc, observed(alloc)?)?,
-        Constant::Stamped => Box::new(alloc, stamped())?,
-    })
-}
-
-// The unit of a metric of this type.
-fn unit_of(constant: Constant) -> Option<Unit> {
-    match constant {
-        Constant::Gauge => Some(Unit::Bytes),
-        Constant::Histogram => Some(Unit::Seconds),
-        _ => None,
-    }
-}
-
 // Calls that register a metric without a handle of each type, at the root and in a subsystem whose label has to be
 // escaped.
 fn constant_calls(alloc: Global) -> Result<Vec<RegistryCall>, Fail> {
     let mut calls = Vec::new(alloc);
     calls.push(subsystem_at(alloc, &[], "db", &[("k", "a\"b\\c\nd")])?)?;
-    for (path, name, each) in [
-        (["db"].as_slice(), "queries", Constant::Counter),
-        (&["db"], "size", Constant::Gauge),
-        (&["db"], "level", Constant::Unknown),
-        (&["db"], "build", Constant::Info),
-        (&[], "job", Constant::States),
-        (&["db"], "time", Constant::Histogram),
-        (&[], "stamped", Constant::Stamped),
-    ] {
-        let metric = constant(alloc, each)?;
-        calls.push(metric_at(alloc, path, name, unit_of(each), metric)?)?;
-    }
+    let counter = ConstCounter::with_created(7u32, Duration::from_millis(1005));
+    let counter = Box::new(alloc, counter)?;
+    calls.push(metric_at(alloc, &["db"], "queries", None, counter)?)?;
+    let gauge = Box::new(alloc, ConstGauge::new(Fixed::from_millionths(-1)))?;
+    calls.push(metric_at(alloc, &["db"], "size", Some(Unit::Bytes), gauge)?)?;
+    let unknown = Box::new(alloc, Unknown::new(-5i64))?;
+    calls.push(metric_at(alloc, &["db"], "level", None, unknown)?)?;
+    let info = Info::new([(StaticStr("version"), StaticStr("1.2 \"b\""))]);
+    let info = Box::new(alloc, info)?;
+    calls.push(metric_at(alloc, &["db"], "build", None, info)?)?;
+    let job = Box::new(alloc, ConstStateSet::new(alloc, Job::Running)?)?;
+    calls.push(metric_at(alloc, &[], "job", None, job)?)?;
+    let histogram = Box::new(alloc, observed(alloc)?)?;
+    let unit = Some(Unit::Seconds);
+    calls.push(metric_at(alloc, &["db"], "time", unit, histogram)?)?;
+    let mut stamped = OneMember::gauge(Outcome { error: Some(true) }, ConstGauge::new(i64::MIN));
+    stamped.time = Some(Duration::from_millis(1005));
+    calls.push(metric_at(alloc, &[], "stamped", None, Box::new(alloc, stamped)?)?)?;
     Ok(calls)
 }
 
 #[test]
 fn metrics_without_handles(rt: HostRuntime) -> Result<(), Fail> {
     let alloc = rt.alloc();
-    assert!(rt; is_read_back(alloc, constant_calls(alloc)?, 7)?);
+    let calls = constant_calls(alloc)?;
+    assert!(rt; is_read_back(alloc, calls, 7)?);
     Ok(())
 }
 
-type Labels = Vec<(String, String)>;
-
 // An exemplar with a label that has to be escaped, and a time.
-fn trace(alloc: Global) -> Result<LabeledExemplar<Labels>, AllocError> {
+fn trace(alloc: Global) -> Result<LabeledExemplar<Vec<(String, String)>>, AllocError> {
     Ok(LabeledExemplar {
         labels: labels(alloc, &[("trace_id", "a\"b")])?,
         value: Fixed::from_millionths(-1),
@@ -153,17 +109,15 @@ fn trace(alloc: Global) -> Result<LabeledExemplar<Labels>, AllocError> {
     })
 }
 
-// A counter with an exemplar.
-fn answered(alloc: Global) -> Result<Answered<Labels>, Fail> {
-    Ok(Answered {
+// Calls that register what has an exemplar, a summary, and a gauge histogram.
+fn point_calls(alloc: Global) -> Result<Vec<RegistryCall>, Fail> {
+    let mut calls = Vec::new(alloc);
+    let answered = Answered {
         requests: 1,
         trace: trace(alloc)?,
-    })
-}
-
-// A histogram with an exemplar.
-fn durations(alloc: Global) -> Result<Durations<Labels>, Fail> {
-    Ok(Durations {
+    };
+    calls.push(metric_at(alloc, &[], "answered", None, Box::new(alloc, answered)?)?)?;
+    let durations = Durations {
         buckets: [
             Bucket::new(Bound::Finite(Fixed::ONE), 2),
             Bucket::new(Bound::Inf, 1),
@@ -171,95 +125,38 @@ fn durations(alloc: Global) -> Result<Durations<Labels>, Fail> {
         trace: trace(alloc)?,
         requests: 3,
         seconds: FixedSum::from_millionths(2_500_000),
-    })
-}
-
-// A summary.
-fn latencies(alloc: Global) -> Result<Latencies, Fail> {
+    };
+    calls.push(metric_at(alloc, &[], "durations", None, Box::new(alloc, durations)?)?)?;
     let median = Quantile::new(Fixed::from_millionths(500_000), Fixed::ONE);
-    Ok(Latencies {
+    let latencies = Latencies {
         quantiles: vec![in alloc; median]?,
         requests: 3,
         seconds: FixedSum::from_millionths(2_500_000),
-    })
-}
-
-// A gauge histogram that has observed a negative value.
-fn sizes(alloc: Global) -> Result<GaugeHistogramSnapshot, Fail> {
+    };
+    calls.push(metric_at(alloc, &[], "latencies", None, Box::new(alloc, latencies)?)?)?;
     let mut sizes = GaugeHistogramSnapshot::new(alloc, [Fixed::ZERO].iter().copied())?;
     sizes.observe(Fixed::from_millionths(-1))?;
-    Ok(sizes)
-}
-
-// The types of metrics with points of a user's own, and a gauge histogram.
-#[derive(Clone, Copy)]
-enum Own {
-    Answered,
-    Durations,
-    Latencies,
-    Sizes,
-}
-
-// A metric of this type.
-fn own(alloc: Global, own: Own) -> Result<Box<dyn EncodeMetric>, Fail> {
-    Ok(match own {
-        Own::Answered => Box::new(alloc, answered(alloc)?)?,
-        Own::Durations => Box::new(alloc, durations(alloc)?)?,
-        Own::Latencies => Box::new(alloc, latencies(alloc)?)?,
-        Own::Sizes => Box::new(alloc, sizes(alloc)?)?,
-    })
-}
-
-// Calls that register what has an exemplar, a summary, and a gauge histogram.
-fn point_calls(alloc: Global) -> Result<Vec<RegistryCall>, Fail> {
-    let mut calls = Vec::new(alloc);
-    for (name, each) in [
-        ("answered", Own::Answered),
-        ("durations", Own::Durations),
-        ("latencies", Own::Latencies),
-        ("sizes", Own::Sizes),
-    ] {
-        let metric = own(alloc, each)?;
-        calls.push(metric_at(alloc, &[], name, None, metric)?)?;
-    }
+    calls.push(metric_at(alloc, &[], "sizes", None, Box::new(alloc, sizes)?)?)?;
     Ok(calls)
 }
 
 #[test]
 fn points_of_a_users_own(rt: HostRuntime) -> Result<(), Fail> {
     let alloc = rt.alloc();
-    assert!(rt; is_read_back(alloc, point_calls(alloc)?, 4)?);
+    let calls = point_calls(alloc)?;
+    assert!(rt; is_read_back(alloc, calls, 4)?);
     Ok(())
-}
-
-// The types of handles without a lock.
-#[derive(Clone, Copy)]
-enum Handle {
-    Counter,
-    Gauge,
-    States,
-}
-
-// A handle of this type.
-fn handle(alloc: Global, handle: Handle) -> Result<Box<dyn EncodeMetric>, Fail> {
-    Ok(match handle {
-        Handle::Counter => { Box::new(alloc, Counter::<u64>::with_created(alloc, Duration::MAX)?)? }
-        Handle::Gauge => Box::new(alloc, Gauge::<i64>::new(alloc, -5)?)?,
-        Handle::States => Box::new(alloc, StateSet::new(alloc, Job::Failed)?)?,
-    })
 }
 
 // Calls that register a handle of each type without a lock.
 fn handle_calls(alloc: Global) -> Result<Vec<RegistryCall>, Fail> {
     let mut calls = Vec::new(alloc);
-    for (name, each) in [
-        ("bytes", Handle::Counter),
-        ("level", Handle::Gauge),
-        ("job", Handle::States),
-    ] {
-        let metric = handle(alloc, each)?;
-        calls.push(metric_at(alloc, &[], name, None, metric)?)?;
-    }
+    let counter = Box::new(alloc, Counter::<u64>::with_created(alloc, Duration::MAX)?)?;
+    calls.push(metric_at(alloc, &[], "bytes", None, counter)?)?;
+    let gauge = Box::new(alloc, Gauge::<i64>::new(alloc, -5)?)?;
+    calls.push(metric_at(alloc, &[], "level", None, gauge)?)?;
+    let job = Box::new(alloc, StateSet::new(alloc, Job::Failed)?)?;
+    calls.push(metric_at(alloc, &[], "job", None, job)?)?;
     Ok(calls)
 }
 
@@ -284,26 +181,17 @@ fn histograms<H: Wait + Clone + Drop>(
     Ok(histograms)
 }
 
-// These calls, and one that registers a metric at the root.
-fn and_registers(
-    alloc: Global,
-    mut calls: Vec<RegistryCall>,
-    name: &str,
-    metric: Box<dyn EncodeMetric>,
-) -> Result<Vec<RegistryCall>, Fail> {
-    calls.push(metric_at(alloc, &[], name, None, metric)?)?;
-    Ok(calls)
-}
-
 #[test]
 fn handles_and_families(rt: HostRuntime) -> Result<(), Fail> {
     let alloc = rt.alloc();
+    let mut calls = handle_calls(alloc)?;
     let counters = Box::new(alloc, counters(rt, alloc)?)?;
-    let calls = and_registers(alloc, handle_calls(alloc)?, "requests", counters)?;
+    calls.push(metric_at(alloc, &[], "requests", None, counters)?)?;
     let histograms = Box::new(alloc, histograms(rt, alloc)?)?;
-    let calls = and_registers(alloc, calls, "times", histograms)?;
+    calls.push(metric_at(alloc, &[], "times", None, histograms)?)?;
     let histogram = Histogram::with_created(rt, alloc, [].iter().copied(), Duration::ZERO)?;
-    let calls = and_registers(alloc, calls, "one", Box::new(alloc, histogram)?)?;
+    let histogram = Box::new(alloc, histogram)?;
+    calls.push(metric_at(alloc, &[], "one", None, histogram)?)?;
     assert!(rt; is_read_back(alloc, calls, 6)?);
     Ok(())
 }
