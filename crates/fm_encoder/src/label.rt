@@ -151,7 +151,11 @@ impl LabelEncoder {
         if self.labels.has_name(name) {
             return self.refuse(EncodeError::DuplicateLabel);
         }
-        self.is_known = self.known.learn(self.is_known, self.labels.len(), name);
+        let was_known = self.is_known;
+        self.is_known = self.known.learn(was_known, self.labels.len(), name);
+        if was_known && !self.is_known {
+            return self.refuse(EncodeError::Memory);
+        }
         match self.labels.set_name(name) {
             Ok(()) => Ok(()),
             Err(_) => self.refuse(EncodeError::Memory),
