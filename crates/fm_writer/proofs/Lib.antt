@@ -3,3 +3,5 @@ pub mod OutputLemmas
 pub mod LabelTextLemmas
 pub mod PartLemmas
 pub mod RowLemmas
+pub mod Utf8Escapes
+pub mod Utf8Lemmas

@@ -1,2 +1,3 @@
 pub mod Output
+pub mod Utf8
 pub mod inside

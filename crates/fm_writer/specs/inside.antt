@@ -2,3 +2,4 @@
 pub mod Grown
 pub mod LabelTexts
 pub mod Forms
+pub mod Utf8

@@ -1,5 +1,6 @@
 // Writing an exposition as its document.
 ghost use Rattle.std.specs.Prelude.{◌≡◌, List, IfOk, OnOk, IfErr};
+ghost use Rattle.std.specs.List.{AllByRecursion};
 ghost use Rattle.std.specs.Io.KnownBytes.{Keeps};
 ghost use Rattle.fm_grammar.specs.Exposition.{Label};
 ghost use Rattle.fm_grammar.specs.Spelling.{label_list_text};
@@ -7,7 +8,9 @@ ghost use Rattle.fm_exposition.specs.inside.Points.{HaveInCommon, AreInPoints};
 ghost use Rattle.fm_exposition.specs.Rows.{sample_row, sample_rows, family_rows, families_rows, document_rows};
 ghost use Rattle.fm_exposition.specs.Samples.{common_labels, sample_of, samples_of};
 ghost use Rattle.fm_exposition.specs.Written.{AppendsDocument, BeginsDocument, IsWritersFault, IsWritingRefusal};
+ghost use Rattle.fm_writer.specs.Utf8.{AppendsUtf8};
 ghost use Rattle.fm_writer.specs.inside.Grown.{Grows, size_of};
+ghost use Rattle.fm_writer.specs.inside.Utf8.{IsUtf8Family};
 
 use crate::growing::GrowingText;
 use crate::heads::append_heads;
@@ -106,7 +109,8 @@ fn append_family<O: Output>(
     common_text: &mut O,
     family: &FamilySamples,
 ) -> Result<(), AllocError>
-    ensures { OnOk result (Grows (O.stands_for text.old) (O.stands_for text.new) (family_rows family.now)) }
+    ensures rows { OnOk result (Grows (O.stands_for text.old) (O.stands_for text.new) (family_rows family.now)) }
+    ensures utf8 { OnOk result (IsUtf8Family family.now) }
 {
     append_heads(
         text,
@@ -125,7 +129,8 @@ fn append_families<O: Output>(
     common_text: &mut O,
     families: &[FamilySamples],
 ) -> Result<(), AllocError>
-    ensures { OnOk result (Grows (O.stands_for text.old) (O.stands_for text.new) (families_rows families.now)) }
+    ensures rows { OnOk result (Grows (O.stands_for text.old) (O.stands_for text.new) (families_rows families.now)) }
+    ensures utf8 { OnOk result (AllByRecursion IsUtf8Family families.now) }
 {
     for family in families {
         append_family(text, common_text, family)?;
@@ -139,7 +144,8 @@ fn render_document<O: Output>(
     common_text: &mut O,
     families: &[FamilySamples],
 ) -> Result<(), AllocError>
-    ensures { OnOk result (O.stands_for text.new (document_rows families.now)) }
+    ensures document { OnOk result (O.stands_for text.new (document_rows families.now)) }
+    ensures utf8 { OnOk result (AllByRecursion IsUtf8Family families.now) }
 {
     text.reset();
     append_families(text, common_text, families)?;
@@ -158,7 +164,8 @@ fn measured(families: &[FamilySamples]) -> Result<(Size, Size), AllocError>
 
 // The document's text, for which there is room before its first byte is rendered.
 fn rendered(alloc: Global, families: &[FamilySamples]) -> Result<GrowingText, AllocError>
-    ensures { IfOk result (λ text. text ≡ document_rows families.now) }
+    ensures document { IfOk result (λ text. text ≡ document_rows families.now) }
+    ensures utf8 { OnOk result (AllByRecursion IsUtf8Family families.now) }
 {
     let (size, common_size) = measured(families)?;
     let mut text = GrowingText::with_room(alloc, size.size)?;
@@ -179,6 +186,8 @@ pub fn encode_exposition<W: Write>(
 ) -> Result<(), EncodeError>
     // After an Ok just the document was appended.
     ensures document { OnOk result (AppendsDocument (W.contents writer.old) (W.contents writer.new) exposition.now) }
+    // After an Ok the document that was appended is valid UTF-8.
+    ensures utf8 { OnOk result (AppendsUtf8 (W.contents writer.old) (W.contents writer.new) exposition.now) }
     // Without memory nothing was written.
     ensures memory { IfErr result (λ e. e ≡ EncodeError.Memory → Keeps (W.contents writer.old) (W.contents writer.new)) }
     // After a writer's fault a beginning of the document was appended.
