@@ -23,7 +23,7 @@ use Rattle.std.proofs.lemmas.List.{take_more, length-map}
 use Rattle.std.proofs.lemmas.List.Sums.{sum_by-append, sum_by-cons, sum_by_more_le}
 use Rattle.std.proofs.lemmas.List.Elements.{Contains-get_or}
 
--- metrics with buckets keep the name of the bounds' label for themselves
+-- metrics with buckets reserve the name of the bounds' label
 pub le_is_reserved : (type : MetricType) → HasBuckets type → IsReserved type (codes "le")
 le_is_reserved Unknown has = absurd has
 le_is_reserved Gauge has = absurd has
@@ -142,7 +142,7 @@ PushesBuckets-refused {S} f F buckets slots i before k b s old mid new r within 
       refused = λ j is. (let equal : k ≡ j = cc in subst (λ (e : EncodeError). OwnRefusal ((slot : S) × Contains slots slot × F slot) e ⊎ BucketsFault e buckets (map f slots)) equal fault);
     }
 
--- where no slot may answer an error of its own
+-- if no slot may return an error of its own
 pub PushesBuckets-never : {F : Type 0} (buckets : List Bucket) (slots : List (List HandedExemplar)) (old new : GatheredPoints) → ¬ F → PushesBuckets buckets slots F old new → PushesBuckets buckets slots ⊥ old new
 PushesBuckets-never buckets slots old new never a = record {
   place = a.place;

@@ -32,7 +32,7 @@ HasTotals type of_count of_sum =
 abbrev pub slots_of : {E : Type 0} → (E → List HandedExemplar) → List (Option (Bor E)) → List (List HandedExemplar)
 slots_of exemplars = map (λ slot. option_map_or (λ e. exemplars e.now) slot [])
 
--- the exemplar of some slot may answer an error of its own
+-- the source of some slot may return an error of its own
 abbrev pub MaySlotsFault : {E : Type 0} → (E → Type 0) → List (Option (Bor E)) → Type 0
 MaySlotsFault may_fault slots = (slot : _) × Contains slots slot × MatchOption slot ⊥ (λ e. may_fault e.now)
 
