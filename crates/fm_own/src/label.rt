@@ -65,8 +65,8 @@ impl EncodeLabelValue for LabelValue<'_> {
     }
 }
 
-/// Puts these labels into the encoder, each a name and a value, in order. A label set of a program's own does so in its `encode`,
-/// whatever the number of its labels.
+/// Passes these labels to the encoder, each a name and a value, in order. A label set of a program's own calls it in its `encode`,
+/// whatever the number of its labels. It fails as the encoder does.
 pub fn encode_labels<'a>(
     encoder: &mut LabelSetEncoder,
     labels: &[(&'a str, LabelValue<'a>)],
