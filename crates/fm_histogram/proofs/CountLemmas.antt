@@ -26,7 +26,7 @@ pub sum_fits : (sum v : ℤ) (count : ℕ) → neg_ℤ (pos (2 ^ 63 * count)) �
     → to_z w128 (of_z w128 (to_z w128 (of_z w128 sum) +ℤ to_z w128 (of_z w128 v))) ≡ sum +ℤ v
 sum_fits sum v count low high small fits = omega (arith, ints)
 
--- the histogram of one value more has one more in the bucket of its place
+-- the histogram of one value more has one more in the bucket at its index
 pub observes : (bounds xs : List ℤ) (s : Histogram) (v : ℤ) (at : ℕ) (d : Bucket) → IsCounts bounds xs s → at ≡ place v s.buckets
     → IsCounts bounds (xs ++ v ∷ []) (record { buckets = set s.buckets at (one_more (get_or s.buckets at d)); count = s.count + 1; sum = s.sum +ℤ v })
 observes bounds xs s v at d h here =

@@ -74,12 +74,12 @@ pub record IsOfSome (bounds : List ℤ) (s : Histogram) : Type 0 where
   pub low : neg_ℤ (pos (2 ^ 63 * s.count)) ≤ℤ s.sum
   pub high : s.sum ≤ℤ pos (2 ^ 63 * s.count)
 
--- the place of the bucket that takes x
+-- the index of the bucket that takes x
 abbrev pub place : ℤ → List Bucket → ℕ
 place x [] = 0
 place x (b ∷ bs) = if lies_below b.upper_bound x then suc (place x bs) else 0
 
--- how many of the bounds that rise are below x: the place of its bucket
+-- how many of the rising bounds are below x: the index of its bucket
 abbrev pub place_among : ℤ → List ℤ → ℕ
 place_among x [] = 0
 place_among x (b ∷ bs) = if int_lt b x then suc (place_among x bs) else 0
@@ -107,7 +107,7 @@ merged_buckets [] bs = []
 abbrev pub merged : Histogram → Histogram → Histogram
 merged s t = record { buckets = merged_buckets s.buckets t.buckets; count = s.count + t.count; sum = s.sum +ℤ t.sum }
 
--- a bound put in its place, unless it is there
+-- a bound inserted in order, unless it is there
 abbrev pub inserted : ℤ → List ℤ → List ℤ
 inserted x [] = x ∷ []
 inserted x (b ∷ bs) = if int_lt b x then b ∷ inserted x bs else (if int_lt x b then x ∷ b ∷ bs else b ∷ bs)

@@ -1,4 +1,4 @@
-//! Counts of values by bounds, whichever values are taken.
+//! Counts of values by bounds, for both kinds of histograms.
 ghost use Rattle.std.specs.Prelude.{◌≡◌, ℕ, ℤ, pos, true, ◌+◌, ◌^◌, ◌<◌, ◌≤◌, ◌↔◌, List, [], ◌∷◌, ◌++◌, None, Err, IfOk, IfErr, OnOk, OnErr, length, ◌⊎◌, ◌≢◌, IsTrue, slice_index_or, slice_set};
 ghost use Rattle.fm_raw.specs.declared.error.MetricError.TheVariants.{Memory, CountFull, UnequalBounds};
 ghost use Rattle.fm_bucket.specs.declared.bound.Bucket.{Bucket as OneBucket};
@@ -15,7 +15,7 @@ use std::sync::ledger::Blank;
 /// Counts of values by bounds, how many values there are, and their sum in millionths.
 #[derive(Clone, Drop)]
 pub struct Counts {
-    // The bounds of all buckets but the last, side by side, where a search is quickest.
+    // The bounds of all buckets but the last, side by side: a search is fastest there.
     bounds: Vec<Fixed>,
     buckets: Vec<Bucket>,
     count: u64,
@@ -97,7 +97,7 @@ impl Counts {
         Ok(())
     }
 
-    // Adds what the other counts, where it has the same bounds.
+    // Adds what the other counts, if it has the same bounds.
     pub(crate) fn merge(&mut self, other: &Counts) -> Result<(), MetricError>
         ensures merged { OnOk result (self.new ≡ merged self.old other.now) }
         ensures same { OnOk result (upper_bounds self.old.buckets ≡ upper_bounds other.now.buckets) }

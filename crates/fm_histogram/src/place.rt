@@ -6,7 +6,7 @@ use fm_bucket::{Probe, Steps, find_bucket};
 use fm_raw::Fixed;
 use std::sync::ledger::{Blank, Ledger};
 
-// Whether a bound reaches the value. Each call is one comparison of the two, and one step.
+// Whether a bound is at least the value. Each call is one comparison of the two, and one step.
 #[derive(Drop)]
 struct BoundsProbe<'a, L: Ledger> {
     bounds: &'a [Fixed],
@@ -30,7 +30,7 @@ impl<'a, L: Ledger> Probe for BoundsProbe<'a, L> {
     }
 }
 
-/// The index of the value's bucket, where these are the bounds of all buckets but the last, and rise.
+/// The index of the value's bucket, given the rising bounds of all buckets but the last.
 pub(crate) fn place_of<L: Ledger>(bounds: &[Fixed], value: Fixed, blank: Blank) -> usize
     requires name { blank.name ≡ L.name }
     requires parts { blank.parts ≡ L.parts }
