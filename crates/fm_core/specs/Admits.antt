@@ -1,5 +1,5 @@
 -- Which expositions the listed metrics of a book admit, and which fault stands in them. What a metric may offer, which
--- timestamps it may answer, whether it may be empty and whether it may answer errors of its own is what it declares.
+-- timestamps it may return, whether it may be empty and whether it may return errors of its own is what it declares.
 use Rattle.std.specs.Prelude.{◌≡◌, ℕ, List, [], ◌∷◌, ◌++◌, Option, ◌⊎◌}
 use Rattle.fm_grammar.specs.Exposition.{Family, Exposition}
 use Rattle.fm_encode_error.specs.declared.EncodeError.{EncodeError}

@@ -126,7 +126,7 @@ fn ended_lines(encoder: MetricEncoder) -> Result<Lines, AllocError>
     }
 }
 
-// The lines of the document of a registry and all below it, or the first refusal. It may wait where a metric waits for a lock.
+// The lines of the document of a registry and all below it, or the first refusal. It may wait if a metric waits for a lock.
 pub(crate) fn document_lines(alloc: Global, registry: &Registry) -> Result<Lines, EncodeError>
     requires { HasBook registry.now }
     ensures text { IfOk result (λ lines. (e : Exposition)

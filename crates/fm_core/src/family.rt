@@ -38,7 +38,7 @@ pub(crate) fn whole_millis(time: Option<Duration>) -> Option<u128>
     }
 }
 
-// The room that a text takes with an underscore beside it.
+// The number of bytes that a text takes together with an underscore.
 fn room_of(text: Option<&str>) -> usize {
     match text {
         Some(text) => text.len().saturating_add(1),
@@ -46,7 +46,7 @@ fn room_of(text: Option<&str>) -> usize {
     }
 }
 
-// Puts namespace, name and unit, those that are there, joined by underscores, into a text instead of what it was.
+// Replaces a text by namespace, name and unit, those that are there, joined by underscores.
 pub(crate) fn join_name(
     text: &mut String,
     namespace: Option<&str>,
@@ -85,7 +85,7 @@ fn joined_name(
     Ok(text)
 }
 
-// A text of its own memory, equal to the given one.
+// An owned copy of the text, if there is one.
 fn cloned_text(alloc: Global, text: Option<&str>) -> Result<Option<String>, AllocError>
     ensures { IfOk result (λ clone. option_map string_bytes clone ≡ option_copied text.entry) }
 {
@@ -256,9 +256,9 @@ impl<'a> MetricFamilyEncoder<'a> {
         Err(error)
     }
 
-    /// Takes the next metric: adds its family under this metadata, unless the metric is empty. The metadata is that of a
-    /// metric of the current registry, whose printed name no family has so far. It is refused for want of memory, or for a fault of the metric, and
-    /// from then on each call returns that refusal and changes nothing. It may wait where the metric waits for a lock.
+    /// Takes the next metric: adds its family with this metadata, unless the metric is empty. The metadata is that of a metric of
+    /// the current registry, whose printed name no family has so far. Fails with `Memory` if memory runs out, or for a fault of
+    /// the metric; from then on each call returns this first error and changes nothing. It may wait if the metric waits for a lock.
     pub fn encode(
         &mut self,
         metadata: &Metadata,
@@ -284,7 +284,7 @@ impl<'a> MetricFamilyEncoder<'a> {
         }
     }
 
-    // The families, where nothing was refused, else the first refusal.
+    // The families, or the first refusal.
     pub(crate) fn end(self) -> Result<Exposition, EncodeError>
         ensures { MatchResult result
             (λ e. (self.entry.refused ≡ None) × (e ≡ self.entry.families))

@@ -26,7 +26,7 @@ pub use fm_writer::encode_exposition;
 use std::alloc::Global;
 use std::io::Write;
 
-// Goes on to a registry, and takes a metric of it, whose name is new.
+// Goes on to a registry, and takes a metric of it, which has a new name.
 fn encode_under<'a>(
     encoder: &mut MetricFamilyEncoder<'a>,
     namespace: Option<&'a str>,
@@ -69,8 +69,8 @@ fn encode_listed<'a>(
 /// The exposition of a registry and all below it: a family for each metric that isn't empty, a registry's metrics by
 /// registration and then its subsystems by creation, depth first.
 ///
-/// The first refusal of an encoder ends it, whatever the metric makes of it; so does want of memory. It may wait where a
-/// metric waits for a lock.
+/// It stops at the first error: `Memory` if memory runs out, or a refusal of an encoder, even if the metric ignores it. It may
+/// wait if a metric waits for a lock.
 pub fn collect(alloc: Global, registry: &Registry) -> Result<Exposition, EncodeError>
     requires { HasBook registry.now }
     // Every book that the registry reads admits the exposition.
@@ -92,8 +92,8 @@ pub fn collect(alloc: Global, registry: &Registry) -> Result<Exposition, EncodeE
 /// Writes the document of a registry: renders it in memory while it visits the metrics, and then writes it. No lock is held while
 /// it writes.
 ///
-/// A metric's refusal, and want of memory, write nothing. The writer's error, or its result 0, ends the writing with
-/// `Write` or `WriteZero`; then a beginning of the document was written. Wrap a file or a socket in a `BufWriter`, and flush it.
+/// Errors: a metric was refused or memory ran out, and nothing was written; the writer returned an error (`Write`) or took no
+/// byte (`WriteZero`), and a beginning of the document was written. Wrap a file or a socket in a `BufWriter`, and flush it.
 pub fn encode<W: Write>(
     alloc: Global,
     writer: &mut W,
@@ -107,7 +107,7 @@ pub fn encode<W: Write>(
     // A refusal in collecting writes nothing, and names a fault that the tree has.
     ensures refused { IfErr result (λ k. ¬ (IsWritersFault k) → Keeps (W.contents writer.old) (W.contents writer.new)
         × ((k ≡ EncodeError.Memory) ⊎ ((b : _) → Shows registry.now b → Fault k (λ m. offers m) (λ m. stamps m) (λ m. may_fault m) (order b)))) }
-    // A writer's fault leaves a beginning of such a document.
+    // After an error of the writer, a beginning of such a document was written.
     ensures stopped { IfErr result (λ k. IsWritersFault k → BeginsAdmitted
         (λ e. (b : _) → Shows registry.now b → Admits (λ m. offers m) (λ m. stamps m) (λ m. may_be_empty m) (order b) e)
         (W.contents writer.old) (W.contents writer.new)) }
