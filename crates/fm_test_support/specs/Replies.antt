@@ -1,4 +1,4 @@
--- The labels of replies, as they are handed over.
+-- The labels of replies, as they are emitted.
 use Rattle.std.specs.Prelude.{ℕ, Bool, true, false, List, [], ◌∷◌, Option, codes, decimal, if◌then◌else◌}
 use Rattle.std.specs.Option.{option_map_or}
 use Rattle.fastmetrics.specs.Labels.{HandedLabel, NamePiece, ValuePiece}
