@@ -46,7 +46,7 @@ pub(crate) fn labels_behind<LS: EncodeLabelSet>(
     encoder.outcome(visited)
 }
 
-// Copies of lent labels, without a test.
+// Copies of borrowed labels, without a test.
 fn lent_labels(alloc: Global, labels: &[(&str, &str)]) -> Result<LabelText, AllocError>
     ensures { IfOk result (λ text. text.labels ≡ map shown_label labels.now) }
 {

@@ -56,7 +56,7 @@ impl EncodeLabelValue for Number {
     }
 }
 
-// Fails where the line of a gauge with these two values as labels is another one.
+// Fails if the line of a gauge with these two values as labels is another one.
 fn expect_line(alloc: Global, least: Number, greatest: Number, want: &str) -> Result<(), Fail> {
     let labels = [(Word("least"), least), (Word("greatest"), greatest)];
     let metric = Box::new(alloc, OneMember::gauge(labels, ConstGauge::new(5i64)))?;
