@@ -120,7 +120,9 @@ fn offered_by(
     ensures { MatchResult result
         (λ made. (string_bytes made.0 ≡ string_bytes name)
         × Offered (offers metric.now) (stamps metric.now) (string_bytes name) metric_type (labels_of constants.now) sink.output made.1.output)
-        (λ k. (k ≡ EncodeError.Memory) ⊎ MetricHasFault k (offers metric.now) (stamps metric.now) (may_fault metric.now) (string_bytes name) metric_type (labels_of constants.now)) }
+        (λ k. (k ≡ EncodeError.Memory)
+        ⊎ MetricHasFault k (offers metric.now) (stamps metric.now) (may_fault metric.now) (string_bytes name)
+        metric_type (labels_of constants.now)) }
 {
     let time = whole_millis(metric.timestamp());
     let mut encoder = MetricEncoder::new(alloc, name, metric_type, constants, time, sink)?;
@@ -145,7 +147,9 @@ fn samples_of_metric(
         (λ made. (string_bytes made.0 ≡ string_bytes name)
         × AdmitsSamples (offers metric.now) (stamps metric.now) (string_bytes name) metric_type (labels_of constants.now) made.1.samples
         × AllByRecursion (IsSample metric_type) made.1.samples)
-        (λ k. (k ≡ EncodeError.Memory) ⊎ MetricHasFault k (offers metric.now) (stamps metric.now) (may_fault metric.now) (string_bytes name) metric_type (labels_of constants.now)) }
+        (λ k. (k ≡ EncodeError.Memory)
+        ⊎ MetricHasFault k (offers metric.now) (stamps metric.now) (may_fault metric.now) (string_bytes name)
+        metric_type (labels_of constants.now)) }
 {
     let Ok(sink) = Sink::samples(alloc) else {
         return Err(EncodeError::Memory);
@@ -236,7 +240,9 @@ impl<'a> MetricFamilyEncoder<'a> {
         requires { IsListable (next_heading self.now metadata.now) }
         ensures { MatchResult result
             (λ family. IsFamilyUnder (offers metric.now) (stamps metric.now) (next_heading self.now metadata.now) family × IsFamily family)
-            (λ k. (k ≡ EncodeError.Memory) ⊎ FaultUnder (offers metric.now) (stamps metric.now) k (may_fault metric.now) (next_heading self.now metadata.now)) }
+            (λ k. (k ≡ EncodeError.Memory)
+            ⊎ FaultUnder (offers metric.now) (stamps metric.now) k (may_fault metric.now)
+            (next_heading self.now metadata.now)) }
     {
         let Ok((name, help, unit)) = self.heads_of(metadata) else {
             return Err(EncodeError::Memory);
@@ -266,7 +272,8 @@ impl<'a> MetricFamilyEncoder<'a> {
     ) -> Result<(), EncodeError>
         requires heading { IsListable (next_heading self.old metadata.now) }
         requires new_name { IsNewName (listed_name (next_heading self.old metadata.now)) self.old.families }
-        ensures encoded { EncodesFamily (offers metric.now) (stamps metric.now) (may_be_empty metric.now) (may_fault metric.now) (next_heading self.old metadata.now) self.old self.new }
+        ensures encoded { EncodesFamily (offers metric.now) (stamps metric.now) (may_be_empty metric.now)
+            (may_fault metric.now) (next_heading self.old metadata.now) self.old self.new }
         ensures answered { result ≡ result_of self.new.refused }
     {
         if let Some(error) = self.refused {

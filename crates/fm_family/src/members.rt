@@ -90,7 +90,8 @@ impl<LS: Clone + Eq + Hash + Drop, M: Drop, S: BuildHasher> FamilyCore<LS, M, S>
     ) -> Result<usize, MetricError>
         requires ready { get LS.eq self.old.members labels.now ≡ None → MF.is_ready factory.now }
         requires clones { ClonesEqual LS.is_clone LS.eq }
-        ensures gets { GetsOrAdds LS.eq (MF.promises factory.now) labels.now self.old.members.entries self.new.members.entries (HoldsMetric self.new.members.entries) result }
+        ensures gets { GetsOrAdds LS.eq (MF.promises factory.now) labels.now self.old.members.entries
+            self.new.members.entries (HoldsMetric self.new.members.entries) result }
         ensures within { IfOk result (λ i. i < length self.new.members.entries) }
         ensures different { IsUnique LS.eq self.new.members }
     {
@@ -115,7 +116,9 @@ impl<LS: Clone + Eq + Hash + Drop, M: Drop, S: BuildHasher> FamilyCore<LS, M, S>
     ) -> Result<&M, MetricError>
         requires ready { get LS.eq self.old.members labels.now ≡ None → MF.is_ready factory.now }
         requires clones { ClonesEqual LS.is_clone LS.eq }
-        ensures* gets { sem 𝓛 (ends_with_member LS.row M.row S.row S.Hasher.row LS.Hash S.BuildHasher S.Hasher.Hasher self.entry labels.now (MF.promises factory.now) result) }
+        ensures* gets { sem 𝓛
+            (ends_with_member LS.row M.row S.row S.Hasher.row LS.Hash S.BuildHasher S.Hasher.Hasher self.entry
+            labels.now (MF.promises factory.now) result) }
         ensures there { IsSome (get LS.eq self.old.members labels.now) → IsOk result }
     {
         match self.place_or_new(labels, factory) {

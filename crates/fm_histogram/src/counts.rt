@@ -103,7 +103,9 @@ impl Counts {
         ensures same { OnOk result (upper_bounds self.old.buckets ≡ upper_bounds other.now.buckets) }
         ensures few { OnOk result (self.new.count < 2 ^ 64) }
         ensures unequal { (result ≡ Err UnequalBounds) ↔ (upper_bounds self.old.buckets ≢ upper_bounds other.now.buckets) }
-        ensures full { (result ≡ Err CountFull) ↔ ((upper_bounds self.old.buckets ≡ upper_bounds other.now.buckets) × (2 ^ 64 ≤ self.old.count + other.now.count)) }
+        ensures full { (result ≡ Err CountFull)
+            ↔ ((upper_bounds self.old.buckets ≡ upper_bounds other.now.buckets)
+            × (2 ^ 64 ≤ self.old.count + other.now.count)) }
         ensures only { IfErr result (λ e. (e ≡ UnequalBounds) ⊎ (e ≡ CountFull)) }
         ensures kept { OnErr result (self.new ≡ self.old) }
     {
@@ -148,7 +150,8 @@ fn same_bounds(left: &[Bucket], right: &[Bucket]) -> bool
 // Adds the other's count in each bucket.
 fn add_counts(buckets: &mut [Bucket], other: &[Bucket])
     requires len { length buckets.old ≡ length other.now }
-    requires fits { (i : ℕ) (d e : OneBucket) → i < length other.now → (slice_index_or buckets.old i d).count + (slice_index_or other.now i e).count < 2 ^ 64 }
+    requires fits { (i : ℕ) (d e : OneBucket) → i < length other.now
+        → (slice_index_or buckets.old i d).count + (slice_index_or other.now i e).count < 2 ^ 64 }
     ensures { buckets.new ≡ merged_buckets buckets.old other.now }
 {
     for i in 0..other.len() {

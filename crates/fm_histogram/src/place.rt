@@ -13,7 +13,8 @@ struct BoundsProbe<'a, L: Ledger> {
     value: Fixed,
     steps: Steps<L>,
     ghost within: { place_among value bounds.now ≤ length bounds.now },
-    ghost rising: { (i : ℕ) (d : ℤ) → i < length bounds.now → int_lt (slice_index_or bounds.now i d) value ≡ nat_lt i (place_among value bounds.now) },
+    ghost rising: { (i : ℕ) (d : ℤ) → i < length bounds.now
+        → int_lt (slice_index_or bounds.now i d) value ≡ nat_lt i (place_among value bounds.now) },
 }
 
 impl<'a, L: Ledger> Probe for BoundsProbe<'a, L> {
@@ -36,7 +37,8 @@ pub(crate) fn place_of<L: Ledger>(bounds: &[Fixed], value: Fixed, blank: Blank) 
     requires parts { blank.parts ≡ L.parts }
     requires some { 0 < blank.parts }
     requires within { place_among value bounds.now ≤ length bounds.now }
-    requires rising { (i : ℕ) (d : ℤ) → i < length bounds.now → int_lt (slice_index_or bounds.now i d) value ≡ nat_lt i (place_among value bounds.now) }
+    requires rising { (i : ℕ) (d : ℤ) → i < length bounds.now
+        → int_lt (slice_index_or bounds.now i d) value ≡ nat_lt i (place_among value bounds.now) }
     ensures { result ≡ place_among value bounds.now }
 {
     let mut probe = BoundsProbe {

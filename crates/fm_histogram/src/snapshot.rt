@@ -54,7 +54,11 @@ impl<S: Sign> SnapshotOf<S> {
     ) -> Result<SnapshotOf<S>, MetricError>
         requires can { I.can_next bounds }
         requires ends { IsFinite (I.remaining bounds) }
-        ensures bounds { IfOk result (λ s. (given : List ℤ) × Drains I.next_gives bounds given × ((taken : List ℤ) × IsBoundsOf (takes S.NEGATIVE) given taken × IsHistogram (takes S.NEGATIVE) taken [] s)) }
+        ensures bounds { IfOk result (λ s. (given : List ℤ)
+            × Drains I.next_gives bounds given
+            × ((taken : List ℤ)
+            × IsBoundsOf (takes S.NEGATIVE) given taken
+            × IsHistogram (takes S.NEGATIVE) taken [] s)) }
         ensures only_memory { IfErr result (λ e. e ≡ Memory) }
     {
         let rising = rising_bounds(alloc, bounds, S::NEGATIVE)?;
@@ -105,7 +109,9 @@ impl<S: Sign> SnapshotOf<S> {
     /// Counts a value in the first bucket whose bound is not below it. In a histogram a negative value changes nothing, which is no
     /// error. For a value that is taken it fails with `CountFull` if the count is the greatest `u64`, and then changes nothing.
     pub fn observe(&mut self, value: Fixed) -> Result<(), MetricError>
-        ensures counted { OnOk result ((bounds xs : List ℤ) → IsHistogram (takes S.NEGATIVE) bounds xs self.old → IsHistogram (takes S.NEGATIVE) bounds (xs ++ value ∷ []) self.new) }
+        ensures counted { OnOk result
+            ((bounds xs : List ℤ) → IsHistogram (takes S.NEGATIVE) bounds xs self.old
+            → IsHistogram (takes S.NEGATIVE) bounds (xs ++ value ∷ []) self.new) }
         ensures full { (result ≡ Err CountFull) ↔ ((self.old.count + 1 ≡ 2 ^ 64) × (takes S.NEGATIVE value ≡ true)) }
         ensures only_full { IfErr result (λ e. e ≡ CountFull) }
         ensures count { OnOk result (self.new.count ≡ self.old.count + (if takes S.NEGATIVE value then 1 else 0)) }
@@ -121,9 +127,14 @@ impl<S: Sign> SnapshotOf<S> {
     /// counts exceeds the greatest `u64`; then it changes nothing. It takes no memory.
     pub fn merge(&mut self, other: &SnapshotOf<S>) -> Result<(), MetricError>
         ensures merged { OnOk result (self.new ≡ merged self.old other.now) }
-        ensures histogram { OnOk result ((bounds xs ys : List ℤ) → IsHistogram (takes S.NEGATIVE) bounds xs self.old → IsHistogram (takes S.NEGATIVE) bounds ys other.now → IsHistogram (takes S.NEGATIVE) bounds (xs ++ ys) self.new) }
+        ensures histogram { OnOk result
+            ((bounds xs ys : List ℤ) → IsHistogram (takes S.NEGATIVE) bounds xs self.old
+            → IsHistogram (takes S.NEGATIVE) bounds ys other.now
+            → IsHistogram (takes S.NEGATIVE) bounds (xs ++ ys) self.new) }
         ensures unequal { (result ≡ Err UnequalBounds) ↔ (upper_bounds self.old.buckets ≢ upper_bounds other.now.buckets) }
-        ensures full { (result ≡ Err CountFull) ↔ ((upper_bounds self.old.buckets ≡ upper_bounds other.now.buckets) × (2 ^ 64 ≤ self.old.count + other.now.count)) }
+        ensures full { (result ≡ Err CountFull)
+            ↔ ((upper_bounds self.old.buckets ≡ upper_bounds other.now.buckets)
+            × (2 ^ 64 ≤ self.old.count + other.now.count)) }
         ensures only { IfErr result (λ e. (e ≡ UnequalBounds) ⊎ (e ≡ CountFull)) }
         ensures kept { OnErr result (self.new ≡ self.old) }
     {

@@ -141,7 +141,9 @@ impl<T: StateSetValue + 'static> StateSet<T> {
     /// Each state's text, in order, and whether the state equals the current one. Fails with `Memory` if memory runs
     /// out.
     pub fn states(&self) -> Result<Vec<(&str, bool)>, MetricError>
-        ensures told { IfOk result (λ told. (current : T) × IsVariant T.eq T.all current × (map state_of told.items ≡ states_at T.eq T.all T.text current)) }
+        ensures told { IfOk result (λ told. (current : T)
+            × IsVariant T.eq T.all current
+            × (map state_of told.items ≡ states_at T.eq T.all T.text current)) }
         ensures one { IfOk result (λ told. AreDifferent T.eq T.all → count_by (λ p. p.1) told.items ≡ 1) }
         ensures memory { IfErr result (λ e. e ≡ Memory) }
     {
@@ -238,7 +240,9 @@ impl<T: StateSetValue + 'static> ConstStateSet<T> {
     /// state equals `state` (`UnknownState`). It takes no memory. It keeps the allocator for `states`.
     pub fn new(alloc: Global, state: T) -> Result<ConstStateSet<T>, MetricError>
         ensures made { IfOk result (λ s. kept_state s ≡ state) }
-        ensures refused { MatchResult result (λ _. (length T.all ≤ MAX_STATES) × IsState T.eq T.all state) (λ e. IsRefusedAs T.eq T.all state e × ¬ (e ≡ Memory)) }
+        ensures refused { MatchResult result
+            (λ _. (length T.all ≤ MAX_STATES) × IsState T.eq T.all state)
+            (λ e. IsRefusedAs T.eq T.all state e × ¬ (e ≡ Memory)) }
     {
         if T::variants().len() > MAX_STATES {
             return Err(MetricError::TooManyStates);

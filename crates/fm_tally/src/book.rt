@@ -97,7 +97,8 @@ impl Book {
     // Carries out one event, whatever was accepted before it.
     fn make(&mut self, event: Event) -> Reply
         ensures reply { (start : ℕ) (before : List Accepted) → self.old ≡ start + sum_of before → result ≡ reply start before event }
-        ensures sum { (start : ℕ) (before : List Accepted) → self.old ≡ start + sum_of before → self.new ≡ start + sum_of (accept start before event) }
+        ensures sum { (start : ℕ) (before : List Accepted) → self.old ≡ start + sum_of before
+            → self.new ≡ start + sum_of (accept start before event) }
     {
         match event {
             Event::Add { who, v } => match self.add(who, v) {

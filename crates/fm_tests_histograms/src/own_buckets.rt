@@ -53,7 +53,10 @@ impl EncodePoint for OwnBuckets {
 impl EncodeMetric for OwnBuckets {
     ghost types = { λ b t. t ≡ b.metric_type };
 
-    ghost offers = { λ b ms. ms ≡ record { labels = (NamePiece (string_bytes b.label) ∷ ValuePiece (decimal 3) ∷ []) ∷ []; point = own_point b } ∷ [] };
+    ghost offers = { λ b ms. ms ≡ record {
+      labels = (NamePiece (string_bytes b.label) ∷ ValuePiece (decimal 3) ∷ []) ∷ [];
+      point = own_point b;
+    } ∷ [] };
 
     fn encode(&self, encoder: &mut MetricEncoder) -> Result<(), EncodeError> {
         encoder.encode(&[(&self.label, 3u8)], self)

@@ -38,8 +38,13 @@ fn encode_under<'a>(
     requires new_name { IsNewName (listed_name (heading_in (option_copied namespace) (labels_of constants.now) metadata.now)) encoder.old.families }
     requires accepting { encoder.old.refused ≡ None }
     ensures accepting { OnOk result (encoder.new.refused ≡ None) }
-    ensures ok { OnOk result (AddsFamily (offers metric.now) (stamps metric.now) (may_be_empty metric.now) (heading_in (option_copied namespace.entry) (labels_of constants.now) metadata.now) encoder.old.families encoder.new.families) }
-    ensures err { IfErr result (λ k. (k ≡ EncodeError.Memory) ⊎ FaultUnder (offers metric.now) (stamps metric.now) k (may_fault metric.now) (heading_in (option_copied namespace.entry) (labels_of constants.now) metadata.now)) }
+    ensures ok { OnOk result
+        (AddsFamily (offers metric.now) (stamps metric.now) (may_be_empty metric.now)
+        (heading_in (option_copied namespace.entry) (labels_of constants.now) metadata.now) encoder.old.families
+        encoder.new.families) }
+    ensures err { IfErr result (λ k. (k ≡ EncodeError.Memory)
+        ⊎ FaultUnder (offers metric.now) (stamps metric.now) k (may_fault metric.now)
+        (heading_in (option_copied namespace.entry) (labels_of constants.now) metadata.now)) }
 {
     encoder.enter(namespace, constants);
     encoder.encode(metadata, metric)
@@ -54,8 +59,11 @@ fn encode_listed<'a>(
     requires new_name { IsNewName (listed_name (seen_listed listed.now)) encoder.old.families }
     requires accepting { encoder.old.refused ≡ None }
     ensures accepting { OnOk result (encoder.new.refused ≡ None) }
-    ensures ok { OnOk result (AdmitsNext (λ m. offers m) (λ m. stamps m) (λ m. may_be_empty m) (seen_listed listed.now) encoder.old.families encoder.new.families) }
-    ensures err { IfErr result (λ k. (k ≡ EncodeError.Memory) ⊎ FaultOf k (λ m. offers m) (λ m. stamps m) (λ m. may_fault m) (seen_listed listed.now)) }
+    ensures ok { OnOk result
+        (AdmitsNext (λ m. offers m) (λ m. stamps m) (λ m. may_be_empty m) (seen_listed listed.now) encoder.old.families
+        encoder.new.families) }
+    ensures err { IfErr result (λ k. (k ≡ EncodeError.Memory)
+        ⊎ FaultOf k (λ m. offers m) (λ m. stamps m) (λ m. may_fault m) (seen_listed listed.now)) }
 {
     encode_under(
         encoder,
@@ -76,7 +84,8 @@ pub fn collect(alloc: Global, registry: &Registry) -> Result<Exposition, EncodeE
     // Every book that the registry reads admits the exposition.
     ensures admitted { IfOk result (λ e. (b : _) → Shows registry.now b → Admits (λ m. offers m) (λ m. stamps m) (λ m. may_be_empty m) (order b) e) }
     // A refusal names a fault that the tree has.
-    ensures fault { IfErr result (λ k. (k ≡ EncodeError.Memory) ⊎ ((b : _) → Shows registry.now b → Fault k (λ m. offers m) (λ m. stamps m) (λ m. may_fault m) (order b))) }
+    ensures fault { IfErr result (λ k. (k ≡ EncodeError.Memory)
+        ⊎ ((b : _) → Shows registry.now b → Fault k (λ m. offers m) (λ m. stamps m) (λ m. may_fault m) (order b))) }
     ensures not_writing { IfErr result (λ k. ¬ (IsWritersFault k)) }
 {
     let Ok(list) = registry.listing(alloc) else {

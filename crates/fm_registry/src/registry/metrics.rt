@@ -69,7 +69,8 @@ fn named_metric(
 fn standing_under<'a, M>(metrics: &'a IndexMap<Tailed, M>, key: &Tailed) -> Option<&'a Metadata>
     ensures free { IfNone result (get tailed.eq metrics.now key.now ≡ None) }
     ensures taken { IfSome result (λ there. (is_some (get tailed.eq metrics.now key.now) ≡ true)
-        × ((x : M) → has_metric (seen_metrics metrics.now.entries) (seen_metric key.now.metadata x) ≡ is_same_metric (seen_metric key.now.metadata x) (seen_metric there.now x))) }
+        × ((x : M) → has_metric (seen_metrics metrics.now.entries) (seen_metric key.now.metadata x)
+        ≡ is_same_metric (seen_metric key.now.metadata x) (seen_metric there.now x))) }
 {
     let place = metrics.get_index_of(key)?;
     let (there, _) = metrics.get_index(place)?;
@@ -133,7 +134,8 @@ impl<M: Drop> Registry<M> {
         metadata: Metadata,
         metric: M,
     ) -> Result<(), RegistryError>
-        ensures answer { IsAnswered (refusal_of result) (standing_refusal self.old.facts.metrics (names_in self.old.children) (seen_metric metadata metric)) }
+        ensures answer { IsAnswered (refusal_of result)
+            (standing_refusal self.old.facts.metrics (names_in self.old.children) (seen_metric metadata metric)) }
         ensures ok { OnOk result (self.new ≡ with_metric self.old (seen_metric metadata metric)) }
         ensures err { OnErr result (self.new ≡ self.old) }
     {
@@ -154,7 +156,9 @@ impl<M: Drop> Registry<M> {
         unit: Option<Unit>,
         metric: M,
     ) -> Result<(), RegistryError>
-        ensures answer { IsAnswered (refusal_of result) (metric_refusal self.old.facts.metrics (names_in self.old.children) (seen_metric (asked name help metric_type unit) metric)) }
+        ensures answer { IsAnswered (refusal_of result)
+            (metric_refusal self.old.facts.metrics (names_in self.old.children)
+            (seen_metric (asked name help metric_type unit) metric)) }
         ensures ok { OnOk result (self.new ≡ with_metric self.old (seen_metric (asked name help metric_type unit) metric)) }
         ensures err { OnErr result (self.new ≡ self.old) }
     {
@@ -173,8 +177,12 @@ impl<M: Drop> Registry<M> {
         unit: Option<Unit>,
         metric: M,
     ) -> Result<(), RegistryError>
-        ensures answer { (b : _) → Reads self.old b → IsAnswered (refusal_of result) (answer b (Register [] (seen_metric (asked name help metric_type unit) metric))) }
-        ensures ok { OnOk result ((b : _) → Reads self.old b → Reads self.new (after b (Register [] (seen_metric (asked name help metric_type unit) metric)))) }
+        ensures answer { (b : _) → Reads self.old b
+            → IsAnswered (refusal_of result)
+            (answer b (Register [] (seen_metric (asked name help metric_type unit) metric))) }
+        ensures ok { OnOk result
+            ((b : _) → Reads self.old b
+            → Reads self.new (after b (Register [] (seen_metric (asked name help metric_type unit) metric)))) }
         ensures err { OnErr result (self.new ≡ self.old) }
         ensures grows { Grows self.old self.new }
         ensures sound { HasBook self.old → HasBook self.new }

@@ -224,8 +224,11 @@ impl<M: Drop> Registry<M> {
         name: String,
         labels: Vec<(String, String)>,
     ) -> Result<usize, RegistryError>
-        ensures answer { IsAnswered (refusal_of result) (subsystem_refusal self.old.facts.depth self.old.facts.metrics (names_in self.old.children) (string_bytes name) (labels_of labels.items)) }
-        ensures there { has_text (names_in self.old.children) (string_bytes name) ≡ true → refusal_of result ≡ asking_refusal self.old.facts.depth (string_bytes name) (labels_of labels.items) }
+        ensures answer { IsAnswered (refusal_of result)
+            (subsystem_refusal self.old.facts.depth self.old.facts.metrics (names_in self.old.children)
+            (string_bytes name) (labels_of labels.items)) }
+        ensures there { has_text (names_in self.old.children) (string_bytes name) ≡ true
+            → refusal_of result ≡ asking_refusal self.old.facts.depth (string_bytes name) (labels_of labels.items) }
         ensures place { IfOk result (λ place. place_in self.new.children (string_bytes name) ≡ Some place) }
         ensures ok { OnOk result (self.new ≡ with_subsystem self.old (string_bytes name) (labels_of labels.items)) }
         ensures err { OnErr result (self.new ≡ self.old) }
@@ -248,10 +251,15 @@ impl<M: Drop> Registry<M> {
         labels: Vec<(String, String)>,
     ) -> Result<&mut Subsystem<M>, RegistryError>
         ensures* writes_back { sem 𝓛 (lends_subsystem M.row self.entry (string_bytes name) (labels_of labels.items) result) }
-        ensures answer { IsAnswered (refusal_of result) (subsystem_refusal self.old.facts.depth self.old.facts.metrics (names_in self.old.children) (string_bytes name) (labels_of labels.items)) }
-        ensures there { has_text (names_in self.old.children) (string_bytes name) ≡ true → refusal_of result ≡ asking_refusal self.old.facts.depth (string_bytes name) (labels_of labels.items) }
+        ensures answer { IsAnswered (refusal_of result)
+            (subsystem_refusal self.old.facts.depth self.old.facts.metrics (names_in self.old.children)
+            (string_bytes name) (labels_of labels.items)) }
+        ensures there { has_text (names_in self.old.children) (string_bytes name) ≡ true
+            → refusal_of result ≡ asking_refusal self.old.facts.depth (string_bytes name) (labels_of labels.items) }
         ensures name { IfOk result (λ s. string_bytes s.now.name ≡ string_bytes name) }
-        ensures reads { IfOk result (λ s. (b : _) → Reads self.old b → LoanReads (with_subsystem self.old (string_bytes name) (labels_of labels.items)) (string_bytes name) s.now.registry (after b (AskSubsystem [] (string_bytes name) (labels_of labels.items)))) }
+        ensures reads { IfOk result (λ s. (b : _) → Reads self.old b
+            → LoanReads (with_subsystem self.old (string_bytes name) (labels_of labels.items)) (string_bytes name)
+            s.now.registry (after b (AskSubsystem [] (string_bytes name) (labels_of labels.items)))) }
         ensures sound { IfOk result (λ s. HasBook self.old → HasBook s.now.registry) }
     {
         let place = self.add_subsystem(alloc, name, labels)?;
@@ -273,11 +281,16 @@ impl<M: Drop> Registry<M> {
         name: String,
     ) -> Result<&mut Subsystem<M>, RegistryError>
         ensures* writes_back { sem 𝓛 (lends_subsystem M.row self.entry (string_bytes name) [] result) }
-        ensures answer { IsAnswered (refusal_of result) (subsystem_refusal self.old.facts.depth self.old.facts.metrics (names_in self.old.children) (string_bytes name) []) }
+        ensures answer { IsAnswered (refusal_of result)
+            (subsystem_refusal self.old.facts.depth self.old.facts.metrics (names_in self.old.children)
+            (string_bytes name) []) }
         // Returning an existing one allocates nothing.
-        ensures there { has_text (names_in self.old.children) (string_bytes name) ≡ true → refusal_of result ≡ asking_refusal self.old.facts.depth (string_bytes name) [] }
+        ensures there { has_text (names_in self.old.children) (string_bytes name) ≡ true
+            → refusal_of result ≡ asking_refusal self.old.facts.depth (string_bytes name) [] }
         ensures name { IfOk result (λ s. string_bytes s.now.name ≡ string_bytes name) }
-        ensures reads { IfOk result (λ s. (b : _) → Reads self.old b → LoanReads (with_subsystem self.old (string_bytes name) []) (string_bytes name) s.now.registry (after b (AskSubsystem [] (string_bytes name) []))) }
+        ensures reads { IfOk result (λ s. (b : _) → Reads self.old b
+            → LoanReads (with_subsystem self.old (string_bytes name) []) (string_bytes name) s.now.registry
+            (after b (AskSubsystem [] (string_bytes name) []))) }
         ensures sound { IfOk result (λ s. HasBook self.old → HasBook s.now.registry) }
     {
         self.labelled_subsystem(alloc, name, Vec::new(alloc))
