@@ -7,7 +7,7 @@ use Rattle.fm_bucket.specs.declared.bound.Bucket.{Bucket}
 use Rattle.fm_bucket.specs.declared.bound.Bound.TheVariants.{Finite, Inf}
 use Rattle.fm_histogram.specs.Histogram.{is_above, is_between, buckets_above, rises, place, place_among, one_more}
 
--- a bound above one that does not lie below x does not lie below x
+-- a bound above one that is not below x is not below x
 stays_above : (a b x : ℤ) → int_lt a x ≡ false → int_lt a b ≡ true → int_lt b x ≡ false
 stays_above a b x h k = grind (arith, ints)
 
@@ -44,7 +44,7 @@ unchanged low (b ∷ bs) xs v out up =
 abbrev pub after : ℤ → Bucket → List Bucket → List Bucket
 after v d bs = set bs (place v bs) (one_more (get_or bs (place v bs) d))
 
--- a step of the next lemma, by whether the bound lies below the value
+-- a step of the next lemma, by whether the bound is below the value
 observed_by : (low : Option ℤ) (b : ℤ) (bounds xs : List ℤ) (v : ℤ) (d : Bucket) → is_above low v ≡ true → rises (Some b) bounds ≡ true
     → (int_lt b v ≡ true → buckets_above (Some b) bounds (xs ++ v ∷ []) ≡ after v d (buckets_above (Some b) bounds xs))
     → (below : Bool) → int_lt b v ≡ below

@@ -1,16 +1,16 @@
--- The histogram of a list of values: how many of them lie in each interval between bounds, how many there are, and their sum.
+-- The histogram of a list of values: how many of them are in each interval between bounds, how many there are, and their sum.
 use Rattle.std.specs.Prelude.{ℕ, ◌+◌, Bool, true, not, ◌&&◌, ◌||◌, ◌≡◌, ℤ, pos, neg_ℤ, ◌+ℤ◌, ◌≤ℤ◌, ◌<◌, ◌*◌, ◌^◌, List, [], ◌∷◌, Option, Some, None, length, count_by, filter, map, All, Contains, ◌↔◌, int_lt, suc, if◌then◌else◌}
 use Rattle.fm_bucket.specs.BoundTests.{lies_below}
 use Rattle.fm_bucket.specs.declared.bound.Bound.{Bound}
 use Rattle.fm_bucket.specs.declared.bound.Bound.TheVariants.{Finite, Inf}
 use Rattle.fm_bucket.specs.declared.bound.Bucket.{Bucket}
 
--- x lies above the bound before. The first interval has none
+-- x is above the bound before. The first interval has none
 abbrev pub is_above : Option ℤ → ℤ → Bool
 is_above None x = true
 is_above (Some low) x = int_lt low x
 
--- x lies above the bound before, and at most at this bound
+-- x is above the bound before, and at most this bound
 abbrev pub is_between : Option ℤ → ℤ → ℤ → Bool
 is_between low bound x = is_above low x && not (int_lt bound x)
 
@@ -24,7 +24,7 @@ abbrev pub total : List ℤ → ℤ
 total [] = pos 0
 total (x ∷ xs) = x +ℤ total xs
 
--- each bound lies above the one before
+-- each bound is above the one before
 abbrev pub rises : Option ℤ → List ℤ → Bool
 rises low [] = true
 rises low (b ∷ bs) = is_above low b && rises (Some b) bs

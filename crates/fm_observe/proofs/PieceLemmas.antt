@@ -1,4 +1,4 @@
--- Values that lie in pieces, and the histograms of the pieces.
+-- Values that are cut into pieces, and the histograms of the pieces.
 use Rattle.std.proofs.Common.{◌≡◌, ℕ, ◌+◌, ◌<◌, ◌≤◌, ℤ, Bool, Option, List, [], ◌∷◌, ◌++◌, None, length, get_or, take, drop, filter, flat_map, ap, sym, ◌∙◌, arith, length-append}
 use Rattle.std.specs.Iterator.{Drains}
 use Rattle.std.proofs.lemmas.Iterator.{YieldsList, items_from_drains}

@@ -48,7 +48,7 @@ module _ {M : Type 0} where
   differ_below : (t : Tree M) (b : Book M) → Reads t b → DifferBelow t
   differ_below t b r p = ap is_once (r.shows.children p) ∙ is_once-children b p r.book
 
-  -- a tree that shows a book, where the names of subsystems differ
+  -- a tree that shows a book, if the names of subsystems differ
   record ShowsOnce (t : Tree M) (b : Book M) : Type 0 where
     shows : Shows t b
     once : DifferBelow t
