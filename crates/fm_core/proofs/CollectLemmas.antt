@@ -62,7 +62,7 @@ module _ {M : Type 0} (Offers : M → List Member → Type 0) (Stamps : M → Op
   split_at (y ∷ xs) zero x within is = (xs, ap (λ z. z ∷ xs) (sym is))
   split_at (y ∷ xs) (suc i) x within is = let split = split_at xs i x (omega arith) is in (split.0, ap (λ zs. y ∷ zs) split.1)
 
-  -- where all listed names differ, the next one is that of no family so far
+  -- if all listed names differ, the next one is that of no family so far
   pub next_new : (xs : List (ListedMetric M)) (i : ℕ) (x : ListedMetric M) (e : Exposition) → i < length xs → x ≡ get_or xs i x → AllDifferent (map listed_name (seen_list xs)) → Admits Offers Stamps Empty (seen_list (take i xs)) e
       → IsNewName (listed_name (seen_listed x)) e
   next_new xs i x e within is differ admits =
@@ -83,7 +83,7 @@ module _ {M : Type 0} where
   Fault-at k Offers Stamps MayFault (y ∷ xs) zero x within is fault = inl (subst (λ (z : ListedMetric M). FaultOf k Offers Stamps MayFault (seen_listed z)) is fault)
   Fault-at k Offers Stamps MayFault (y ∷ xs) (suc i) x within is fault = inr (Fault-at k Offers Stamps MayFault xs i x (omega arith) is fault)
 
-  -- each metric of the list is listable where all are
+  -- each metric of the list is listable if all are
   pub IsListable-at : (xs : List (ListedMetric M)) (i : ℕ) (x : ListedMetric M) → i < length xs → x ≡ get_or xs i x → AllByRecursion IsListable (seen_list xs) → IsListable (seen_listed x)
   IsListable-at [] i x within is all = absurd (omega arith)
   IsListable-at (y ∷ xs) zero x within is all = subst (λ (z : ListedMetric M). IsListable (seen_listed z)) (sym is) all.0

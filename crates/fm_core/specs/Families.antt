@@ -40,8 +40,8 @@ module _ (Offers : List Member → Type 0) (Stamps : Option ℕ → Type 0) wher
   abbrev pub FaultUnder : EncodeError → Type 0 → Heading → Type 0
   FaultUnder k MayFault = FaultOf k (λ _. Offers) (λ _. Stamps) (λ _. MayFault)
 
--- An encoder that had refused is as it was. Else it adds the family of the metric, unless that is empty, or refuses for want of
--- memory or a fault that stands in the metric.
+-- An encoder that had refused does not change. Otherwise it adds the family of the metric, unless the metric is empty, or refuses
+-- for want of memory or for a fault in the metric.
 pub record EncodesFamily (Offers : List Member → Type 0) (Stamps : Option ℕ → Type 0) (MayBeEmpty MayFault : Type 0) (heading : Heading) (old new : GatheredFamilies) : Type 0 where
   pub namespace_kept : new.namespace ≡ old.namespace
   pub labels_kept : new.labels ≡ old.labels

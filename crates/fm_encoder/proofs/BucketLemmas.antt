@@ -52,7 +52,7 @@ pub all_clean-push : (slots : List (List HandedExemplar)) (exemplars : List Hand
 all_clean-push [] exemplars h clean = (clean, tt)
 all_clean-push (x ∷ slots) exemplars h clean = (h.0, all_clean-push slots exemplars h.1 clean)
 
--- the samples of the first buckets are there, which have so many values
+-- the samples of the first buckets are there, which have this number of values
 pub record PushedFirst {S : Type 0} (f : S → List HandedExemplar) (buckets : List Bucket) (slots : List S) (i values : ℕ) (old new : GatheredPoints) : Type 0 where
   pub place : SamePlace old new
   pub accepting : new.refused ≡ None

@@ -35,7 +35,7 @@ exemplar_whole handed labels made clean are short value time is =
     let few : label_code_points (all_written handed.labels) ≤ 128 = subst (λ (ls : List Label). label_code_points ls ≤ 128) are short in
     ((clean, few), same, subst IsExemplar (sym same) (record { labels = AreLabels-written Unknown handed.labels clean; short = few; value = value; time = time }))
 
--- an encoder that refused what was emitted, where nothing was refused before
+-- an encoder that refused what was emitted, if nothing was refused before
 pub HandsExemplars-refused : (handed : HandedExemplar) (F : Type 0) (k : EncodeError) (old new : GatheredExemplars) → old.refused ≡ None → new.refused ≡ Some k → OwnRefusal F k ⊎ ExemplarPartsFault k handed → HandsExemplars (handed ∷ []) F old new (Err k)
 HandsExemplars-refused handed F k old new accepting refused fault = record {
   kept = λ j e. absurd cc;

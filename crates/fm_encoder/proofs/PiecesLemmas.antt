@@ -69,7 +69,7 @@ HandsPieces-stopped {xs} ys old new e a = record {
   ];
 }
 
--- a part that may fault only where the whole may
+-- a part that may return an error only if the whole may
 pub HandsPieces-weaker : {xs : HandedLabel} {F G : Type 0} (old new : GatheredPieces) (r : Result (Unit {0}) EncodeError) → (F → G) → HandsPieces xs F old new r → HandsPieces xs G old new r
 HandsPieces-weaker old new r weaker a = record {
   type_kept = a.type_kept;

@@ -179,7 +179,7 @@ module _ (setting : Setting) (common : List Label) where
   state_sample state =
       plain_sample Plain (record { name = setting.name; value = state.0 } ∷ []) (Whole (pos (if state.1 then 1 else 0)))
 
-  -- a sample that shows so many values up to the bound
+  -- a sample that shows this number of values up to the bound
   abbrev pub bucket_line : Bound → ℕ → List HandedExemplar → Sample
   bucket_line bound values exemplars =
       record (plain_sample BucketKind (bound_label bound ∷ []) (Whole (pos values))) { exemplar = written_exemplar exemplars }

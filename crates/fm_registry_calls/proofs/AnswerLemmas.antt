@@ -28,7 +28,7 @@ pub none_from : {T : Type 0} (o : Option T) → is_some o ≡ false → o ≡ No
 none_from None h = refl
 none_from (Some x) h = absurd (true≢false h)
 
--- where two refusals come to none, both are none
+-- if two refusals together are none, both are none
 pub or_then-none : (o later : Option Refusal) → or_then o later ≡ None → (o ≡ None) × (later ≡ None)
 or_then-none None later h = (refl, h)
 or_then-none (Some r) later h = absurd (some_not_none h)

@@ -54,7 +54,7 @@ module _ {M : Type 0} where
   pub reads_root : (t : Tree M) (b : Book M) → Reads t b → ReadsRoot t b
   reads_root t b r = record { metrics = r.shows.metrics []; children = r.shows.children []; namespace = r.shows.namespace []; labels = r.shows.labels []; depth = r.shows.depth [] ∙ omega arith; book = r.book }
 
-  -- and a tree reads a book where its root does and each subsystem reads the calls below it
+  -- and a tree reads a book if its root does and each subsystem reads the calls below it
   pub reads_above : (t : Tree M) (b : Book M) → ReadsRoot t b → ((n : Text) → ReadsFrom (find_child t.children n) (book_below b n)) → Reads t b
   reads_above t b root below = record {
     shows = record { metrics = metrics; children = children; namespace = namespace; labels = labels; depth = depth };

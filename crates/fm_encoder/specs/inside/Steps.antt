@@ -52,14 +52,14 @@ pub record BeginsPoint (type : MetricType) (old new : GatheredPoints) : Type 0 w
   pub no_deferred : new.refused ≡ None → old.deferred ≡ None
   pub refused : (k : EncodeError) → old.refused ≡ None → new.refused ≡ Some k → ((k ≡ KindMismatch) × (¬ (type ≡ old.setting.metric_type))) ⊎ (old.deferred ≡ Some k)
 
--- one sample more, or want of memory
+-- one more sample, or want of memory
 pub record PushesSample (sample : Sample) (old new : GatheredPoints) : Type 0 where
   pub place : SamePlace old new
   pub formed : new.refused ≡ None → IsSample old.setting.metric_type sample
   pub output : new.refused ≡ None → new.output ≡ appended old.setting.name old.output (sample ∷ [])
   pub refused : (k : EncodeError) → new.refused ≡ Some k → k ≡ Memory
 
--- several samples more, or want of memory
+-- several more samples, or want of memory
 pub record PushesSamples (pushed : List Sample) (old new : GatheredPoints) : Type 0 where
   pub place : SamePlace old new
   pub formed : new.refused ≡ None → AllByRecursion (IsSample old.setting.metric_type) pushed
