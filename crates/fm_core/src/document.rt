@@ -105,7 +105,8 @@ fn add_listed(
         (λ _. HasLines encoder.new
         × AddsNextRows (λ m. offers m) (λ m. stamps m) (λ m. may_be_empty m) (seen_listed listed.now)
         (text_in encoder.old.output) (text_in encoder.new.output))
-        (λ k. (k ≡ EncodeError.Memory) ⊎ FaultOf k (λ m. offers m) (λ m. stamps m) (λ m. may_fault m) (seen_listed listed.now)) }
+        (λ k. (k ≡ EncodeError.Memory)
+        ⊎ FaultOf k (λ m. offers m) (λ m. stamps m) (λ m. may_fault m) (seen_listed listed.now)) }
 {
     add_family(
         alloc,

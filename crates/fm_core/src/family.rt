@@ -53,7 +53,8 @@ pub(crate) fn join_name(
     name: &str,
     unit: Option<&str>,
 ) -> Result<(), AllocError>
-    ensures { OnOk result (string_bytes text.new ≡ printed_name (option_copied namespace.entry) name.now (option_copied unit.entry)) }
+    ensures { OnOk result
+        (string_bytes text.new ≡ printed_name (option_copied namespace.entry) name.now (option_copied unit.entry)) }
 {
     text.clear();
     if let Some(namespace) = namespace {
@@ -75,7 +76,8 @@ fn joined_name(
     name: &str,
     unit: Option<&str>,
 ) -> Result<String, AllocError>
-    ensures { IfOk result (λ text. string_bytes text ≡ printed_name (option_copied namespace.entry) name.now (option_copied unit.entry)) }
+    ensures { IfOk result (λ text. string_bytes text
+        ≡ printed_name (option_copied namespace.entry) name.now (option_copied unit.entry)) }
 {
     let room = room_of(namespace)
         .saturating_add(name.len())
@@ -239,7 +241,8 @@ impl<'a> MetricFamilyEncoder<'a> {
     ) -> Result<FamilySamples, EncodeError>
         requires { IsListable (next_heading self.now metadata.now) }
         ensures { MatchResult result
-            (λ family. IsFamilyUnder (offers metric.now) (stamps metric.now) (next_heading self.now metadata.now) family × IsFamily family)
+            (λ family. IsFamilyUnder (offers metric.now) (stamps metric.now) (next_heading self.now metadata.now) family
+            × IsFamily family)
             (λ k. (k ≡ EncodeError.Memory)
             ⊎ FaultUnder (offers metric.now) (stamps metric.now) k (may_fault metric.now)
             (next_heading self.now metadata.now)) }

@@ -136,7 +136,9 @@ impl<LS: EncodeLabelSet + Eq + Hash, M: EncodePoint, S: BuildHasher> FamilyCore<
             (Any (MayFault LS.may_fault M.may_fault) self.now.members.entries) encoder.old encoder.new result }
         ensures all { encoder.old.refused ≡ None → encoder.new.refused ≡ None → result ≡ Ok tt
             → (ms : List Member) × OffersOf LS.labels M.points self.now.members.entries ms × MembersClean encoder.old.context ms
-            × (encoder.new.output ≡ appended encoder.old.context.setting.name encoder.old.output (members_samples encoder.old.context ms)) }
+            × (encoder.new.output
+            ≡ appended encoder.old.context.setting.name encoder.old.output
+            (members_samples encoder.old.context ms)) }
         ensures different { IsUnique LS.eq self.now.members }
     {
         for member in &self.members {

@@ -80,7 +80,8 @@ impl Counts {
 
     // Counts one value more.
     pub(crate) fn add(&mut self, value: Fixed) -> Result<(), MetricError>
-        ensures counted { OnOk result ((bounds xs : List ℤ) → IsCounts bounds xs self.old → IsCounts bounds (xs ++ value ∷ []) self.new) }
+        ensures counted { OnOk result
+            ((bounds xs : List ℤ) → IsCounts bounds xs self.old → IsCounts bounds (xs ++ value ∷ []) self.new) }
         ensures full { (result ≡ Err CountFull) ↔ (self.old.count + 1 ≡ 2 ^ 64) }
         ensures only_full { IfErr result (λ e. e ≡ CountFull) }
         ensures count { OnOk result (self.new.count ≡ self.old.count + 1) }

@@ -197,7 +197,9 @@ impl<S: Sign, H: Wait> TypedMetric for HistogramOf<S, H> {
 
 /// What was counted so far: the histogram of some values that are all taken, with bounds that are taken.
 impl<S: Sign, H: Wait> EncodePoint for HistogramOf<S, H> {
-    ghost points = { λ h ps. (s : Counted) × CountsTaken (takes S.NEGATIVE) s × (ps ≡ S.point s (option_map millis (created_of h)) ∷ []) };
+    ghost points = { λ h ps. (s : Counted)
+        × CountsTaken (takes S.NEGATIVE) s
+        × (ps ≡ S.point s (option_map millis (created_of h)) ∷ []) };
 
     fn encode(&self, points: &mut PointEncoder) -> Result<(), EncodeError> {
         let guard = self.locked.snapshot.lock(&self.wait);
@@ -210,7 +212,9 @@ impl<S: Sign, H: Wait> EncodePoint for HistogramOf<S, H> {
 impl<S: Sign + Send + Sync, H: Wait + Send + Sync + Drop> EncodeMetric for HistogramOf<S, H> {
     ghost types = { λ _ t. t ≡ S.TYPE };
 
-    ghost offers = { λ h ms. (s : Counted) × CountsTaken (takes S.NEGATIVE) s × (ms ≡ alone (S.point s (option_map millis (created_of h))) ∷ []) };
+    ghost offers = { λ h ms. (s : Counted)
+        × CountsTaken (takes S.NEGATIVE) s
+        × (ms ≡ alone (S.point s (option_map millis (created_of h))) ∷ []) };
 
     fn encode(&self, encoder: &mut MetricEncoder) -> Result<(), EncodeError> {
         encoder.encode(&(), self)

@@ -16,7 +16,9 @@ pub(crate) trait Snapshot: Sized {
 
     // A snapshot without values.
     fn of_no_values(alloc: Global, bounds: &[Fixed]) -> Result<Self, TallyError>
-        ensures bounds { IfOk result (λ s. (rising : List ℤ) × IsBoundsOf taken bounds.now rising × IsHistogram taken rising [] (counts s)) }
+        ensures bounds { IfOk result (λ s. (rising : List ℤ)
+            × IsBoundsOf taken bounds.now rising
+            × IsHistogram taken rising [] (counts s)) }
         ensures only_memory { IfErr result (λ e. e ≡ TallyError.Memory) };
 
     fn duplicate(&self) -> Result<Self, TallyError>

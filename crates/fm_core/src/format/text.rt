@@ -35,7 +35,9 @@ fn encode_under<'a>(
     metric: &dyn EncodeMetric,
 ) -> Result<(), EncodeError>
     requires heading { IsListable (heading_in (option_copied namespace) (labels_of constants.now) metadata.now) }
-    requires new_name { IsNewName (listed_name (heading_in (option_copied namespace) (labels_of constants.now) metadata.now)) encoder.old.families }
+    requires new_name { IsNewName
+        (listed_name (heading_in (option_copied namespace) (labels_of constants.now) metadata.now))
+        encoder.old.families }
     requires accepting { encoder.old.refused ≡ None }
     ensures accepting { OnOk result (encoder.new.refused ≡ None) }
     ensures ok { OnOk result
@@ -82,7 +84,8 @@ fn encode_listed<'a>(
 pub fn collect(alloc: Global, registry: &Registry) -> Result<Exposition, EncodeError>
     requires { HasBook registry.now }
     // Every book that the registry reads admits the exposition.
-    ensures admitted { IfOk result (λ e. (b : _) → Shows registry.now b → Admits (λ m. offers m) (λ m. stamps m) (λ m. may_be_empty m) (order b) e) }
+    ensures admitted { IfOk result (λ e. (b : _) → Shows registry.now b
+        → Admits (λ m. offers m) (λ m. stamps m) (λ m. may_be_empty m) (order b) e) }
     // A refusal names a fault that the tree has.
     ensures fault { IfErr result (λ k. (k ≡ EncodeError.Memory)
         ⊎ ((b : _) → Shows registry.now b → Fault k (λ m. offers m) (λ m. stamps m) (λ m. may_fault m) (order b))) }

@@ -84,9 +84,11 @@ fn insert_new<M: Drop>(
     metric: M,
     is_below: bool,
 ) -> Result<(), RegistryError>
-    ensures ok { OnOk result (seen_metrics metrics.new.entries ≡ seen_metrics metrics.old.entries ++ seen_metric key.metadata metric ∷ []) }
+    ensures ok { OnOk result
+        (seen_metrics metrics.new.entries ≡ seen_metrics metrics.old.entries ++ seen_metric key.metadata metric ∷ []) }
     ensures err { OnErr result (metrics.new.entries ≡ metrics.old.entries) }
-    ensures answer { IsAnswered (refusal_of result) (refusal_beside (seen_metrics metrics.old.entries) is_below (seen_metric key.metadata metric)) }
+    ensures answer { IsAnswered (refusal_of result)
+        (refusal_beside (seen_metrics metrics.old.entries) is_below (seen_metric key.metadata metric)) }
 {
     if let Some(there) = standing_under(metrics, &key) {
         let is_same = key.metadata().is_same_as(there);
@@ -116,7 +118,8 @@ fn insert_metric<M: Drop>(
 ) -> Result<(), RegistryError>
     ensures ok { OnOk result (metrics_in metrics.new ≡ metrics_in metrics.old ++ seen_metric key.metadata metric ∷ []) }
     ensures err { OnErr result (metrics_in metrics.new ≡ metrics_in metrics.old) }
-    ensures answer { IsAnswered (refusal_of result) (refusal_beside (metrics_in metrics.old) is_below (seen_metric key.metadata metric)) }
+    ensures answer { IsAnswered (refusal_of result)
+        (refusal_beside (metrics_in metrics.old) is_below (seen_metric key.metadata metric)) }
 {
     insert_new(
         metrics.get_or_insert_with(|| IndexMap::new(alloc)),

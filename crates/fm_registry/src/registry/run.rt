@@ -83,7 +83,8 @@ impl<M: Drop> Registry<M> {
         name: String,
         labels: Vec<(String, String)>,
     ) -> Result<(), RegistryError>
-        ensures reply { (b : _) → Reads self.old b → IsReply (refusal_of result) b (AskSubsystem [] (string_bytes name) (labels_of labels.items)) }
+        ensures reply { (b : _) → Reads self.old b
+            → IsReply (refusal_of result) b (AskSubsystem [] (string_bytes name) (labels_of labels.items)) }
         ensures ok { OnOk result
             ((b : _) → Reads self.old b
             → Reads self.new (after b (AskSubsystem [] (string_bytes name) (labels_of labels.items)))) }
@@ -118,7 +119,8 @@ impl<M: Drop> Registry<M> {
         request: Request<M>,
     ) -> Result<(), RegistryError>
         ensures reply { (b : _) → Reads self.old b → IsReply (refusal_of result) b (call_at (path_of path.items) request) }
-        ensures ok { OnOk result ((b : _) → Reads self.old b → Reads self.new (after b (call_at (path_of path.items) request))) }
+        ensures ok { OnOk result
+            ((b : _) → Reads self.old b → Reads self.new (after b (call_at (path_of path.items) request))) }
         ensures err { OnErr result (self.new ≡ self.old) }
     {
         match path.pop() {

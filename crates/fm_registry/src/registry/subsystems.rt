@@ -106,7 +106,8 @@ impl<M: Drop> Registry<M> {
 
     // Whether the name of a subsystem here begins with this name and an underscore, or the other way round.
     fn is_beside_child(&self, name: &str) -> bool
-        ensures { result ≡ list_any (λ child. below_test child name.now || below_test name.now child) (names_in self.now.children) }
+        ensures { result
+            ≡ list_any (λ child. below_test child name.now || below_test name.now child) (names_in self.now.children) }
     {
         match &self.subsystems {
             Some(subsystems) => is_related_to_any(subsystems, name),
@@ -179,7 +180,8 @@ impl<M: Drop> Registry<M> {
     ) -> Result<usize, RegistryError>
         requires depth { self.old.facts.depth < 64 }
         requires absent { place_in self.old.children (string_bytes name) ≡ None }
-        ensures answer { IsAnswered (refusal_of result) (new_name_refusal self.old.facts.metrics (names_in self.old.children) (string_bytes name)) }
+        ensures answer { IsAnswered (refusal_of result)
+            (new_name_refusal self.old.facts.metrics (names_in self.old.children) (string_bytes name)) }
         ensures place { IfOk result (λ place. place_in self.new.children (string_bytes name) ≡ Some place) }
         ensures ok { OnOk result (self.new ≡ with_subsystem self.old (string_bytes name) (labels_of labels.items)) }
         ensures err { OnErr result (self.new ≡ self.old) }
@@ -205,7 +207,8 @@ impl<M: Drop> Registry<M> {
         labels: Vec<(String, String)>,
     ) -> Result<usize, RegistryError>
         requires { self.old.facts.depth < 64 }
-        ensures answer { IsAnswered (refusal_of result) (child_refusal self.old.facts.metrics (names_in self.old.children) (string_bytes name)) }
+        ensures answer { IsAnswered (refusal_of result)
+            (child_refusal self.old.facts.metrics (names_in self.old.children) (string_bytes name)) }
         ensures there { has_text (names_in self.old.children) (string_bytes name) ≡ true → refusal_of result ≡ None }
         ensures place { IfOk result (λ place. place_in self.new.children (string_bytes name) ≡ Some place) }
         ensures ok { OnOk result (self.new ≡ with_subsystem self.old (string_bytes name) (labels_of labels.items)) }
