@@ -133,7 +133,7 @@ pub fn production(alloc: Global) -> Result<RegistryBuilder, Fault> {
         .map_err(Fault::of_registry)
 }
 
-// The calls that make the subsystem of the database that answers queries, and the one around it.
+// The calls that make the subsystem of the database that runs queries, and the one around it.
 fn subsystems(alloc: Global) -> Result<[RegistryCall; 2], AllocError> {
     let database = RegistryCall::Subsystem {
         path: Vec::new(alloc),

@@ -31,7 +31,7 @@ struct Locked<S: Sign> {
 /// How many observed values lie in each bucket, how many there are, and their sum, which its clones share under a lock.
 /// The sign says whether negative values and bounds are taken.
 ///
-/// A call that observes, lends or encodes waits while another thread has the lock. Making one, cloning and encoding take
+/// A call that observes, reads or encodes waits while another thread has the lock. Making one, cloning and encoding take
 /// memory.
 #[derive(Drop)]
 pub struct HistogramOf<S: Sign, H: Wait> {
@@ -42,14 +42,14 @@ pub struct HistogramOf<S: Sign, H: Wait> {
 /// How many observed values lie in each bucket, how many there are, and their sum, which its clones share under a lock.
 /// Negative values are not taken.
 ///
-/// A call that observes, lends or encodes waits while another thread has the lock. Making one, cloning and encoding take
+/// A call that observes, reads or encodes waits while another thread has the lock. Making one, cloning and encoding take
 /// memory.
 pub type Histogram<H> = HistogramOf<NotNegative, H>;
 
 /// How many current values lie in each bucket, how many there are, and their sum, which its clones share under a lock.
 /// Negative values and bounds are taken too.
 ///
-/// A call that observes, lends or encodes waits while another thread has the lock. Making one, cloning and encoding take
+/// A call that observes, reads or encodes waits while another thread has the lock. Making one, cloning and encoding take
 /// memory.
 pub type GaugeHistogram<H> = HistogramOf<Any, H>;
 

@@ -63,7 +63,7 @@ fn every_place_to_stop(rt: HostRuntime) -> Result<(), Fail> {
     Ok(())
 }
 
-// What ten bytes take, and what stands after a beginning.
+// What a writer of ten bytes takes, and what comes after a beginning.
 fn around(
     alloc: Global,
     registry: &Registry,

@@ -200,10 +200,10 @@ impl Registry {
     /// The metric's type is read once, and is kept. Errors, in this order: the name is not in snake case
     /// (`InvalidNameFormat`); the type can't have a unit (`MustHaveAnEmptyUnitString`); the unit's text is not one word
     /// of lowercase letters and digits (`OtherUnitFormatMustBeLowercase`); a metric with this name, type and unit is
-    /// registered here already (`AlreadyExists`); the name, or `name_unit` where there is a unit, is that of another
+    /// registered here already (`AlreadyExists`); the name, or `name_unit` if there is a unit, is that of another
     /// metric here, or begins with a subsystem's name and an underscore (`NameTaken`).
     ///
-    /// It allocates an entry for the metric and the name with its unit; where that fails, it returns `Memory`. The
+    /// It allocates an entry for the metric and the name with its unit; if that fails, it returns `Memory`. The
     /// first three errors allocate nothing. At an error the metric is dropped, and the registry stays as it was.
     pub fn register_metric(
         &mut self,
