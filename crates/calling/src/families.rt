@@ -11,7 +11,7 @@ use fastmetrics::raw::MetricError;
 use std::alloc::Global;
 use std::sync::Wait;
 
-/// Counts a request in the member of its labels, which is made where it isn't there, and returns how many there were before.
+/// Counts a request in the member of its labels, which is made if it is not there, and returns how many there were before.
 pub fn count_request<H: Wait + Clone + Drop>(
     alloc: Global,
     requests: &TextFamily<Counter, H>,
@@ -20,7 +20,7 @@ pub fn count_request<H: Wait + Clone + Drop>(
     with_texts(alloc, requests, &[("method", method)], |count| count.inc())
 }
 
-/// The labels of an answer: its status.
+/// The labels of a response: its status.
 #[derive(Clone, Copy, PartialEq, Eq, Hash)]
 pub struct Answer {
     /// The number of its status.
@@ -35,7 +35,7 @@ impl EncodeLabelSet for Answer {
     }
 }
 
-/// Counts an answer by its labels, which takes no memory where its member is there.
+/// Counts a response by its labels, which takes no memory if its member exists.
 pub fn count_answer<H: Wait + Clone + Drop>(
     answers: &DefaultFamily<Answer, Counter, H>,
     answer: &Answer,
@@ -43,7 +43,7 @@ pub fn count_answer<H: Wait + Clone + Drop>(
     answers.with_or_new(answer, |count| count.inc())
 }
 
-/// Counts answers by a number, which takes no memory where the member is there.
+/// Counts responses by a number, which takes no memory if the member exists.
 pub fn count_status<H: Wait + Clone + Drop>(
     statuses: &PairFamily<u64, Counter, H, 1>,
     status: u64,

@@ -6,7 +6,7 @@ use fastmetrics::raw::Unit;
 use fastmetrics::registry::{Registry, RegistryBuilder, RegistryCall, RegistryError};
 use std::alloc::{AllocError, Global};
 
-// One label in memory of its own.
+// One owned label.
 fn one_label(alloc: Global, name: &str, value: &str) -> Result<Vec<(String, String)>, AllocError> {
     let name = String::from_str(alloc, name)?;
     let value = String::from_str(alloc, value)?;
@@ -23,7 +23,7 @@ pub fn production(alloc: Global) -> Result<RegistryBuilder, RegistryError> {
         .with_const_labels(labels)
 }
 
-/// Registers a metric in seconds in the subsystem of this name, which is made where it isn't there.
+/// Registers a metric in seconds in the subsystem of this name, which is made if it is not there.
 pub fn register_in_seconds(
     alloc: Global,
     registry: &mut Registry,
@@ -40,7 +40,7 @@ pub fn register_in_seconds(
         .register_with_unit(alloc, name, help, Unit::Seconds, metric)
 }
 
-/// Makes the subsystem `mysql` with a label of its own, where it isn't there.
+/// Makes the subsystem `mysql` with a label of its own, if it is not there.
 pub fn make_engine(alloc: Global, registry: &mut Registry) -> Result<(), RegistryError>
     requires { HasBook registry.old }
     ensures { HasBook registry.new }
@@ -54,7 +54,7 @@ pub fn make_engine(alloc: Global, registry: &mut Registry) -> Result<(), Registr
     Ok(())
 }
 
-/// Makes two calls in turn, a subsystem and a metric in it, and returns the first refusal. It needs no proof, also where the path
+/// Makes two calls in turn, a subsystem and a metric in it, and returns the first refusal. It needs no proof, even if the path
 /// is long.
 pub fn run_two(
     alloc: Global,

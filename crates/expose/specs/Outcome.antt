@@ -22,7 +22,7 @@ PrintsDocument IsAdmitted old new (Ok _) = WritesAdmitted IsAdmitted old new
 PrintsDocument IsAdmitted old new (Err _) = Keeps old new ⊎ BeginsAdmitted IsAdmitted old new
 
 -- For a registry, the document of an exposition that it admits and 0, or nothing or a beginning of such a document and 1.
--- Nothing and the fault's status where there is no registry.
+-- Nothing and the fault's status if there is no registry.
 abbrev pub Finishes : {R : Type 0} → (R → Exposition → Type 0) → Option (List ℕ) → Option (List ℕ) → Result R Fault → ℕ → Type 0
 Finishes IsAdmitted old new (Ok registry) status =
     ((status ≡ 0) × WritesAdmitted (IsAdmitted registry) old new)

@@ -1,4 +1,4 @@
--- The labels of a request, as they are handed over.
+-- The labels of a request, as they are emitted.
 use Rattle.std.specs.Prelude.{ℕ, List, [], ◌∷◌, codes, decimal}
 use Rattle.fastmetrics.specs.Labels.{HandedLabel, NamePiece, ValuePiece}
 use Rattle.expose.specs.declared.tree.Method.{Method}

@@ -4,7 +4,7 @@ use fastmetrics::encoder::EncodeMetric;
 use fastmetrics::registry::{RegistryCall, RegistryError};
 use std::alloc::{AllocError, Global};
 
-/// The names of a path, each in memory of its own.
+/// The names of a path, each an owned copy.
 pub fn path_of(alloc: Global, names: &[&str]) -> Result<Vec<String>, AllocError> {
     let mut path = Vec::new(alloc);
     for name in names {

@@ -29,7 +29,12 @@ static PROGRESS: [Progress; 4] = [
 impl StateSetValue for Progress {
     ghost all = { Pending ∷ Running ∷ Completed ∷ Failed ∷ [] };
 
-    ghost text = { elim [ Pending ↦ codes "pending" | Running ↦ codes "running" | Completed ↦ codes "completed" | Failed ↦ codes "failed" ] };
+    ghost text = { elim [
+      | Pending ↦ codes "pending"
+      | Running ↦ codes "running"
+      | Completed ↦ codes "completed"
+      | Failed ↦ codes "failed"
+    ] };
 
     fn variants() -> &'static [Progress] {
         &PROGRESS

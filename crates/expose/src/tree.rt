@@ -43,7 +43,7 @@ impl EncodeLabelValue for Method {
     }
 }
 
-/// How a request was made and answered.
+/// The method of a request and the status of its response.
 #[derive(Clone, Copy, Debug, PartialEq, Eq, Hash)]
 pub struct Request {
     method: Method,
@@ -75,7 +75,7 @@ fn one_request<H: Wait + Drop>(wait: H, alloc: Global) -> Result<Box<Counter>, F
     Box::new(alloc, requests).map_err(|_| Fault::no_memory())
 }
 
-// The family of one request that was answered well. It may wait for the family's lock.
+// The family of one request that succeeded. It may wait for the family's lock.
 fn one_request_by_kind<H: Wait + Clone + Drop>(
     wait: H,
     alloc: Global,
@@ -96,7 +96,7 @@ fn seven_queries(alloc: Global) -> Result<Box<ConstCounter<u64>>, Fault> {
     Box::new(alloc, ConstCounter::new(7)).map_err(|_| Fault::no_memory())
 }
 
-/// The metrics of an application that was asked once, and asked its database seven times: its requests, the same by kind, and
+/// The metrics of an application that got one request and made seven database queries: its requests, the same by kind, and
 /// the queries. It may wait for the lock of the family.
 pub fn application_metrics<H: Wait + Copy + Drop>(
     wait: H,
@@ -108,7 +108,7 @@ pub fn application_metrics<H: Wait + Copy + Drop>(
     Ok((requests, by_kind, queries))
 }
 
-// One label of its own memory.
+// One owned label.
 fn one_label(alloc: Global, name: &str, value: &str) -> Result<Vec<(String, String)>, AllocError> {
     let mut labels = Vec::new(alloc);
     labels.push((
@@ -133,7 +133,7 @@ pub fn production(alloc: Global) -> Result<RegistryBuilder, Fault> {
         .map_err(Fault::of_registry)
 }
 
-// The calls that make the subsystem of the database that answers queries, and the one around it.
+// The calls that make the subsystem of the database that runs queries, and the one around it.
 fn subsystems(alloc: Global) -> Result<[RegistryCall; 2], AllocError> {
     let database = RegistryCall::Subsystem {
         path: Vec::new(alloc),

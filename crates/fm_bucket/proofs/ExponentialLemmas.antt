@@ -34,18 +34,18 @@ exponential_more next factor left some =
     let others = map_shifted (λ i. pos next *ℤ pos (factor ^ i)) (λ i. pos (next * factor) *ℤ pos (factor ^ i)) 1 0 (left - 1) (λ i. (let k : 1 + i ≡ i + 1 = omega arith in let l : 0 + i ≡ i = omega arith in rw (k, l) (ap pos (power_more next factor i)))) in
     ap (exponential_bounds (pos next) factor) e ∙ ap (λ z. z ∷ map (λ i. pos next *ℤ pos (factor ^ i)) (range_with_len 1 (left - 1))) first ∙ ap (λ zs. pos next ∷ zs) others
 
--- the first bound doesn't matter where none is left
+-- the first bound doesn't matter if none is left
 pub no_less : (bound next factor left : ℕ) → (0 < left → bound ≡ next) → exponential_bounds (pos bound) factor left ≡ exponential_bounds (pos next) factor left
 no_less bound next factor zero same = refl
 no_less bound next factor (suc left) same = ap (λ z. exponential_bounds (pos z) factor (suc left)) (same (omega arith))
 
--- what is left fits where all do
+-- what is left fits if all do
 pub fit_more : (next factor left : ℕ) → FitExponential next factor left → FitExponential (next * factor) factor (left - 1)
 fit_more next factor left fits i h =
     let inside : i + 1 < left = omega arith in
     subst (λ n. n < 2 ^ 63) (power_more next factor i) (fits (i + 1) inside)
 
--- the first bound fits where there is one, and the second
+-- the first bound fits if there is one, and the second
 pub first_fits : (next factor left : ℕ) → FitExponential next factor left → 0 < left → next < 2 ^ 63
 first_fits next factor left fits h = subst (λ n. n < 2 ^ 63) (at_zero next factor) (fits 0 h)
 
@@ -54,7 +54,7 @@ second_fits next factor left fits h =
     let e : next * factor ^ 1 ≡ next * factor = power_more next factor 0 ∙ at_zero (next * factor) factor in
     subst (λ n. n < 2 ^ 63) e (fits 1 h)
 
--- all bounds fit where the last does
+-- all bounds fit if the last does
 pub all_fit : (next factor count : ℕ) → 1 ≤ factor → next * factor ^ (count - 1) < 2 ^ 63 → FitExponential next factor count
 all_fit next factor count some last i h =
     let inside : i ≤ count - 1 = omega arith in
@@ -103,7 +103,7 @@ product_above least factor steps some one =
 pub no_remainder : (greatest : ℤ) (size least power : ℕ) → pos (least * power) ≡ greatest → size ≡ unsigned_abs greatest → size % least ≡ 0
 no_remainder greatest size least power is same = rw (same, ← is) (mul-mod_right least power)
 
--- the last bound fits where it is a number of 64 bits, or the first
+-- the last bound fits if it is a number of 64 bits, or the first
 pub last_is : (least greatest : ℤ) (next factor steps : ℕ) → pos next ≡ least → least <ℤ pos (2 ^ 63) → greatest <ℤ pos (2 ^ 63) → (0 < steps → pos (next * factor ^ steps) ≡ greatest) → next * factor ^ steps < 2 ^ 63
 last_is least greatest next factor zero same small small' leads = rw (at_zero next factor) (omega (arith, ints))
 last_is least greatest next factor (suc steps) same small small' leads =

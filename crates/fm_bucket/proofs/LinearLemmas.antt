@@ -35,13 +35,13 @@ linear_more next width left some =
     let others = map_shifted (λ i. next +ℤ width *ℤ pos i) (λ i. (next +ℤ width) +ℤ width *ℤ pos i) 1 0 (left - 1) (λ i. (let k : 1 + i ≡ i + 1 = omega arith in let l : 0 + i ≡ i = omega arith in rw (k, l) (shifted next width i))) in
     ap (linear_bounds next width) e ∙ ap (λ z. z ∷ map (λ i. next +ℤ width *ℤ pos i) (range_with_len 1 (left - 1))) first ∙ ap (λ zs. next ∷ zs) others
 
--- what is left fits where all do
+-- what is left fits if all do
 pub fit_more : (next width : ℤ) (left : ℕ) → FitLinear next width left → FitLinear (next +ℤ width) width (left - 1)
 fit_more next width left fits i h =
     let inside : i + 1 < left = omega arith in
     subst (IsSigned 63) (shifted next width i) (fits (i + 1) inside)
 
--- the second bound fits where there is one
+-- the second bound fits if there is one
 pub second_fits : (next width : ℤ) (left : ℕ) → FitLinear next width left → 1 < left → IsSigned 63 (next +ℤ width)
 second_fits next width left fits h =
     let e : width *ℤ pos 0 ≡ pos 0 = *ℤ-zero width in
@@ -54,7 +54,7 @@ sum_is next width f g h = omega (arith, ints)
 pub sum_fits : (next width : ℤ) → FitsSigned w64 next → FitsSigned w64 width → IsSigned 63 (next +ℤ width) → FitsSigned w64 (to_z w64 (of_z w64 next) +ℤ to_z w64 (of_z w64 width))
 sum_fits next width f g h = omega (arith, ints)
 
--- the first bound doesn't matter where none is left
+-- the first bound doesn't matter if none is left
 pub no_less : (bound next width : ℤ) (left : ℕ) → (0 < left → bound ≡ next) → linear_bounds bound width left ≡ linear_bounds next width left
 no_less bound next width zero same = refl
 no_less bound next width (suc left) same = ap (λ z. linear_bounds z width (suc left)) (same (omega arith))

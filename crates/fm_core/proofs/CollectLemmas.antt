@@ -48,7 +48,7 @@ module _ {M : Type 0} (Offers : M → List Member → Type 0) (Stamps : M → Op
   collected_all P (l ∷ ls) e h (inl left_out) = collected_all P ls e h.1 left_out.1
   collected_all P (l ∷ ls) e h (inr (f, rest, is, own, admits)) = subst (λ (fs : Exposition). AllByRecursion (λ family. P family.name) fs) (sym is) (subst P (sym own.0) h.0, collected_all P ls rest h.1 admits)
 
-  -- of names that differ, one is new behind those before it
+  -- if all names differ, each is new to those before it
   before_next : (names : List Text) (n : Text) (rest : List Text) → AllDifferent (names ++ n ∷ rest) → AllByRecursion (λ m. m ≢ n) names
   before_next [] n rest h = tt
   before_next (m ∷ names) n rest h = ((λ same. at names h.0 (sym same)), before_next names n rest h.1)
@@ -62,7 +62,7 @@ module _ {M : Type 0} (Offers : M → List Member → Type 0) (Stamps : M → Op
   split_at (y ∷ xs) zero x within is = (xs, ap (λ z. z ∷ xs) (sym is))
   split_at (y ∷ xs) (suc i) x within is = let split = split_at xs i x (omega arith) is in (split.0, ap (λ zs. y ∷ zs) split.1)
 
-  -- where all listed names differ, the next one is that of no family so far
+  -- if all listed names differ, the next one is that of no family so far
   pub next_new : (xs : List (ListedMetric M)) (i : ℕ) (x : ListedMetric M) (e : Exposition) → i < length xs → x ≡ get_or xs i x → AllDifferent (map listed_name (seen_list xs)) → Admits Offers Stamps Empty (seen_list (take i xs)) e
       → IsNewName (listed_name (seen_listed x)) e
   next_new xs i x e within is differ admits =
@@ -83,13 +83,13 @@ module _ {M : Type 0} where
   Fault-at k Offers Stamps MayFault (y ∷ xs) zero x within is fault = inl (subst (λ (z : ListedMetric M). FaultOf k Offers Stamps MayFault (seen_listed z)) is fault)
   Fault-at k Offers Stamps MayFault (y ∷ xs) (suc i) x within is fault = inr (Fault-at k Offers Stamps MayFault xs i x (omega arith) is fault)
 
-  -- each metric of the list is listable where all are
+  -- each metric of the list is listable if all are
   pub IsListable-at : (xs : List (ListedMetric M)) (i : ℕ) (x : ListedMetric M) → i < length xs → x ≡ get_or xs i x → AllByRecursion IsListable (seen_list xs) → IsListable (seen_listed x)
   IsListable-at [] i x within is all = absurd (omega arith)
   IsListable-at (y ∷ xs) zero x within is all = subst (λ (z : ListedMetric M). IsListable (seen_listed z)) (sym is) all.0
   IsListable-at (y ∷ xs) (suc i) x within is all = IsListable-at xs i x (omega arith) is all.1
 
--- what holds of a refusal that is kept holds of the one that is answered
+-- what holds of the kept refusal holds of the one that is returned
 refused_answer : (r : Result (Unit {0}) EncodeError) (refused : Option EncodeError) (P : EncodeError → Type 0) → r ≡ result_of refused → ((k : EncodeError) → refused ≡ Some k → P k) → IfErr r P
 refused_answer r None P is h = subst (λ s. IfErr s P) (sym is) tt
 refused_answer r (Some k) P is h = subst (λ s. IfErr s P) (sym is) (h k refl)

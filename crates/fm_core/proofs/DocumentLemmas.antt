@@ -35,7 +35,7 @@ AddsRows-family Offers Stamps MayBeEmpty heading old output heads offered =
       ap text_in offered.is ∙ append_assoc old (heading_rows heading) rows,
     )
 
--- an output with samples more is a text where it was one
+-- an output with further samples is a text if it was one
 still_text : (name : Text) (old new : Output) (text : Text) (samples : List Sample) → old ≡ OutputText text → new ≡ appended name old samples → new ≡ OutputText (text_in new)
 still_text name old new text samples was is =
     let now : new ≡ OutputText (text ++ sample_rows name samples) = is ∙ ap (λ (o : Output). appended name o samples) was in

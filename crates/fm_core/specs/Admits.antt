@@ -1,5 +1,5 @@
--- Which expositions the listed metrics of a book admit, and which fault stands in them. What a metric may offer, which
--- timestamps it may answer, whether it may be empty and whether it may answer errors of its own is what it declares.
+-- Which expositions the listed metrics of a book admit, and which faults are in them. What a metric may offer, which
+-- timestamps it may return, whether it may be empty and whether it may return errors of its own is what it declares.
 use Rattle.std.specs.Prelude.{◌≡◌, ℕ, List, [], ◌∷◌, ◌++◌, Option, ◌⊎◌}
 use Rattle.fm_grammar.specs.Exposition.{Family, Exposition}
 use Rattle.fm_encode_error.specs.declared.EncodeError.{EncodeError}
@@ -32,13 +32,13 @@ module _ {M : Type 0} (Offers : M → List Member → Type 0) (Stamps : M → Op
       ⊎ ((family : Family) × (new ≡ old ++ family ∷ []) × IsFamilyOf Offers Stamps listed family)
 
 module _ {M : Type 0} (k : EncodeError) (Offers : M → List Member → Type 0) (Stamps : M → Option ℕ → Type 0) (MayFault : M → Type 0) where
-  -- the fault stands in this metric
+  -- the fault is in this metric
   abbrev pub FaultOf : Listed M → Type 0
   FaultOf l =
       MetricHasFault k (Offers l.registration.metric) (Stamps l.registration.metric) (MayFault l.registration.metric)
       (listed_name l) l.registration.metric_type l.labels
 
-  -- the fault stands in one of the listed metrics
+  -- the fault is in one of the listed metrics
   abbrev pub Fault : List (Listed M) → Type 0
   Fault [] = ⊥
   Fault (listed ∷ more) = FaultOf listed ⊎ Fault more

@@ -10,7 +10,7 @@ use Rattle.fm_encoder.specs.Points.{Member}
 use Rattle.fm_registry.specs.View.{seen_metric}
 use Rattle.fm_core.specs.Admits.{IsFamilyOf, AdmitsNext, FaultOf}
 
--- the namespace and the labels of the registry under way, the families so far, and the refusal
+-- the namespace and the labels of the current registry, the families so far, and the refusal
 pub record GatheredFamilies : Type 0 where
   pub namespace : Option Text
   pub labels : Labels
@@ -25,7 +25,7 @@ Heading = Listed (Unit {0})
 abbrev pub heading_in : Option Text → Labels → Metadata → Heading
 heading_in namespace labels metadata = record { namespace = namespace; labels = labels; registration = seen_metric metadata (tt {0}) }
 
--- the same in the registry under way
+-- the same in the current registry
 abbrev pub next_heading : GatheredFamilies → Metadata → Heading
 next_heading gathered metadata = heading_in gathered.namespace gathered.labels metadata
 
@@ -40,8 +40,8 @@ module _ (Offers : List Member → Type 0) (Stamps : Option ℕ → Type 0) wher
   abbrev pub FaultUnder : EncodeError → Type 0 → Heading → Type 0
   FaultUnder k MayFault = FaultOf k (λ _. Offers) (λ _. Stamps) (λ _. MayFault)
 
--- An encoder that had refused is as it was. Else it adds the family of the metric, unless that is empty, or refuses for want of
--- memory or a fault that stands in the metric.
+-- An encoder that had refused does not change. Otherwise it adds the family of the metric, unless the metric is empty, or refuses
+-- for want of memory or for a fault in the metric.
 pub record EncodesFamily (Offers : List Member → Type 0) (Stamps : Option ℕ → Type 0) (MayBeEmpty MayFault : Type 0) (heading : Heading) (old new : GatheredFamilies) : Type 0 where
   pub namespace_kept : new.namespace ≡ old.namespace
   pub labels_kept : new.labels ≡ old.labels

@@ -75,8 +75,13 @@ fn add_family(
     requires heading { IsListable (heading_in (option_copied namespace) (labels_of constants.now) metadata.now) }
     requires lines { HasLines encoder.old }
     ensures { MatchResult result
-        (λ _. HasLines encoder.new × AddsRows (offers metric.now) (stamps metric.now) (may_be_empty metric.now) (heading_in (option_copied namespace.entry) (labels_of constants.now) metadata.now) (text_in encoder.old.output) (text_in encoder.new.output))
-        (λ k. (k ≡ EncodeError.Memory) ⊎ FaultUnder (offers metric.now) (stamps metric.now) k (may_fault metric.now) (heading_in (option_copied namespace.entry) (labels_of constants.now) metadata.now)) }
+        (λ _. HasLines encoder.new
+        × AddsRows (offers metric.now) (stamps metric.now) (may_be_empty metric.now)
+        (heading_in (option_copied namespace.entry) (labels_of constants.now) metadata.now)
+        (text_in encoder.old.output) (text_in encoder.new.output))
+        (λ k. (k ≡ EncodeError.Memory)
+        ⊎ FaultUnder (offers metric.now) (stamps metric.now) k (may_fault metric.now)
+        (heading_in (option_copied namespace.entry) (labels_of constants.now) metadata.now)) }
 {
     if metric.is_empty() {
         return Ok(());
@@ -97,8 +102,11 @@ fn add_listed(
     requires listable { IsListable (seen_listed listed.now) }
     requires lines { HasLines encoder.old }
     ensures { MatchResult result
-        (λ _. HasLines encoder.new × AddsNextRows (λ m. offers m) (λ m. stamps m) (λ m. may_be_empty m) (seen_listed listed.now) (text_in encoder.old.output) (text_in encoder.new.output))
-        (λ k. (k ≡ EncodeError.Memory) ⊎ FaultOf k (λ m. offers m) (λ m. stamps m) (λ m. may_fault m) (seen_listed listed.now)) }
+        (λ _. HasLines encoder.new
+        × AddsNextRows (λ m. offers m) (λ m. stamps m) (λ m. may_be_empty m) (seen_listed listed.now)
+        (text_in encoder.old.output) (text_in encoder.new.output))
+        (λ k. (k ≡ EncodeError.Memory)
+        ⊎ FaultOf k (λ m. offers m) (λ m. stamps m) (λ m. may_fault m) (seen_listed listed.now)) }
 {
     add_family(
         alloc,
@@ -126,13 +134,14 @@ fn ended_lines(encoder: MetricEncoder) -> Result<Lines, AllocError>
     }
 }
 
-// The lines of the document of a registry and all below it, or the first refusal. It may wait where a metric waits for a lock.
+// The lines of the document of a registry and all below it, or the first refusal. It may wait if a metric waits for a lock.
 pub(crate) fn document_lines(alloc: Global, registry: &Registry) -> Result<Lines, EncodeError>
     requires { HasBook registry.now }
     ensures text { IfOk result (λ lines. (e : Exposition)
         × ((b : _) → Shows registry.now b → Admits (λ m. offers m) (λ m. stamps m) (λ m. may_be_empty m) (order b) e)
         × IsExposition e × (lines.text ≡ document_rows e)) }
-    ensures fault { IfErr result (λ k. (k ≡ EncodeError.Memory) ⊎ ((b : _) → Shows registry.now b → Fault k (λ m. offers m) (λ m. stamps m) (λ m. may_fault m) (order b))) }
+    ensures fault { IfErr result (λ k. (k ≡ EncodeError.Memory)
+        ⊎ ((b : _) → Shows registry.now b → Fault k (λ m. offers m) (λ m. stamps m) (λ m. may_fault m) (order b))) }
     ensures not_writing { IfErr result (λ k. ¬ (IsWritersFault k)) }
 {
     let Ok(list) = registry.listing(alloc) else {
@@ -151,8 +160,10 @@ pub(crate) fn document_lines(alloc: Global, registry: &Registry) -> Result<Lines
 
 // Writes the lines of a document, all or a beginning of them.
 pub(crate) fn write_lines<W: Write>(writer: &mut W, lines: &Lines) -> Result<(), EncodeError>
-    ensures document { (e : Exposition) → IsExposition e → lines.now.text ≡ document_rows e → OnOk result (AppendsDocument (W.contents writer.old) (W.contents writer.new) e) }
-    ensures stopped { (e : Exposition) → IsExposition e → lines.now.text ≡ document_rows e → IfErr result (λ k. IsWritersFault k → BeginsDocument (W.contents writer.old) (W.contents writer.new) e) }
+    ensures document { (e : Exposition) → IsExposition e → lines.now.text ≡ document_rows e
+        → OnOk result (AppendsDocument (W.contents writer.old) (W.contents writer.new) e) }
+    ensures stopped { (e : Exposition) → IsExposition e → lines.now.text ≡ document_rows e
+        → IfErr result (λ k. IsWritersFault k → BeginsDocument (W.contents writer.old) (W.contents writer.new) e) }
     ensures fault { IfErr result IsWritersFault }
 {
     write_text(writer, lines.as_slice())

@@ -38,7 +38,7 @@ pub(crate) fn whole_millis(time: Option<Duration>) -> Option<u128>
     }
 }
 
-// The room that a text takes with an underscore beside it.
+// The number of bytes that a text takes together with an underscore.
 fn room_of(text: Option<&str>) -> usize {
     match text {
         Some(text) => text.len().saturating_add(1),
@@ -46,14 +46,15 @@ fn room_of(text: Option<&str>) -> usize {
     }
 }
 
-// Puts namespace, name and unit, those that are there, joined by underscores, into a text instead of what it was.
+// Replaces a text by namespace, name and unit, those that are there, joined by underscores.
 pub(crate) fn join_name(
     text: &mut String,
     namespace: Option<&str>,
     name: &str,
     unit: Option<&str>,
 ) -> Result<(), AllocError>
-    ensures { OnOk result (string_bytes text.new ≡ printed_name (option_copied namespace.entry) name.now (option_copied unit.entry)) }
+    ensures { OnOk result
+        (string_bytes text.new ≡ printed_name (option_copied namespace.entry) name.now (option_copied unit.entry)) }
 {
     text.clear();
     if let Some(namespace) = namespace {
@@ -75,7 +76,8 @@ fn joined_name(
     name: &str,
     unit: Option<&str>,
 ) -> Result<String, AllocError>
-    ensures { IfOk result (λ text. string_bytes text ≡ printed_name (option_copied namespace.entry) name.now (option_copied unit.entry)) }
+    ensures { IfOk result (λ text. string_bytes text
+        ≡ printed_name (option_copied namespace.entry) name.now (option_copied unit.entry)) }
 {
     let room = room_of(namespace)
         .saturating_add(name.len())
@@ -85,7 +87,7 @@ fn joined_name(
     Ok(text)
 }
 
-// A text of its own memory, equal to the given one.
+// An owned copy of the text, if there is one.
 fn cloned_text(alloc: Global, text: Option<&str>) -> Result<Option<String>, AllocError>
     ensures { IfOk result (λ clone. option_map string_bytes clone ≡ option_copied text.entry) }
 {
@@ -120,7 +122,9 @@ fn offered_by(
     ensures { MatchResult result
         (λ made. (string_bytes made.0 ≡ string_bytes name)
         × Offered (offers metric.now) (stamps metric.now) (string_bytes name) metric_type (labels_of constants.now) sink.output made.1.output)
-        (λ k. (k ≡ EncodeError.Memory) ⊎ MetricHasFault k (offers metric.now) (stamps metric.now) (may_fault metric.now) (string_bytes name) metric_type (labels_of constants.now)) }
+        (λ k. (k ≡ EncodeError.Memory)
+        ⊎ MetricHasFault k (offers metric.now) (stamps metric.now) (may_fault metric.now) (string_bytes name)
+        metric_type (labels_of constants.now)) }
 {
     let time = whole_millis(metric.timestamp());
     let mut encoder = MetricEncoder::new(alloc, name, metric_type, constants, time, sink)?;
@@ -145,7 +149,9 @@ fn samples_of_metric(
         (λ made. (string_bytes made.0 ≡ string_bytes name)
         × AdmitsSamples (offers metric.now) (stamps metric.now) (string_bytes name) metric_type (labels_of constants.now) made.1.samples
         × AllByRecursion (IsSample metric_type) made.1.samples)
-        (λ k. (k ≡ EncodeError.Memory) ⊎ MetricHasFault k (offers metric.now) (stamps metric.now) (may_fault metric.now) (string_bytes name) metric_type (labels_of constants.now)) }
+        (λ k. (k ≡ EncodeError.Memory)
+        ⊎ MetricHasFault k (offers metric.now) (stamps metric.now) (may_fault metric.now) (string_bytes name)
+        metric_type (labels_of constants.now)) }
 {
     let Ok(sink) = Sink::samples(alloc) else {
         return Err(EncodeError::Memory);
@@ -235,8 +241,11 @@ impl<'a> MetricFamilyEncoder<'a> {
     ) -> Result<FamilySamples, EncodeError>
         requires { IsListable (next_heading self.now metadata.now) }
         ensures { MatchResult result
-            (λ family. IsFamilyUnder (offers metric.now) (stamps metric.now) (next_heading self.now metadata.now) family × IsFamily family)
-            (λ k. (k ≡ EncodeError.Memory) ⊎ FaultUnder (offers metric.now) (stamps metric.now) k (may_fault metric.now) (next_heading self.now metadata.now)) }
+            (λ family. IsFamilyUnder (offers metric.now) (stamps metric.now) (next_heading self.now metadata.now) family
+            × IsFamily family)
+            (λ k. (k ≡ EncodeError.Memory)
+            ⊎ FaultUnder (offers metric.now) (stamps metric.now) k (may_fault metric.now)
+            (next_heading self.now metadata.now)) }
     {
         let Ok((name, help, unit)) = self.heads_of(metadata) else {
             return Err(EncodeError::Memory);
@@ -256,9 +265,9 @@ impl<'a> MetricFamilyEncoder<'a> {
         Err(error)
     }
 
-    /// Takes the next metric: adds its family under this metadata, unless the metric is empty. The metadata is that of a
-    /// metric of the current registry, whose printed name no family has so far. It is refused for want of memory, or for a fault of the metric, and
-    /// from then on each call returns that refusal and changes nothing. It may wait where the metric waits for a lock.
+    /// Takes the next metric: adds its family with this metadata, unless the metric is empty. The metadata is that of a metric of
+    /// the current registry, whose printed name no family has so far. Fails with `Memory` if memory runs out, or for a fault of
+    /// the metric; from then on each call returns this first error and changes nothing. It may wait if the metric waits for a lock.
     pub fn encode(
         &mut self,
         metadata: &Metadata,
@@ -266,7 +275,8 @@ impl<'a> MetricFamilyEncoder<'a> {
     ) -> Result<(), EncodeError>
         requires heading { IsListable (next_heading self.old metadata.now) }
         requires new_name { IsNewName (listed_name (next_heading self.old metadata.now)) self.old.families }
-        ensures encoded { EncodesFamily (offers metric.now) (stamps metric.now) (may_be_empty metric.now) (may_fault metric.now) (next_heading self.old metadata.now) self.old self.new }
+        ensures encoded { EncodesFamily (offers metric.now) (stamps metric.now) (may_be_empty metric.now)
+            (may_fault metric.now) (next_heading self.old metadata.now) self.old self.new }
         ensures answered { result ≡ result_of self.new.refused }
     {
         if let Some(error) = self.refused {
@@ -284,7 +294,7 @@ impl<'a> MetricFamilyEncoder<'a> {
         }
     }
 
-    // The families, where nothing was refused, else the first refusal.
+    // The families, or the first refusal.
     pub(crate) fn end(self) -> Result<Exposition, EncodeError>
         ensures { MatchResult result
             (λ e. (self.entry.refused ≡ None) × (e ≡ self.entry.families))

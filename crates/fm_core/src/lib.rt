@@ -8,7 +8,7 @@ mod family;
 pub mod format;
 
 pub mod encoder {
-    //! How metrics hand labels, values and points to the encoders, and the encoder of families.
+    //! How metrics pass labels, values and points to the encoders, and the encoder of families.
     pub use crate::family::MetricFamilyEncoder;
     pub use fm_encoder::{
         CounterValueEncoder, EncodeCounterValue, EncodeError, EncodeExemplar, EncodeGaugeValue,

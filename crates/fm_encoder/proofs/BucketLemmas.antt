@@ -23,7 +23,7 @@ use Rattle.std.proofs.lemmas.List.{take_more, length-map}
 use Rattle.std.proofs.lemmas.List.Sums.{sum_by-append, sum_by-cons, sum_by_more_le}
 use Rattle.std.proofs.lemmas.List.Elements.{Contains-get_or}
 
--- metrics with buckets keep the name of the bounds' label for themselves
+-- metrics with buckets reserve the name of the bounds' label
 pub le_is_reserved : (type : MetricType) → HasBuckets type → IsReserved type (codes "le")
 le_is_reserved Unknown has = absurd has
 le_is_reserved Gauge has = absurd has
@@ -52,7 +52,7 @@ pub all_clean-push : (slots : List (List HandedExemplar)) (exemplars : List Hand
 all_clean-push [] exemplars h clean = (clean, tt)
 all_clean-push (x ∷ slots) exemplars h clean = (h.0, all_clean-push slots exemplars h.1 clean)
 
--- the samples of the first buckets are there, which have so many values
+-- the samples of the first buckets are there, which have this number of values
 pub record PushedFirst {S : Type 0} (f : S → List HandedExemplar) (buckets : List Bucket) (slots : List S) (i values : ℕ) (old new : GatheredPoints) : Type 0 where
   pub place : SamePlace old new
   pub accepting : new.refused ≡ None
@@ -142,7 +142,7 @@ PushesBuckets-refused {S} f F buckets slots i before k b s old mid new r within 
       refused = λ j is. (let equal : k ≡ j = cc in subst (λ (e : EncodeError). OwnRefusal ((slot : S) × Contains slots slot × F slot) e ⊎ BucketsFault e buckets (map f slots)) equal fault);
     }
 
--- where no slot may answer an error of its own
+-- if no slot may return an error of its own
 pub PushesBuckets-never : {F : Type 0} (buckets : List Bucket) (slots : List (List HandedExemplar)) (old new : GatheredPoints) → ¬ F → PushesBuckets buckets slots F old new → PushesBuckets buckets slots ⊥ old new
 PushesBuckets-never buckets slots old new never a = record {
   place = a.place;

@@ -1,4 +1,4 @@
--- Cases of options and answers.
+-- Cases of options and results.
 use Rattle.std.proofs.Common.{◌≡◌, Option, Some, None, Result, Ok, Err, ◌⊎◌, inl, inr, refl}
 use Rattle.fm_encode_error.specs.declared.EncodeError.{EncodeError}
 use Rattle.fm_encoder.specs.Gathered.{result_of}
@@ -19,7 +19,7 @@ pub ok_from_not : (r : Result (Unit {0}) EncodeError) → ((e : EncodeError) →
 ok_from_not (Ok _) never = refl
 ok_from_not (Err e) never = absurd (never e refl)
 
--- an encoder that answers no refusal has none
+-- an encoder that returns no refusal has none
 pub none_from_answer : {r : Result (Unit {0}) EncodeError} → (refused : Option EncodeError) → r ≡ result_of refused → r ≡ Ok tt → refused ≡ None
 none_from_answer None is ok = refl
 none_from_answer (Some k) is ok = absurd cc

@@ -1,4 +1,4 @@
--- The exemplars that an exemplar object hands over.
+-- The exemplars that a source of exemplars emits.
 use Rattle.std.proofs.Common.{◌≡◌, ◌≤◌, ◌^◌, ℤ, pos, negsuc, List, [], ◌∷◌, ◌++◌, map, length, Contains, Option, Some, None, IfSome, Err, ◌⊎◌, inl, inr, refl, sym, subst, ap, ◌∙◌, arith}
 use Rattle.std.proofs.lemmas.Int.{ints}
 use Rattle.std.specs.Option.{option_to_list}
@@ -16,7 +16,7 @@ use Rattle.fm_encoder.specs.Hands.{HandsExemplars}
 use Rattle.fm_encoder.proofs.NameLemmas.{AreLabels-written}
 use Rattle.fm_encoder.specs.Points.{HandedExemplar, ExemplarPartsClean, ExemplarPartsFault, ExemplarClean, ExemplarFault, written_as, written_exemplar}
 
--- the one place of an encoder has at most one exemplar
+-- an encoder keeps at most one exemplar
 pub exemplars_clean : (place : Option Exemplar) (exemplars : List HandedExemplar) → option_to_list place ≡ map written_as exemplars → AllByRecursion ExemplarPartsClean exemplars → ExemplarClean exemplars × (place ≡ written_exemplar exemplars)
 exemplars_clean None [] is clean = (inl refl, refl)
 exemplars_clean None (x ∷ exemplars) is clean = absurd cc
@@ -28,14 +28,14 @@ pub exemplars_fault : (k : EncodeError) (exemplars : List HandedExemplar) → ((
 exemplars_fault k exemplars (inl (is, twice)) = inl (is, omega (arith, twice, length-map exemplars written_as))
 exemplars_fault k exemplars (inr one) = inr one
 
--- an exemplar of clean labels that are not too many, of a value and of a time
+-- an exemplar of valid labels that are not too many, of a value and of a time
 pub exemplar_whole : (handed : HandedExemplar) (labels : List Label) (made : Exemplar) → LabelsClean Unknown [] handed.labels → labels ≡ all_written handed.labels → label_code_points labels ≤ 128 → IsBetween (2 ^ 63) (2 ^ 63) handed.value → IfSome handed.time AreMillis → made ≡ record { labels = labels; value = handed.value; time = handed.time } → ExemplarPartsClean handed × (made ≡ written_as handed) × IsExemplar made
 exemplar_whole handed labels made clean are short value time is =
     let same : made ≡ written_as handed = is ∙ ap (λ (ls : List Label). record { labels = ls; value = handed.value; time = handed.time }) are in
     let few : label_code_points (all_written handed.labels) ≤ 128 = subst (λ (ls : List Label). label_code_points ls ≤ 128) are short in
     ((clean, few), same, subst IsExemplar (sym same) (record { labels = AreLabels-written Unknown handed.labels clean; short = few; value = value; time = time }))
 
--- an encoder that refused what was handed over, where nothing was refused before
+-- an encoder that refused what was emitted, if nothing was refused before
 pub HandsExemplars-refused : (handed : HandedExemplar) (F : Type 0) (k : EncodeError) (old new : GatheredExemplars) → old.refused ≡ None → new.refused ≡ Some k → OwnRefusal F k ⊎ ExemplarPartsFault k handed → HandsExemplars (handed ∷ []) F old new (Err k)
 HandsExemplars-refused handed F k old new accepting refused fault = record {
   kept = λ j e. absurd cc;

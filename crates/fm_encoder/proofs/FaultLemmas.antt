@@ -1,4 +1,4 @@
--- A fault in what is handed over is never the writer's.
+-- A fault in what is emitted is never the writer's.
 use Rattle.std.proofs.Common.{◌≡◌, ℕ, List, [], ◌∷◌, Option, inl, inr, subst}
 use Rattle.fm_grammar.specs.declared.MetricType.{MetricType}
 use Rattle.fm_grammar.specs.Exposition.{Text, Label, Value}

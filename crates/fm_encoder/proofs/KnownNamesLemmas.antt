@@ -40,7 +40,7 @@ follows-known type before (n ∷ names) (suc i) name h at =
 abbrev pub names_in : List (String Global) → List Text
 names_in = map string_bytes
 
--- what stands at an index of a slice of the same strings
+-- the item at an index of a slice of the same strings
 pub at_from : (names slice : List (String Global)) (i : ℕ) (s : String Global) → slice ≡ names → true ≡ ltb i (length slice) → s ≡ get_or slice i s → slice_get names i ≡ Some s
 at_from names slice i s is within found =
     subst (λ (ns : List (String Global)). slice_get ns i ≡ Some s) is (slice_get-get_or slice i s (ltb-true i (length slice) (sym within)) ∙ ap Some (sym found))
@@ -49,7 +49,7 @@ at_from names slice i s is within found =
 pub known_at : (names : List (String Global)) (i : ℕ) (s : String Global) (name : Text) → slice_get names i ≡ Some s → string_bytes s ≡ name → slice_get (names_in names) i ≡ Some name
 known_at names i s name at is = slice_get-map string_bytes names i ∙ ap (option_map string_bytes) at ∙ ap Some is
 
--- the first names, as they are left where there is no memory for a further one
+-- the first names, which remain if there is no memory for a further one
 pub tested_first : (type : MetricType) (olds firsts : List (String Global)) (count : ℕ) → AreTested type [] (names_in olds) → firsts ≡ take count olds → AreTested type [] (names_in firsts)
 tested_first type olds firsts count h is = subst (AreTested type []) (take-map string_bytes count olds ∙ ap names_in (sym is)) (tested-take type [] (names_in olds) count h)
 
@@ -85,7 +85,7 @@ have_learnt names learnt labels name known is = subst (λ (ns : List Text). Have
     at_end [] name = refl
     at_end (l ∷ labels) name = at_end labels name
 
--- a label of the name under way is the last of the labels
+-- the label with the current name is the last of the labels
 pub have_ended : (names : List Text) (labels : List Label) (label : Label) → HaveNames names labels (Some label.name) → HaveNames names (labels ++ label ∷ []) None
 have_ended names labels label known = (further names labels label known.0 known.1, tt)
   where
@@ -102,7 +102,7 @@ have_whole names labels (Some n) (Some v) known = have_ended names labels (recor
 have_whole names labels None value known = subst (λ (ls : List Label). HaveNames names ls None) (sym (append-nil labels)) (known.0, tt)
 have_whole names labels (Some n) None known = subst (λ (ls : List Label). HaveNames names ls None) (sym (append-nil labels)) (known.0, tt)
 
--- a label encoder's labels once the label under way has ended
+-- a label encoder's labels once the current label has ended
 pub ended_known : (type : MetricType) (known : KnownState) (is_known : Bool) (labels : List Label) (name value : Option Text) → AreKnown type known is_known labels name → AreKnown type known is_known (labels ++ whole_label name value) None
 ended_known type known is_known labels name value h = record {
   fits = λ n none. absurd (nothing none);

@@ -1,4 +1,4 @@
--- Labels that are handed over one after the other.
+-- Labels that are emitted one after the other.
 use Rattle.std.proofs.Common.{◌≡◌, ℕ, List, [], ◌∷◌, ◌++◌, None, Result, Ok, Err, MatchResult, ◌⊎◌, inl, inr, refl, sym, ◌∙◌, ap, subst, append_assoc, append-nil, ◌<◌, ◌+◌, length, get_or, take, drop, map, Any}
 use Rattle.std.proofs.lemmas.List.Elements.{Contains-append_left, Contains-append_right}
 use Rattle.std.proofs.lemmas.List.{map_more, map-append, take-append-drop}
@@ -100,7 +100,7 @@ HandsLabels-nothing g = record {
   refused = λ k o n. absurd cc;
 }
 
--- a loop over items that each hand over one label: one item more, and an item that ends the loop with an error
+-- a loop over items that each emit one label: one item more, and an item that ends the loop with an error
 pub HandsLabels-more : {X : Type 0} {F : Type 0} (f : X → HandedLabel) (xs : List X) (i : ℕ) (x : X) → i < length xs → x ≡ get_or xs i x → (old mid new : GatheredLabels) (r : Result (Unit {0}) EncodeError) → HandsLabels (map f (take i xs)) F old mid (Ok tt) → HandsLabels (f x ∷ []) F mid new r → HandsLabels (map f (take (i + 1) xs)) F old new r
 HandsLabels-more f xs i x within read old mid new r before one =
     let more : map f (take (i + 1) xs) ≡ map f (take i xs) ++ f x ∷ [] = map_more f xs i x within ∙ ap (λ (y : _). map f (take i xs) ++ f y ∷ []) (sym read) in
@@ -118,12 +118,12 @@ Any-left P xs ys (i, x, within, is, here) = (let there = Contains-append_left xs
 pub Any-right : {X : Type 0} (P : X → Type 0) (xs ys : List X) → Any P ys → Any P (xs ++ ys)
 Any-right P xs ys (i, x, within, is, here) = (let there = Contains-append_right xs ys x (i, within, is) in (there.0, x, there.1, there.2, here))
 
--- labels that were written and are handed over again are written again
+-- labels that are emitted again are written again
 pub written_again : (ls : List Label) → all_written (handed_again ls) ≡ ls
 written_again [] = refl
 written_again (l ∷ ls) = ap (λ (more : List Label). l ∷ more) (written_again ls)
 
--- labels that were gathered behind clean constant ones
+-- labels that were gathered after valid constant ones
 pub behind_constants : {L : Type 0} (items : L → List Label) (type : MetricType) (constants : List Label) (ls : List HandedLabel) (F : Type 0) (r : Result L EncodeError) → LabelsClean type [] (handed_again constants) → MatchResult r (λ t. LabelsClean type constants ls × (items t ≡ constants ++ all_written ls)) (λ k. OwnRefusal F k ⊎ LabelsFault k type constants ls) → MatchResult r (λ t. LabelsClean type [] (handed_again constants ++ ls) × (items t ≡ all_written (handed_again constants ++ ls))) (λ k. OwnRefusal F k ⊎ LabelsFault k type [] (handed_again constants ++ ls))
 behind_constants items type constants ls F (Ok t) clean h =
     let again = written_again constants in (

@@ -34,11 +34,11 @@ none_before_points old mid r hands none =
     elim (option_cases old.refused) [ inl e ↦ e | inr (k, e) ↦ (let same : mid ≡ old = hands.kept k e in cc) ]
 
 module _ (constants : List Label) (labels : List HandedLabel) where
-  -- the labels that stand first in each sample
+  -- the labels that come first in each sample
   abbrev all : List HandedLabel
   all = handed_again constants ++ labels
 
-  -- clean points under clean labels are clean members
+  -- valid points under valid labels are valid members
   MembersClean-of : (g : GatheredPoints) (ps : List Point) → (g.deferred ≡ None → LabelsClean g.setting.metric_type [] all) → (g.deferred ≡ None → g.common ≡ all_written all) → PointsClean g ps → MembersClean (context_of constants g.setting) (members_of labels ps)
   MembersClean-of g [] clean common h = tt
   MembersClean-of g (p ∷ ps) clean common h =
@@ -118,7 +118,7 @@ MembersClean-append : (context : Context) (xs ys : List Member) → MembersClean
 MembersClean-append context [] ys h after = after
 MembersClean-append context (x ∷ xs) ys h after = (h.0, MembersClean-append context xs ys h.1 after)
 
--- the samples of clean members are well formed
+-- the samples of valid members are well formed
 pub MembersClean-formed : (context : Context) (ms : List Member) → MembersClean context ms → AllByRecursion (IsSample context.setting.metric_type) (members_samples context ms)
 MembersClean-formed context [] h = tt
 MembersClean-formed context (m ∷ ms) h = all_append (IsSample context.setting.metric_type) (member_samples context m) (members_samples context ms) h.0.1.formed (MembersClean-formed context ms h.1)
@@ -197,7 +197,7 @@ OffersOf-push labels Points (y ∷ xs) x ms (front, bs, (first, rest, own_first,
   is ∙ ap (λ (zs : List Member). zs ++ bs) front_is ∙ append_assoc first rest bs,
 )
 
--- a loop over pairs that each hand over their members: one pair more
+-- a loop over pairs that each emit their members: one pair more
 pub HandsMembers-more : {S M : Type 0} {F : Type 0} (labels : S → List HandedLabel) (Points : M → List Point → Type 0) (xs : List (S × M)) (i : ℕ) (x : S × M) → i < length xs → x ≡ get_or xs i x → (old mid new : GatheredMembers) (r : Result (Unit {0}) EncodeError) → HandsMembers (OffersOf labels Points (take i xs)) F old mid (Ok tt) → (old.refused ≡ None → mid.refused ≡ None) → HandsMembers (MembersOf (labels x.0) (Points x.1)) F mid new r → HandsMembers (OffersOf labels Points (take (i + 1) xs)) F old new r
 HandsMembers-more {S} {M} labels Points xs i x within is old mid new r before accepted one =
     let more : take (i + 1) xs ≡ take i xs ++ x ∷ [] = take_more xs i x within ∙ ap (λ (y : S × M). take i xs ++ y ∷ []) (sym is) in

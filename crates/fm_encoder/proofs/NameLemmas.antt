@@ -1,4 +1,4 @@
--- The names of labels, and that clean labels have valid and different names.
+-- The names of labels, and that valid labels have valid and different names.
 use Rattle.std.proofs.Common.{◌≡◌, ◌≢◌, zero, suc, List, [], ◌∷◌, ◌++◌, length, drop, map, ◌⊎◌, inl, inr, refl, sym, ap, subst, ◌∙◌, arith, append-nil, append_assoc, String, Global, string_bytes, Contains, codes}
 use Rattle.std.specs.List.{AllByRecursion}
 use Rattle.std.proofs.lemmas.List.{drop_at}
@@ -33,7 +33,7 @@ different-push [] last h fresh = (tt, tt)
 different-push (n ∷ names) last h fresh =
     (others-push names n last h.0 (λ same. fresh (0, omega arith, sym same)), different-push names last h.1 (λ there. fresh (Contains-cons last n names there)))
 
--- a label whose name fits, behind well-formed labels
+-- a label whose name fits, after well-formed labels
 AreLabels-push : (type : MetricType) (before : List Label) (l : Label) → AreLabels before → NameFits type before l.name → AreLabels (before ++ l ∷ [])
 AreLabels-push type before l h fits = record {
   names = valid-push before l h.names fits.valid;
@@ -50,20 +50,20 @@ AreLabels-after type before [] h clean = subst AreLabels (sym (append-nil before
 AreLabels-after type before (label ∷ labels) h clean =
     subst AreLabels (append_assoc before (written label) (all_written labels)) (AreLabels-after type (before ++ written label) labels (AreLabels-clean type before label h clean.0) clean.1)
 
--- clean labels are well formed as they are written
+-- valid labels are well formed as they are written
 pub AreLabels-written : (type : MetricType) (labels : List HandedLabel) → LabelsClean type [] labels → AreLabels (all_written labels)
 AreLabels-written type labels clean = AreLabels-after type [] labels (record { names = tt; different = tt }) clean
 
--- written labels are handed over again as pairs of two strings hand them over
+-- written labels are emitted again, as pairs of two strings are
 pub handed_again-pairs : (ls : Pairs) → map (λ p. NamePiece (string_bytes p.0) ∷ ValuePiece (string_bytes p.1) ∷ []) ls ≡ handed_again (labels_of ls)
 handed_again-pairs [] = refl
 handed_again-pairs (l ∷ ls) = ap (λ (hs : List HandedLabel). (NamePiece (string_bytes l.0) ∷ ValuePiece (string_bytes l.1) ∷ []) ∷ hs) (handed_again-pairs ls)
 
--- own labels that stand behind the common ones in a list of both
+-- own labels that come after the common ones in a list of both
 pub own_of_all : (common all own : List Label) → all ≡ common ++ own → drop (length common) all ≡ own
 own_of_all common all own is = ap (drop (length common)) is ∙ drop_at common own (length common) refl
 
--- labels that are clean behind well-formed ones
+-- labels that are valid after well-formed ones
 pub AreLabels-behind : (type : MetricType) (before ls : List Label) (labels : List HandedLabel) → AreLabels before → LabelsClean type before labels → ls ≡ before ++ all_written labels → AreLabels ls
 AreLabels-behind type before ls labels h clean is = subst AreLabels (sym is) (AreLabels-after type before labels h clean)
 
@@ -93,7 +93,7 @@ label_name_of_words (b ∷ rest) further word letter words =
 pub label_name_of_snake_case : (name : Text) → IsSnakeCase name → IsLabelName name
 label_name_of_snake_case name h = subst IsLabelName (sym h.is) (label_name_of_words h.first h.further h.word h.letter h.words)
 
--- a label of a family's name, behind labels that have another
+-- a label of a family's name, after labels that have another
 pub AreLabels-named : (before ls : List Label) (l : Label) → AreLabels before → IsSnakeCase l.name → ¬ (Contains (label_names before) l.name) → ls ≡ before ++ l ∷ [] → AreLabels ls
 AreLabels-named before ls l h snake fresh is =
     subst AreLabels (sym is) (record {
@@ -109,7 +109,7 @@ AreFree-clean : (type : MetricType) (before : List Label) (label : HandedLabel) 
 AreFree-clean type before label (inl none) = subst (λ (l : HandedLabel). AreFree type (written l)) (sym none) tt
 AreFree-clean type before label (inr (n, t, is, fits)) = subst (λ (l : HandedLabel). AreFree type (written l)) (sym is) (fits.free, tt)
 
--- clean labels have no reserved names
+-- valid labels have no reserved names
 pub AreFree-written : (type : MetricType) (before : List Label) (labels : List HandedLabel) → LabelsClean type before labels → AreFree type (all_written labels)
 AreFree-written type before [] clean = tt
 AreFree-written type before (label ∷ labels) clean =
@@ -120,7 +120,7 @@ AreFree-without type [] name h reserved (i, within, is) = absurd (omega arith)
 AreFree-without type (x ∷ before) name h reserved (zero, within, is) = h.0 (subst (IsReserved type) (sym is) reserved)
 AreFree-without type (x ∷ before) name h reserved (suc i, within, is) = AreFree-without type before name h.1 reserved (i, omega arith, is)
 
--- a label of a name that the type keeps for labels of its own, behind the common labels
+-- a label with a name that the type reserves, after the common labels
 pub AreLabels-own : (type : MetricType) (before ls : List Label) (l : Label) → AreLabels before → AreFree type before → IsReserved type l.name → IsLabelName l.name → ls ≡ before ++ l ∷ [] → AreLabels ls
 AreLabels-own type before ls l h free reserved valid is =
     subst AreLabels (sym is) (record {

@@ -1,4 +1,4 @@
--- For label sets of a user's own: labels that are handed over one after the other, each of which declares no error of its own.
+-- For label sets of a user's own: labels that are emitted one after the other, each of which declares no error of its own.
 use Rattle.std.proofs.Common.{◌≡◌, ◌⊎◌, inl, inr, List, [], ◌∷◌, Result, Ok}
 use Rattle.fm_encode_error.specs.declared.EncodeError.{EncodeError}
 use Rattle.fm_encoder.specs.Labels.{HandedLabel}

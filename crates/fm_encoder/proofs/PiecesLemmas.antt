@@ -1,4 +1,4 @@
--- Pieces that are handed over one part after the other.
+-- Pieces that are emitted one part after the other.
 use Rattle.std.proofs.Common.{◌≡◌, List, [], ◌∷◌, ◌++◌, None, Result, Ok, Err, inl, inr, refl, sym, ◌∙◌, ap, subst, append_assoc, append-nil}
 use Rattle.std.proofs.lemmas.List.Elements.{Contains-append_left}
 use Rattle.fm_encode_error.specs.declared.EncodeError.{EncodeError}
@@ -55,7 +55,7 @@ HandsPieces-then {xs} {ys} {F} old mid new first r a ok b = record {
   ];
 }
 
--- a first part that answered an error
+-- a first part that returned an error
 pub HandsPieces-stopped : {xs : HandedLabel} {F : Type 0} (ys : HandedLabel) (old new : GatheredPieces) (e : EncodeError) → HandsPieces xs F old new (Err e) → HandsPieces (xs ++ ys) F old new (Err e)
 HandsPieces-stopped {xs} ys old new e a = record {
   type_kept = a.type_kept;
@@ -69,7 +69,7 @@ HandsPieces-stopped {xs} ys old new e a = record {
   ];
 }
 
--- a part that may fault only where the whole may
+-- a part that may return an error only if the whole may
 pub HandsPieces-weaker : {xs : HandedLabel} {F G : Type 0} (old new : GatheredPieces) (r : Result (Unit {0}) EncodeError) → (F → G) → HandsPieces xs F old new r → HandsPieces xs G old new r
 HandsPieces-weaker old new r weaker a = record {
   type_kept = a.type_kept;
@@ -80,7 +80,7 @@ HandsPieces-weaker old new r weaker a = record {
   refused = a.refused;
 }
 
--- nothing is handed over
+-- nothing is emitted
 pub HandsPieces-nothing : {F : Type 0} (g : GatheredPieces) → HandsPieces [] F g g (Ok tt)
 HandsPieces-nothing g = record {
   type_kept = refl;

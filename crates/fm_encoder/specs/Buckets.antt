@@ -32,7 +32,7 @@ HasTotals type of_count of_sum =
 abbrev pub slots_of : {E : Type 0} → (E → List HandedExemplar) → List (Option (Bor E)) → List (List HandedExemplar)
 slots_of exemplars = map (λ slot. option_map_or (λ e. exemplars e.now) slot [])
 
--- the exemplar of some slot may answer an error of its own
+-- the source of some slot may return an error of its own
 abbrev pub MaySlotsFault : {E : Type 0} → (E → Type 0) → List (Option (Bor E)) → Type 0
 MaySlotsFault may_fault slots = (slot : _) × Contains slots slot × MatchOption slot ⊥ (λ e. may_fault e.now)
 
@@ -47,7 +47,7 @@ pub record BeginsBuckets (type : MetricType) (buckets slots : ℕ) (old new : Ga
   pub refused : (k : EncodeError) → old.refused ≡ None → new.refused ≡ Some k →
       ((k ≡ KindMismatch) × (¬ (type ≡ old.setting.metric_type))) ⊎ (((k ≡ ExemplarCountMismatch) × (¬ (slots ≡ buckets))) ⊎ (old.deferred ≡ Some k))
 
--- One bucket's sample more, which shows how many values there are up to it, or why there is none.
+-- One more sample of a bucket, which shows how many values there are up to it, or why there is none.
 pub record PushesBucket (before : ℕ) (bucket : Bucket) (exemplars : List HandedExemplar) (MayFault : Type 0) (old new : GatheredPoints) (result : Result ℕ EncodeError) : Type 0 where
   pub place : SamePlace old new
   pub answered : MatchResult result
@@ -57,7 +57,7 @@ pub record PushesBucket (before : ℕ) (bucket : Bucket) (exemplars : List Hande
       (λ k. (new.refused ≡ Some k)
       × (OwnRefusal MayFault k ⊎ (((k ≡ BucketOverflow) × (2 ^ 64 ≤ before + bucket.count)) ⊎ ExemplarFault k exemplars)))
 
--- The samples of buckets more, or why there are none.
+-- Further samples of buckets, or why there are none.
 pub record PushesBuckets (buckets : List Bucket) (slots : List (List HandedExemplar)) (MayFault : Type 0) (old new : GatheredPoints) : Type 0 where
   pub place : SamePlace old new
   pub fits : new.refused ≡ None → values_in buckets < 2 ^ 64

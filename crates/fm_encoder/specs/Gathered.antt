@@ -8,7 +8,7 @@ use Rattle.fm_writer.specs.Output.{Output}
 use Rattle.fm_encoder.specs.Labels.{HandedLabel}
 use Rattle.fm_encoder.specs.Points.{Setting, Context}
 
--- a label encoder: the labels before, and the pieces of the label under way
+-- a label encoder: the labels before, and the pieces of the current label
 pub record GatheredPieces : Type 0 where
   pub metric_type : MetricType
   pub labels : List Label
@@ -31,7 +31,7 @@ pub record GatheredExemplars : Type 0 where
   pub exemplars : List Exemplar
   pub refused : Option EncodeError
 
--- a point encoder; a refusal of the common labels waits in `deferred` for the next point, and `output` is what its sink made of
+-- a point encoder; a refusal of the common labels is kept in `deferred` until the next point, and `output` is what its sink made of
 -- the samples so far
 pub record GatheredPoints : Type 0 where
   pub setting : Setting
@@ -46,20 +46,20 @@ pub record GatheredMembers : Type 0 where
   pub output : Output
   pub refused : Option EncodeError
 
--- what an encoder's own call answers: the first refusal, for good
+-- what an encoder's own call returns: the first refusal, from then on
 abbrev pub result_of : Option EncodeError → Result (Unit {0}) EncodeError
 result_of None = Ok tt
 result_of (Some k) = Err k
 
--- the refusal that an encoder makes of an error that what it visited answered of itself
+-- the refusal that an encoder makes of a source's own error
 abbrev pub own_refusal : EncodeError → EncodeError
 own_refusal Memory = Memory
 own_refusal _ = MetricFault
 
--- an encoder refused so: for want of memory, or since what it visited may answer errors of its own
+-- why an encoder refuses a source's own error: want of memory, or the source may return errors of its own
 abbrev pub OwnRefusal : Type 0 → EncodeError → Type 0
 OwnRefusal MayFault k = (k ≡ Memory) ⊎ ((k ≡ MetricFault) × MayFault)
 
--- an error of what was visited, where nothing was refused
+-- an error of the visited source, if nothing was refused
 abbrev pub OwnError : Type 0 → EncodeError → Type 0
 OwnError MayFault e = (e ≡ Memory) ⊎ MayFault

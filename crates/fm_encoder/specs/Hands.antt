@@ -1,7 +1,7 @@
--- What is promised of those that write to encoders. Each record says: an encoder that had refused is as it was. Where
--- nothing is refused, `Ok` means that the parts were handed over whole and are clean, and an error is want of memory or
--- one that was declared. What is refused is want of memory, a declared error, or a fault that stands in the parts.
--- Of the answer nothing is said once something is refused: a metric may lie, and breaks no document.
+-- What sources promise when they write to encoders. Each record says: an encoder that has refused something does not change. If
+-- nothing is refused, `Ok` means that all parts were emitted and are valid, and an error is `Memory` or a declared one.
+-- A refusal is for want of memory, for a declared error, or for a fault in the parts. Once something is refused, nothing
+-- is said of the result: a metric may return anything, and no document becomes invalid.
 use Rattle.std.specs.Prelude.{◌≡◌, ◌≤◌, List, [], ◌∷◌, ◌++◌, map, length, Contains, Some, None, Result, Ok, Err, ◌⊎◌}
 use Rattle.std.specs.List.{AllByRecursion, flat_map}
 use Rattle.fm_grammar.specs.Exposition.{Value, Sample}
@@ -12,7 +12,7 @@ use Rattle.fm_encoder.specs.Labels.{HandedLabel, PieceFault, LabelsFault, Labels
 use Rattle.fm_encoder.specs.Points.{HandedExemplar, ExemplarPartsClean, ExemplarPartsFault, written_as, Point, PointClean, HeadFault, PartsFault, point_samples, Member, MembersClean, MembersFault, members_samples}
 use Rattle.fm_encoder.specs.Gathered.{GatheredPieces, GatheredLabels, GatheredNumbers, GatheredExemplars, GatheredPoints, GatheredMembers, OwnRefusal, OwnError}
 
--- of what hands these pieces of a label to a label encoder
+-- these pieces of a label are emitted to a label encoder
 pub record HandsPieces (pieces : HandedLabel) (MayFault : Type 0) (old new : GatheredPieces) (result : Result (Unit {0}) EncodeError) : Type 0 where
   pub type_kept : new.metric_type ≡ old.metric_type
   pub labels_kept : new.labels ≡ old.labels
@@ -21,7 +21,7 @@ pub record HandsPieces (pieces : HandedLabel) (MayFault : Type 0) (old new : Gat
   pub own : (e : EncodeError) → new.refused ≡ None → result ≡ Err e → OwnError MayFault e
   pub refused : (k : EncodeError) → old.refused ≡ None → new.refused ≡ Some k → (k ≡ Memory) ⊎ PieceFault k old.metric_type old.labels (old.pieces ++ pieces)
 
--- of what hands these labels to a label set encoder
+-- these labels are emitted to a label set encoder
 pub record HandsLabels (labels : List HandedLabel) (MayFault : Type 0) (old new : GatheredLabels) (result : Result (Unit {0}) EncodeError) : Type 0 where
   pub type_kept : new.metric_type ≡ old.metric_type
   pub kept : (k : EncodeError) → old.refused ≡ Some k → new ≡ old
@@ -30,14 +30,14 @@ pub record HandsLabels (labels : List HandedLabel) (MayFault : Type 0) (old new 
   pub own : (e : EncodeError) → new.refused ≡ None → result ≡ Err e → OwnError MayFault e
   pub refused : (k : EncodeError) → old.refused ≡ None → new.refused ≡ Some k → OwnRefusal MayFault k ⊎ LabelsFault k old.metric_type old.labels labels
 
--- of what hands these numbers to a value encoder
+-- these numbers are emitted to a value encoder
 pub record HandsNumbers (numbers : List Value) (MayFault : Type 0) (old new : GatheredNumbers) (result : Result (Unit {0}) EncodeError) : Type 0 where
   pub kept : (k : EncodeError) → old.refused ≡ Some k → new ≡ old
   pub handed : old.refused ≡ None → new.refused ≡ None → result ≡ Ok tt → new.numbers ≡ old.numbers ++ numbers
   pub own : (e : EncodeError) → new.refused ≡ None → result ≡ Err e → OwnError MayFault e
   pub refused : (k : EncodeError) → old.refused ≡ None → new.refused ≡ Some k → (k ≡ ValueTwice) × (2 ≤ length (old.numbers ++ numbers))
 
--- of what hands these exemplars to an exemplar encoder
+-- these exemplars are emitted to an exemplar encoder
 pub record HandsExemplars (exemplars : List HandedExemplar) (MayFault : Type 0) (old new : GatheredExemplars) (result : Result (Unit {0}) EncodeError) : Type 0 where
   pub kept : (k : EncodeError) → old.refused ≡ Some k → new ≡ old
   pub clean : old.refused ≡ None → new.refused ≡ None → result ≡ Ok tt → AllByRecursion ExemplarPartsClean exemplars
@@ -51,8 +51,7 @@ abbrev pub PointsClean : GatheredPoints → List Point → Type 0
 PointsClean g [] = Unit {0}
 PointsClean g (point ∷ points) = (g.deferred ≡ None) × PointClean g.setting g.common point × PointsClean g points
 
--- the fault stands in a point: in its type or the number of its slots, in the common labels, or, where these are clean, in its
--- parts
+-- the fault is in a point: in its type or the number of its slots, in the common labels, or, if these are valid, in its parts
 abbrev pub PointFaultHere : EncodeError → GatheredPoints → Point → Type 0
 PointFaultHere k g point =
     HeadFault k g.setting point ⊎ ((g.deferred ≡ Some k) ⊎ ((g.deferred ≡ None) × PartsFault k g.setting g.common point))
@@ -70,7 +69,7 @@ pub record SamePlace (old new : GatheredPoints) : Type 0 where
   pub common : new.common ≡ old.common
   pub deferred : new.deferred ≡ old.deferred
 
--- of what hands over points to a point encoder: some list of points that it admits
+-- some admitted list of points is emitted to a point encoder
 pub record HandsPoints (Admitted : List Point → Type 0) (MayFault : Type 0) (old new : GatheredPoints) (result : Result (Unit {0}) EncodeError) : Type 0 where
   pub place : SamePlace old new
   pub kept : (k : EncodeError) → old.refused ≡ Some k → new ≡ old
@@ -78,7 +77,7 @@ pub record HandsPoints (Admitted : List Point → Type 0) (MayFault : Type 0) (o
   pub own : (e : EncodeError) → new.refused ≡ None → result ≡ Err e → OwnError MayFault e
   pub refused : (k : EncodeError) → old.refused ≡ None → new.refused ≡ Some k → OwnRefusal MayFault k ⊎ ((points : List Point) × Admitted points × PointsFault k old points)
 
--- of what offers members to a metric encoder: some list of members that it admits
+-- some admitted list of members is offered to a metric encoder
 pub record HandsMembers (Admitted : List Member → Type 0) (MayFault : Type 0) (old new : GatheredMembers) (result : Result (Unit {0}) EncodeError) : Type 0 where
   pub context : new.context ≡ old.context
   pub kept : (k : EncodeError) → old.refused ≡ Some k → new ≡ old
@@ -94,7 +93,7 @@ members_of ls = map (λ p. record { labels = ls; point = p })
 abbrev pub MembersOf : List HandedLabel → (List Point → Type 0) → List Member → Type 0
 MembersOf labels Admitted members = (points : List Point) × Admitted points × (members ≡ members_of labels points)
 
--- the members of these pairs of a label set and what hands over points, in order
+-- the members of these pairs of a label set and a source of points, in order
 abbrev pub OffersOf : {S M : Type 0} → (S → List HandedLabel) → (M → List Point → Type 0) → List (S × M) → List Member → Type 0
 OffersOf labels Points [] members = members ≡ []
 OffersOf labels Points (pair ∷ pairs) members =

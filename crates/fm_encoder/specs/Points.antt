@@ -1,4 +1,4 @@
--- Points and members as they are handed over, when they are clean, which fault stands in them, and their samples.
+-- Points and members as they are emitted, when they are valid, which faults they can have, and their samples.
 use Rattle.std.specs.Prelude.{◌≡◌, ◌≤◌, ◌<◌, ◌/◌, ◌^◌, ℕ, ℤ, pos, Bool, List, [], ◌∷◌, ◌++◌, map, length, sum_by, Contains, Option, Some, None, ◌⊎◌, if◌then◌else◌, codes}
 use Rattle.std.specs.List.{AllByRecursion, flat_map}
 use Rattle.std.specs.Option.{option_to_list}
@@ -23,15 +23,15 @@ use Rattle.fm_encoder.specs.Labels.{HandedLabel, LabelsFault, LabelsClean, all_w
 abbrev pub millis : Duration → ℕ
 millis duration = as_nanos duration / 1000000
 
--- an exemplar as it is handed over; its value is in millionths, its time in milliseconds
+-- an exemplar as it is emitted; its value is in millionths, its time in milliseconds
 pub record HandedExemplar : Type 0 where
   pub labels : List HandedLabel
   pub value : ℤ
   pub time : Option ℕ
 
--- A point as it is handed over. A value is the list of the numbers that its object wrote, an exemplar the list of the
--- exemplars that its object wrote, a time of creation is in milliseconds. Buckets have their own counts, and each a slot for
--- an exemplar; behind them come how many values there are, and the values' sum in millionths. A summary has quantiles, the values' sum,
+-- A point as it is emitted. A value is the list of the numbers that its source wrote, an exemplar the list of the
+-- exemplars that its source wrote, a time of creation is in milliseconds. Buckets have their own counts, and each a slot for
+-- an exemplar; after them come how many values there are, and the values' sum in millionths. A summary has quantiles, the values' sum,
 -- and how many there are.
 pub data Point : Type 0 where
   UnknownPoint : List Value → Point
@@ -48,13 +48,13 @@ pub record Member : Type 0 where
   pub labels : List HandedLabel
   pub point : Point
 
--- what the points of a metric are written under: the family's printed name, its type, and its timestamp in milliseconds
+-- the setting of a metric's points: the family's printed name, its type, and its timestamp in milliseconds
 pub record Setting : Type 0 where
   pub name : Text
   pub metric_type : MetricType
   pub time : Option ℕ
 
--- what the members of a metric are written under: the same, and the constant labels
+-- the context of a metric's members: the same, and the constant labels
 pub record Context : Type 0 where
   pub setting : Setting
   pub constants : List Label
@@ -70,7 +70,7 @@ type_of (HistogramPoint buckets slots count sum created) = Histogram
 type_of (GaugeHistogramPoint buckets slots count sum) = GaugeHistogram
 type_of (SummaryPoint quantiles sum count created) = Summary
 
--- a value object wrote just one number
+-- the source of a value wrote exactly one number
 abbrev pub NumberClean : List Value → Type 0
 NumberClean numbers = (number : Value) × (numbers ≡ number ∷ [])
 
@@ -79,7 +79,7 @@ NumberFault MissingValue numbers = numbers ≡ []
 NumberFault ValueTwice numbers = 2 ≤ length numbers
 NumberFault _ numbers = ⊥
 
--- What stands in one exemplar: clean labels of at most 128 code points. Exemplar labels have no reserved names, as those of an
+-- The parts of one exemplar: valid labels of at most 128 code points. Exemplar labels have no reserved names, as those of an
 -- unknown metric have none.
 abbrev pub ExemplarPartsClean : HandedExemplar → Type 0
 ExemplarPartsClean exemplar = LabelsClean Unknown [] exemplar.labels × (label_code_points (all_written exemplar.labels) ≤ 128)
@@ -87,7 +87,7 @@ ExemplarPartsClean exemplar = LabelsClean Unknown [] exemplar.labels × (label_c
 abbrev pub ExemplarPartsFault : EncodeError → HandedExemplar → Type 0
 ExemplarPartsFault k exemplar = LabelsFault k Unknown [] exemplar.labels ⊎ ((k ≡ ExemplarTooLong) × (128 < label_code_points (all_written exemplar.labels)))
 
--- an exemplar object wrote nothing, or one clean exemplar
+-- the source of an exemplar wrote nothing, or one valid exemplar
 abbrev pub ExemplarClean : List HandedExemplar → Type 0
 ExemplarClean exemplars =
     (exemplars ≡ []) ⊎ ((exemplar : HandedExemplar) × (exemplars ≡ exemplar ∷ []) × LabelsClean Unknown [] exemplar.labels
@@ -102,7 +102,7 @@ ExemplarFault k exemplars =
 abbrev pub values_in : List Bucket → ℕ
 values_in = sum_by (λ bucket. bucket.count)
 
--- each bucket has a slot, the buckets have fewer than 2^64 values, and each slot is clean
+-- each bucket has a slot, the buckets have fewer than 2^64 values, and each slot is valid
 abbrev pub BucketsClean : List Bucket → List (List HandedExemplar) → Type 0
 BucketsClean buckets slots = (length slots ≡ length buckets) × (values_in buckets < 2 ^ 64) × AllByRecursion ExemplarClean slots
 
@@ -118,7 +118,7 @@ SlotsDiffer (HistogramPoint buckets slots count sum created) = ¬ (length slots 
 SlotsDiffer (GaugeHistogramPoint buckets slots count sum) = ¬ (length slots ≡ length buckets)
 SlotsDiffer _ = ⊥
 
--- what stands in a point of its family's type, under these common labels
+-- the parts of a point of its family's type are valid, under these common labels
 abbrev pub PartsClean : Setting → List Label → Point → Type 0
 PartsClean setting common (UnknownPoint numbers) = NumberClean numbers
 PartsClean setting common (GaugePoint numbers) = NumberClean numbers
@@ -139,20 +139,20 @@ PartsFault k setting common (HistogramPoint buckets slots count sum created) = B
 PartsFault k setting common (GaugeHistogramPoint buckets slots count sum) = BucketsFault k buckets slots
 PartsFault k setting common (SummaryPoint quantiles sum count created) = ⊥
 
--- the fault stands in the point, whatever its labels are: in its type, or in the number of its slots
+-- the fault is in the point, whatever its labels are: in its type, or in the number of its slots
 abbrev pub HeadFault : EncodeError → Setting → Point → Type 0
 HeadFault k setting point =
     ((k ≡ KindMismatch) × (¬ (type_of point ≡ setting.metric_type))) ⊎ ((k ≡ ExemplarCountMismatch) × SlotsDiffer point)
 
--- the fault stands in the point
+-- the fault is in the point
 abbrev pub PointFault : EncodeError → Setting → List Label → Point → Type 0
 PointFault k setting common point = HeadFault k setting point ⊎ PartsFault k setting common point
 
--- an exemplar as it stands on a sample
+-- an exemplar as a sample has it
 abbrev pub written_as : HandedExemplar → Exemplar
 written_as handed = record { labels = all_written handed.labels; value = handed.value; time = handed.time }
 
--- the exemplar that stands on a sample
+-- the exemplar that a sample has, if any
 abbrev pub written_exemplar : List HandedExemplar → Option Exemplar
 written_exemplar [] = None
 written_exemplar (handed ∷ more) = Some (written_as handed)
@@ -167,7 +167,7 @@ module _ (setting : Setting) (common : List Label) where
   abbrev pub plain_sample : SampleKind → List Label → Value → Sample
   plain_sample k own v = record { kind = k; labels = common ++ own; value = v; time = setting.time; exemplar = None }
 
-  -- a `Created` sample, where there is one
+  -- a `Created` sample, if there is one
   abbrev pub created_samples : Option ℕ → List Sample
   created_samples created = map (λ t. plain_sample Created [] (Millis t)) (option_to_list created)
 
@@ -179,7 +179,7 @@ module _ (setting : Setting) (common : List Label) where
   state_sample state =
       plain_sample Plain (record { name = setting.name; value = state.0 } ∷ []) (Whole (pos (if state.1 then 1 else 0)))
 
-  -- a sample that shows so many values up to the bound
+  -- a sample that shows this number of values up to the bound
   abbrev pub bucket_line : Bound → ℕ → List HandedExemplar → Sample
   bucket_line bound values exemplars =
       record (plain_sample BucketKind (bound_label bound ∷ []) (Whole (pos values))) { exemplar = written_exemplar exemplars }
@@ -204,7 +204,7 @@ module _ (setting : Setting) (common : List Label) where
   quantile_sample q =
       plain_sample Plain (record { name = codes "quantile"; value = fixed_text q.quantile } ∷ []) (Fixed q.value)
 
-  -- the samples of a clean point, in order
+  -- the samples of a valid point, in order
   abbrev pub point_samples : Point → List Sample
   point_samples (UnknownPoint numbers) = map (plain_sample Plain []) numbers
   point_samples (GaugePoint numbers) = map (plain_sample Plain []) numbers
@@ -219,13 +219,13 @@ module _ (setting : Setting) (common : List Label) where
   point_samples (SummaryPoint quantiles sum count created) =
       map quantile_sample quantiles ++ (total_samples Count Sum count sum ++ created_samples created)
 
--- the point has its family's type, its parts are clean, and its samples are well formed
+-- the point has its family's type, its parts are valid, and its samples are well formed
 pub record PointClean (setting : Setting) (common : List Label) (point : Point) : Type 0 where
   pub type : type_of point ≡ setting.metric_type
   pub parts : PartsClean setting common point
   pub formed : AllByRecursion (IsSample setting.metric_type) (point_samples setting common point)
 
--- the labels that stand first in each sample of a member: the constant ones, and then the member's
+-- the labels that come first in each sample of a member: the constant ones, and then the member's
 abbrev pub common_handed : Context → Member → List HandedLabel
 common_handed context member = handed_again context.constants ++ member.labels
 
@@ -237,7 +237,7 @@ MemberClean context member =
     LabelsClean context.setting.metric_type [] (common_handed context member)
     × PointClean context.setting (common_written context member) member.point
 
--- the fault stands in the member
+-- the fault is in the member
 abbrev pub MemberFault : EncodeError → Context → Member → Type 0
 MemberFault k context member =
     LabelsFault k context.setting.metric_type [] (common_handed context member)
@@ -246,7 +246,7 @@ MemberFault k context member =
 abbrev pub MembersClean : Context → List Member → Type 0
 MembersClean context = AllByRecursion (MemberClean context)
 
--- the fault stands in one of the members
+-- the fault is in one of the members
 abbrev pub MembersFault : EncodeError → Context → List Member → Type 0
 MembersFault k context [] = ⊥
 MembersFault k context (member ∷ members) = MemberFault k context member ⊎ MembersFault k context members
@@ -254,6 +254,6 @@ MembersFault k context (member ∷ members) = MemberFault k context member ⊎ M
 abbrev pub member_samples : Context → Member → List Sample
 member_samples context member = point_samples context.setting (common_written context member) member.point
 
--- the samples of a clean offer, member by member
+-- the samples of a valid offer, member by member
 abbrev pub members_samples : Context → List Member → List Sample
 members_samples context = flat_map (member_samples context)

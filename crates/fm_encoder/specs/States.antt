@@ -1,4 +1,4 @@
--- A state as it is handed over: its text, and whether it is on.
+-- A state as it is emitted: its text, and whether it is on.
 use Rattle.std.specs.Prelude.{Bool}
 use Rattle.std.specs.Borrow.{Bor}
 use Rattle.fm_grammar.specs.Exposition.{Text}

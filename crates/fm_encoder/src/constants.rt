@@ -25,7 +25,7 @@ fn copied(alloc: Global, labels: &[(String, String)]) -> Result<LabelText, Alloc
     Ok(text)
 }
 
-// Copies of the labels, where each of them may stand in a family of this type.
+// Copies of the labels, if each of them is allowed in a family of this type.
 fn tested(
     alloc: Global,
     metric_type: MetricType,
@@ -46,7 +46,7 @@ fn tested(
 pub(crate) struct ConstantLabels {
     metric_type: MetricType,
     labels: LabelText,
-    // Why no point may stand under them, where one of them isn't clean.
+    // Why no point is accepted under them, if one of them is not valid.
     refusal: Option<EncodeError>,
 }
 
@@ -88,8 +88,8 @@ impl ConstantLabels {
         }
     }
 
-    // Goes on to a family of this type under these labels, which are tested unless they are those of the family before and its type is the
-    // same. It may find no memory; then nothing changes.
+    // Goes on to a family of this type under these labels. They are tested, unless the family before has the same labels and the same
+    // type. Fails if memory runs out, and then changes nothing.
     pub(crate) fn begin(
         &mut self,
         alloc: Global,
@@ -106,7 +106,7 @@ impl ConstantLabels {
         Ok(())
     }
 
-    // Puts the constant labels and these behind them in place of the encoder's own, each of them clean.
+    // Replaces the encoder's labels by the constant labels, followed by these. All of them are valid.
     pub(crate) fn followed_by<LS: EncodeLabelSet>(
         &self,
         encoder: &mut LabelSetEncoder,

@@ -1,4 +1,4 @@
-//! Exemplars: what hands them over, and the encoder that takes one.
+//! Exemplars: what emits them, and the encoder that takes one of them.
 ghost use Rattle.std.specs.Prelude.{◌≡◌, ◌^◌, ◌⊎◌, List, [], ◌∷◌, MatchResult, MatchOption, Option, IfSome, None, Some, Err};
 ghost use Rattle.std.specs.Option.{option_map, option_map_or};
 ghost use Rattle.fm_grammar.specs.declared.MetricType.TheVariants.{Unknown};
@@ -26,15 +26,15 @@ mod labeled;
 
 pub use labeled::LabeledExemplar;
 
-/// Something that hands over an exemplar, or none.
+/// A source of an exemplar, or of none.
 pub trait EncodeExemplar {
-    /// The exemplars that `encode` hands over, at most one in a point that is not refused.
+    /// The exemplars that `encode` emits. A point whose source emits more than one is refused.
     ghost exemplars: { Self → List HandedExemplar };
 
-    /// `encode` may answer an error of its own other than `Memory`.
+    /// `encode` may return an error of its own other than `Memory`.
     ghost may_fault: { Self → Type 0 } = { λ _. ⊥ };
 
-    /// Hands the exemplar to the encoder.
+    /// Passes the exemplar to the encoder.
     fn encode(&self, encoder: &mut ExemplarEncoder) -> Result<(), EncodeError>
         ensures { HandsExemplars (exemplars self.now) (may_fault self.now) encoder.old encoder.new result };
 }
@@ -83,11 +83,12 @@ impl ExemplarEncoder {
         Err(error)
     }
 
-    /// Takes the exemplar: its labels, the value of the observation, and when it was made, of which whole milliseconds are
-    /// written. The labels are always read.
+    /// Takes the exemplar: its labels, the observed value, and when it was observed, since the Unix epoch. The time is written in
+    /// whole milliseconds. The labels are read even if their `is_empty` returns true.
     ///
-    /// It is refused, in this order, as `ExemplarTwice` after another exemplar, then for its labels, which have no reserved
-    /// names, and as `ExemplarTooLong` where their names and values have more than 128 code points together. It may find no memory.
+    /// Errors, in this order: the encoder already has an exemplar (`ExemplarTwice`); the errors of its labels, of which no name
+    /// is reserved; their names and values together have more than 128 code points (`ExemplarTooLong`). Fails with `Memory` if
+    /// memory runs out.
     pub fn encode<LS: EncodeLabelSet>(
         &mut self,
         labels: &LS,
@@ -132,7 +133,7 @@ fn exemplar_from<LS: EncodeLabelSet>(
     Ok(make::exemplar(written, in_range(value), whole_millis(time)))
 }
 
-// The same value, of which the range is known.
+// The same value, whose range is known.
 #[tactic(auto, using(crate::proofs::ExemplarLemmas::between_of_signed))]
 fn in_range(value: Fixed) -> Fixed
     ensures same { result ≡ value }
@@ -141,7 +142,7 @@ fn in_range(value: Fixed) -> Fixed
     Fixed::from_millionths(value.millionths())
 }
 
-// The whole milliseconds of a time, where there is one.
+// The whole milliseconds of a time, if there is one.
 fn whole_millis(time: Option<Duration>) -> Option<u128>
     ensures whole { result ≡ option_map millis time }
     ensures fit { IfSome result AreMillis }
@@ -152,7 +153,7 @@ fn whole_millis(time: Option<Duration>) -> Option<u128>
     }
 }
 
-// The labels that a label set hands over to an exemplar.
+// The labels that a label set emits, for an exemplar.
 fn written_labels<LS: EncodeLabelSet>(
     alloc: Global,
     labels: &LS,
@@ -168,7 +169,7 @@ fn written_labels<LS: EncodeLabelSet>(
     Ok(owned_labels(alloc, &pairs)?)
 }
 
-// The exemplar that an exemplar object hands over, if it hands one over.
+// The exemplar that a source emits, if it emits one.
 pub(crate) fn exemplar_given<E: EncodeExemplar>(
     alloc: Global,
     exemplar: &E,
@@ -197,7 +198,7 @@ pub(crate) fn exemplar_given<E: EncodeExemplar>(
     }
 }
 
-// The same of an exemplar that may be missing.
+// The same for a source that may be missing.
 pub(crate) fn exemplar_if_any<E: EncodeExemplar>(
     alloc: Global,
     exemplar: Option<&E>,

@@ -1,4 +1,4 @@
-// Labels that are gathered behind others.
+// Labels that are gathered after other labels.
 ghost use Rattle.std.specs.Prelude.{◌≡◌, ◌⊎◌, ◌++◌, [], ◌∷◌, None, OnOk, MatchResult, ◌≤◌, length, drop, map, IfOk};
 ghost use Rattle.fm_exposition.specs.Samples.{shown_label};
 ghost use Rattle.fm_encoder.specs.Labels.{LabelsClean, LabelsFault, all_written};
@@ -23,7 +23,7 @@ pub(crate) fn push_label(text: &mut LabelText, name: &str, value: &str) -> Resul
     text.end_label()
 }
 
-// Puts copies of the labels before in place of the encoder's own, and behind them those that a label set hands over.
+// Replaces the encoder's labels by copies of the labels before, followed by those that a label set emits.
 pub(crate) fn labels_behind<LS: EncodeLabelSet>(
     encoder: &mut LabelSetEncoder,
     before: &LabelText,
@@ -46,7 +46,7 @@ pub(crate) fn labels_behind<LS: EncodeLabelSet>(
     encoder.outcome(visited)
 }
 
-// Copies of lent labels, without a test.
+// Copies of borrowed labels, without a test.
 fn lent_labels(alloc: Global, labels: &[(&str, &str)]) -> Result<LabelText, AllocError>
     ensures { IfOk result (λ text. text.labels ≡ map shown_label labels.now) }
 {

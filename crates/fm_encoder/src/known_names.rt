@@ -1,4 +1,4 @@
-// The names of labels that were tested, for the labels of the next member to have without a test.
+// Names of labels that were tested: the labels of the next member may have them without a second test.
 ghost use Rattle.std.specs.Prelude.{◌≡◌, ◌++◌, IsTrue, true, [], ◌∷◌, take, slice_get, string_bytes, Some};
 ghost use Rattle.fm_encoder.specs.inside.KnownNames.{MayFollow};
 
@@ -43,7 +43,7 @@ impl KnownNames {
         }
     }
 
-    // Goes on to a family of this type: of another type than before, no names are known.
+    // Goes on to a family of this type. If the type differs from the one before, no names are known.
     pub(crate) fn begin(&mut self, metric_type: MetricType)
         ensures { self.new.metric_type ≡ metric_type }
     {
@@ -64,8 +64,8 @@ impl KnownNames {
         }
     }
 
-    // Puts a name after the first ones, in place of all that follow these, if it is known that the labels have those. Returns whether it is
-    // there, which it is not where there is no memory for it.
+    // Replaces all names after the first ones by this name, if it is known that the labels have the first ones. Returns whether the name
+    // is there: it is not if memory runs out.
     #[cold]
     #[tactic(auto, using(crate::proofs::KnownNamesLemmas::tested_first, crate::proofs::KnownNamesLemmas::tested_learnt, crate::proofs::KnownNamesLemmas::learnt_names))]
     pub(crate) fn learn(&mut self, is_known: bool, count: usize, name: &str) -> bool

@@ -1,4 +1,4 @@
-//! Labels: what hands them over, and the encoders that gather them.
+//! Labels: what emits them, and the encoders that gather them.
 ghost use Rattle.std.specs.Prelude.{◌≡◌, ◌↔◌, IsTrue, IfOk, ℕ, List, [], ◌∷◌, ◌++◌, Bool, ◌⊎◌, Some, None, Ok, Err, OnOk, MatchResult};
 ghost use Rattle.fm_encode_error.specs.declared.EncodeError.{EncodeError};
 ghost use Rattle.fm_encoder.specs.Labels.{HandedLabel, NamePiece, ValuePiece, written};
@@ -16,31 +16,31 @@ use fm_writer::LabelText;
 use std::alloc::{AllocError, Global};
 use std::marker::Model;
 
-/// Something that hands over the name of a label.
+/// A source of the name of a label.
 pub trait EncodeLabelName {
-    /// The pieces that `encode` hands over, mostly one name.
+    /// The pieces that `encode` emits: mostly one name.
     ghost pieces: { Self → HandedLabel };
 
-    /// `encode` may answer an error of its own other than `Memory`.
+    /// `encode` may return an error of its own other than `Memory`.
     ghost may_fault: { Self → Type 0 } = { λ _. ⊥ };
 
-    /// Hands the name to the encoder, by `encode_label_name`.
+    /// Passes the name to the encoder by `encode_label_name`.
     fn encode(&self, encoder: &mut LabelEncoder) -> Result<(), EncodeError>
         ensures { HandsPieces (pieces self.now) (may_fault self.now) encoder.old encoder.new result };
 }
 
-/// Something that hands over the value of a label.
+/// A source of the value of a label.
 pub trait EncodeLabelValue {
-    /// The pieces that `encode` hands over, mostly one value.
+    /// The pieces that `encode` emits: mostly one value.
     ghost pieces: { Self → HandedLabel };
 
-    /// `encode` may answer an error of its own other than `Memory`.
+    /// `encode` may return an error of its own other than `Memory`.
     ghost may_fault: { Self → Type 0 } = { λ _. ⊥ };
 
     /// A label with this value is left out.
     ghost is_skipped: { Self → Bool };
 
-    /// Hands the value to the encoder, by one of its value calls.
+    /// Passes the value to the encoder by one of its `encode_.._value` calls.
     fn encode(&self, encoder: &mut LabelEncoder) -> Result<(), EncodeError>
         ensures { HandsPieces (pieces self.now) (may_fault self.now) encoder.old encoder.new result };
 
@@ -49,20 +49,20 @@ pub trait EncodeLabelValue {
         ensures { result ≡ is_skipped self.now };
 }
 
-/// Something that hands over a label.
+/// A source of a label.
 pub trait EncodeLabel {
-    /// The pieces that `encode` hands over: a name and a value, or nothing for a label that is left out.
+    /// The pieces that `encode` emits: a name and a value, or nothing for a label that is left out.
     ghost pieces: { Self → HandedLabel };
 
-    /// `encode` may answer an error of its own other than `Memory`.
+    /// `encode` may return an error of its own other than `Memory`.
     ghost may_fault: { Self → Type 0 } = { λ _. ⊥ };
 
-    /// Hands the label to the encoder.
+    /// Passes the label to the encoder.
     fn encode(&self, encoder: &mut LabelEncoder) -> Result<(), EncodeError>
         ensures { HandsPieces (pieces self.now) (may_fault self.now) encoder.old encoder.new result };
 }
 
-/// Gathers the pieces of one label behind the labels before it.
+/// Gathers the pieces of one label, which follows the labels before it.
 #[derive(Drop)]
 pub struct LabelEncoder {
     metric_type: MetricType,
@@ -91,7 +91,7 @@ impl Model for LabelEncoder {
 }
 
 impl LabelEncoder {
-    // Takes copies of these labels in place of its own, as if nothing had been refused. It may find no memory; then it has any labels.
+    // Replaces its labels by copies of these, as if nothing had been refused. If memory runs out, nothing is known of its labels.
     fn restart(&mut self, before: &LabelText) -> Result<(), AllocError>
         ensures type_kept { self.new.metric_type ≡ self.old.metric_type }
         ensures accepting { self.new.refused ≡ None }
@@ -122,9 +122,9 @@ impl LabelEncoder {
         Err(error)
     }
 
-    /// Takes the label's name. It is refused, in this order, as `MalformedLabel` behind another piece, as
-    /// `InvalidLabelName` where it is no label name, as `ReservedLabel` where the metric's type keeps it for itself,
-    /// and as `DuplicateLabel` where a label before has it. It may find no memory.
+    /// Takes the label's name. Errors, in this order: the label already has a piece (`MalformedLabel`); the name is not a valid
+    /// label name (`InvalidLabelName`); the metric's type reserves the name for its own labels (`ReservedLabel`); an earlier
+    /// label has the name (`DuplicateLabel`); memory runs out (`Memory`).
     #[tactic(auto, using(crate::proofs::KnownNamesLemmas::fits_known, crate::proofs::KnownNamesLemmas::may_follow, crate::proofs::KnownNamesLemmas::learnt_known, crate::proofs::KnownNamesLemmas::learnt_still))]
     pub fn encode_label_name(&mut self, name: &str) -> Result<(), EncodeError>
         ensures handed { HandsPieces (NamePiece name.now ∷ []) ⊥ self.old self.new result }
@@ -162,8 +162,8 @@ impl LabelEncoder {
         }
     }
 
-    /// Takes the label's value as it is. It is refused as `MalformedLabel` before the name or behind another value,
-    /// and may find no memory.
+    /// Takes the label's value as it is. Fails with `MalformedLabel` if the label has no name yet or already has a value, and
+    /// with `Memory` if memory runs out.
     pub fn encode_str_value(&mut self, value: &str) -> Result<(), EncodeError>
         ensures handed { HandsPieces (ValuePiece value.now ∷ []) ⊥ self.old self.new result }
         ensures answered { result ≡ result_of self.new.refused }
@@ -180,7 +180,7 @@ impl LabelEncoder {
         }
     }
 
-    // Writes the label under way, of which both pieces are there.
+    // Writes the current label, which has both pieces.
     fn write_label(&mut self) -> Result<(), EncodeError>
         requires accepting { self.old.refused ≡ None }
         ensures type_kept { self.new.metric_type ≡ self.old.metric_type }
@@ -195,7 +195,7 @@ impl LabelEncoder {
         }
     }
 
-    // Ends the label under way, where what was visited answered `visited`.
+    // Ends the current label, after the visited source returned `visited`.
     fn end_label(&mut self, visited: Result<(), EncodeError>) -> Result<(), EncodeError>
         ensures ended { EndsLabel visited self.old self.new }
         ensures answered { result ≡ result_of self.new.refused }
@@ -251,7 +251,7 @@ impl LabelSetEncoder {
         }
     }
 
-    // The type of the family that the labels stand in.
+    // The type of the labels' family.
     pub(crate) fn metric_type(&self) -> MetricType
         ensures { result ≡ self.now.metric_type }
     {
@@ -265,7 +265,7 @@ impl LabelSetEncoder {
         &self.label.labels
     }
 
-    // Takes copies of these labels in place of its own, as if nothing had been refused. It may find no memory; then it has any labels.
+    // Replaces its labels by copies of these, as if nothing had been refused. If memory runs out, nothing is known of its labels.
     pub(crate) fn restart(&mut self, before: &LabelText) -> Result<(), AllocError>
         ensures type_kept { self.new.metric_type ≡ self.old.metric_type }
         ensures restarted { OnOk result (self.new ≡ record self.old { labels = before.now.labels; refused = None }) }
@@ -280,8 +280,8 @@ impl LabelSetEncoder {
         self.label.begin(metric_type);
     }
 
-    /// Takes one more label. Beside the refusals of its name, a name without a value is refused as `MalformedLabel`,
-    /// and an error of the label's own as `Memory` or `MetricFault`.
+    /// Takes one more label. Besides the errors of its name and its value: a name without a value is refused as
+    /// `MalformedLabel`, and the label's own error becomes `Memory` or `MetricFault`.
     pub fn encode<L: EncodeLabel>(&mut self, label: &L) -> Result<(), EncodeError>
         ensures handed { HandsLabels (L.pieces label.now ∷ []) (L.may_fault label.now) self.old self.new result }
         ensures answered { result ≡ result_of self.new.refused }
@@ -290,7 +290,7 @@ impl LabelSetEncoder {
         self.label.end_label(visited)
     }
 
-    // The first refusal, where what was visited returned `visited`.
+    // The first refusal, after the visited source returned `visited`.
     pub(crate) fn outcome(&self, visited: Result<(), EncodeError>) -> Result<(), EncodeError>
         ensures { MatchResult result
             (λ _. (self.now.refused ≡ None) × (visited ≡ Ok tt))

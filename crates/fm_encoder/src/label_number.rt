@@ -18,7 +18,7 @@ impl LabelEncoder {
         self.encode_str_value(buffer.format(value))
     }
 
-    /// Takes the number in decimal as the label's value, as `encode_str_value` takes a text.
+    /// Takes the number in decimal as the label's value. It fails as `encode_str_value` does.
     pub fn encode_i8_value(&mut self, value: i8) -> Result<(), EncodeError>
         ensures handed { HandsPieces (ValuePiece (signed_decimal value) ∷ []) ⊥ self.old self.new result }
         ensures answered { result ≡ result_of self.new.refused }
@@ -26,7 +26,7 @@ impl LabelEncoder {
         self.encode_integer_value(value)
     }
 
-    /// Takes the number in decimal as the label's value, as `encode_str_value` takes a text.
+    /// Takes the number in decimal as the label's value. It fails as `encode_str_value` does.
     pub fn encode_i16_value(&mut self, value: i16) -> Result<(), EncodeError>
         ensures handed { HandsPieces (ValuePiece (signed_decimal value) ∷ []) ⊥ self.old self.new result }
         ensures answered { result ≡ result_of self.new.refused }
@@ -34,7 +34,7 @@ impl LabelEncoder {
         self.encode_integer_value(value)
     }
 
-    /// Takes the number in decimal as the label's value, as `encode_str_value` takes a text.
+    /// Takes the number in decimal as the label's value. It fails as `encode_str_value` does.
     pub fn encode_i32_value(&mut self, value: i32) -> Result<(), EncodeError>
         ensures handed { HandsPieces (ValuePiece (signed_decimal value) ∷ []) ⊥ self.old self.new result }
         ensures answered { result ≡ result_of self.new.refused }
@@ -42,7 +42,7 @@ impl LabelEncoder {
         self.encode_integer_value(value)
     }
 
-    /// Takes the number in decimal as the label's value, as `encode_str_value` takes a text.
+    /// Takes the number in decimal as the label's value. It fails as `encode_str_value` does.
     pub fn encode_i64_value(&mut self, value: i64) -> Result<(), EncodeError>
         ensures handed { HandsPieces (ValuePiece (signed_decimal value) ∷ []) ⊥ self.old self.new result }
         ensures answered { result ≡ result_of self.new.refused }
@@ -50,7 +50,7 @@ impl LabelEncoder {
         self.encode_integer_value(value)
     }
 
-    /// Takes the number in decimal as the label's value, as `encode_str_value` takes a text.
+    /// Takes the number in decimal as the label's value. It fails as `encode_str_value` does.
     pub fn encode_i128_value(&mut self, value: i128) -> Result<(), EncodeError>
         ensures handed { HandsPieces (ValuePiece (signed_decimal value) ∷ []) ⊥ self.old self.new result }
         ensures answered { result ≡ result_of self.new.refused }
@@ -58,7 +58,7 @@ impl LabelEncoder {
         self.encode_integer_value(value)
     }
 
-    /// Takes the number in decimal as the label's value, as `encode_str_value` takes a text.
+    /// Takes the number in decimal as the label's value. It fails as `encode_str_value` does.
     pub fn encode_isize_value(&mut self, value: isize) -> Result<(), EncodeError>
         ensures handed { HandsPieces (ValuePiece (signed_decimal value) ∷ []) ⊥ self.old self.new result }
         ensures answered { result ≡ result_of self.new.refused }
@@ -66,7 +66,7 @@ impl LabelEncoder {
         self.encode_integer_value(value)
     }
 
-    /// Takes the number in decimal as the label's value, as `encode_str_value` takes a text.
+    /// Takes the number in decimal as the label's value. It fails as `encode_str_value` does.
     pub fn encode_u8_value(&mut self, value: u8) -> Result<(), EncodeError>
         ensures handed { HandsPieces (ValuePiece (decimal value) ∷ []) ⊥ self.old self.new result }
         ensures answered { result ≡ result_of self.new.refused }
@@ -74,7 +74,7 @@ impl LabelEncoder {
         self.encode_integer_value(value)
     }
 
-    /// Takes the number in decimal as the label's value, as `encode_str_value` takes a text.
+    /// Takes the number in decimal as the label's value. It fails as `encode_str_value` does.
     pub fn encode_u16_value(&mut self, value: u16) -> Result<(), EncodeError>
         ensures handed { HandsPieces (ValuePiece (decimal value) ∷ []) ⊥ self.old self.new result }
         ensures answered { result ≡ result_of self.new.refused }
@@ -82,7 +82,7 @@ impl LabelEncoder {
         self.encode_integer_value(value)
     }
 
-    /// Takes the number in decimal as the label's value, as `encode_str_value` takes a text.
+    /// Takes the number in decimal as the label's value. It fails as `encode_str_value` does.
     pub fn encode_u32_value(&mut self, value: u32) -> Result<(), EncodeError>
         ensures handed { HandsPieces (ValuePiece (decimal value) ∷ []) ⊥ self.old self.new result }
         ensures answered { result ≡ result_of self.new.refused }
@@ -90,7 +90,7 @@ impl LabelEncoder {
         self.encode_integer_value(value)
     }
 
-    /// Takes the number in decimal as the label's value, as `encode_str_value` takes a text.
+    /// Takes the number in decimal as the label's value. It fails as `encode_str_value` does.
     pub fn encode_u64_value(&mut self, value: u64) -> Result<(), EncodeError>
         ensures handed { HandsPieces (ValuePiece (decimal value) ∷ []) ⊥ self.old self.new result }
         ensures answered { result ≡ result_of self.new.refused }
@@ -98,7 +98,7 @@ impl LabelEncoder {
         self.encode_integer_value(value)
     }
 
-    /// Takes the number in decimal as the label's value, as `encode_str_value` takes a text.
+    /// Takes the number in decimal as the label's value. It fails as `encode_str_value` does.
     pub fn encode_u128_value(&mut self, value: u128) -> Result<(), EncodeError>
         ensures handed { HandsPieces (ValuePiece (decimal value) ∷ []) ⊥ self.old self.new result }
         ensures answered { result ≡ result_of self.new.refused }
@@ -106,7 +106,7 @@ impl LabelEncoder {
         self.encode_integer_value(value)
     }
 
-    /// Takes the number in decimal as the label's value, as `encode_str_value` takes a text.
+    /// Takes the number in decimal as the label's value. It fails as `encode_str_value` does.
     pub fn encode_usize_value(&mut self, value: usize) -> Result<(), EncodeError>
         ensures handed { HandsPieces (ValuePiece (decimal value) ∷ []) ⊥ self.old self.new result }
         ensures answered { result ≡ result_of self.new.refused }

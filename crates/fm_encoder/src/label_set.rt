@@ -8,19 +8,19 @@ use crate::label::{EncodeLabel, EncodeLabelName, EncodeLabelValue, LabelSetEncod
 use fm_encode_error::EncodeError;
 use std::collections::{BTreeMap, BTreeSet, LinkedList, VecDeque};
 
-/// Something that hands over a list of labels.
+/// A source of a list of labels.
 pub trait EncodeLabelSet {
-    /// The labels that `encode` hands over, each as its pieces.
+    /// The labels that `encode` emits, each as its pieces.
     ghost labels: { Self → List HandedLabel };
 
-    /// `encode` may answer an error of its own other than `Memory`.
+    /// `encode` may return an error of its own other than `Memory`.
     ghost may_fault: { Self → Type 0 } = { λ _. ⊥ };
 
-    /// Hands the labels to the encoder, one after the other.
+    /// Passes the labels to the encoder, one after the other.
     fn encode(&self, encoder: &mut LabelSetEncoder) -> Result<(), EncodeError>
         ensures { HandsLabels (labels self.now) (may_fault self.now) encoder.old encoder.new result };
 
-    /// Whether it has no labels. A set that says so is not visited.
+    /// Whether it has no labels. If it returns true, the labels are not read.
     fn is_empty(&self) -> bool
         ensures { IsTrue result → labels self.now ≡ [] }
     {
@@ -28,7 +28,7 @@ pub trait EncodeLabelSet {
     }
 }
 
-// Hands over the labels of a slice in order.
+// Emits the labels of a slice in order.
 pub(crate) fn encode_all<T: EncodeLabel>(
     labels: &[T],
     encoder: &mut LabelSetEncoder,
@@ -41,7 +41,7 @@ pub(crate) fn encode_all<T: EncodeLabel>(
     Ok(())
 }
 
-// Hands over written labels again.
+// Emits written labels again.
 pub(crate) fn encode_written(
     labels: &[(String, String)],
     encoder: &mut LabelSetEncoder,

@@ -10,11 +10,11 @@ use crate::label::{EncodeLabel, EncodeLabelName, EncodeLabelValue, LabelEncoder}
 use fm_encode_error::EncodeError;
 use fm_raw::fixed::{Fixed, FixedBuffer, FixedSum};
 
-/// Lends a text as a name or a value of a label.
+/// Borrows a text as a name or a value of a label.
 #[derive(Clone, Copy, Debug, PartialEq, Eq, PartialOrd, Ord, Hash)]
 pub struct LabelStr<'a>(pub &'a str);
 
-/// A text of the program itself as a name or a value of a label. It may stand in a metric that is boxed, where `LabelStr` may not.
+/// A text of the program itself as a name or a value of a label. Unlike `LabelStr` it may be part of a boxed metric.
 #[derive(Clone, Copy, Debug, PartialEq, Eq, PartialOrd, Ord, Hash)]
 pub struct StaticStr(pub &'static str);
 
@@ -134,7 +134,7 @@ impl EncodeLabelValue for Fixed {
     }
 }
 
-/// An option is left out where it is `None`, or where its value is left out.
+/// A label whose value is `None` is left out, and so is one with `Some` of a value that is left out.
 impl<T: EncodeLabelValue> EncodeLabelValue for Option<T> {
     ghost pieces = { λ o. option_map_or T.pieces o [] };
 
@@ -157,7 +157,7 @@ impl<T: EncodeLabelValue> EncodeLabelValue for Option<T> {
     }
 }
 
-/// A label of a name and a value. It hands over nothing where the value is left out.
+/// A label of a name and a value. It emits nothing if the value is left out.
 impl<N: EncodeLabelName, V: EncodeLabelValue> EncodeLabel for (N, V) {
     ghost pieces = { λ p. if V.is_skipped p.1 then [] else N.pieces p.0 ++ V.pieces p.1 };
 
@@ -173,7 +173,7 @@ impl<N: EncodeLabelName, V: EncodeLabelValue> EncodeLabel for (N, V) {
 }
 
 impl LabelEncoder {
-    /// Takes `true` or `false` as the label's value, as `encode_str_value` takes a text.
+    /// Takes the text `true` or `false` as the label's value. It fails as `encode_str_value` does.
     pub fn encode_bool_value(&mut self, value: bool) -> Result<(), EncodeError>
         ensures handed { HandsPieces (ValuePiece (if value then codes "true" else codes "false") ∷ []) ⊥ self.old self.new result }
         ensures answered { result ≡ result_of self.new.refused }
@@ -181,7 +181,7 @@ impl LabelEncoder {
         self.encode_str_value(if value { "true" } else { "false" })
     }
 
-    /// Takes the number with its decimal places as the label's value, as `encode_str_value` takes a text.
+    /// Takes a number of millionths, written in decimal, as the label's value. It fails as `encode_str_value` does.
     pub fn encode_fixed_value(&mut self, value: Fixed) -> Result<(), EncodeError>
         ensures handed { HandsPieces (ValuePiece (fixed_text value) ∷ []) ⊥ self.old self.new result }
         ensures answered { result ≡ result_of self.new.refused }

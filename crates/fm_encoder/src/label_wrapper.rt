@@ -1,4 +1,4 @@
-//! Names and values of labels, lent, behind a pointer, or texts that are lent or owned.
+//! Names and values of labels by reference or in a smart pointer, and texts that are borrowed or owned.
 ghost use Rattle.std.specs.Prelude.{◌≡◌, [], ◌∷◌, false};
 ghost use Rattle.std.specs.Arc.{arc_value};
 ghost use Rattle.std.specs.Cow.{cow_str_bytes};
@@ -141,7 +141,7 @@ impl<T: EncodeLabelValue> EncodeLabelValue for Arc<T> {
     }
 }
 
-/// A text that is lent or owned, as a name.
+/// A text that is borrowed or owned, as a name.
 impl EncodeLabelName for CowStr<'_> {
     ghost pieces = { λ c. NamePiece (cow_str_bytes c) ∷ [] };
 
@@ -153,7 +153,7 @@ impl EncodeLabelName for CowStr<'_> {
     }
 }
 
-/// A text that is lent or owned, as a value.
+/// A text that is borrowed or owned, as a value.
 impl EncodeLabelValue for CowStr<'_> {
     ghost pieces = { λ c. ValuePiece (cow_str_bytes c) ∷ [] };
 

@@ -1,7 +1,7 @@
-//! How metrics hand labels, values and points to the encoders that gather samples.
+//! How metrics pass labels, values and points to the encoders that gather samples.
 //!
-//! A user's metric implements [`EncodeMetric`]; what it may hand over it declares in the trait's ghost members, and
-//! `collect` relies on nothing else. An encoder keeps its first refusal, whatever a metric makes of it.
+//! A user's metric implements [`EncodeMetric`]. It declares in the trait's ghost members what it may emit, and `collect`
+//! relies on nothing else. An encoder keeps its first refusal, even if a metric ignores the error.
 #![tactic(auto)]
 
 mod constants;

@@ -30,39 +30,39 @@ use std::time::Duration;
 mod histogram;
 mod summary;
 
-/// A metric, which a registry holds in a box.
+/// A metric, which a registry keeps in a box.
 ///
-/// What it declares is all that a collector relies on: the lists of members that `encode` may offer, the timestamps
-/// that `timestamp` may answer, whether it may be empty, and whether it may answer an error of its own.
+/// A collector relies only on what the metric declares: the lists of members that `encode` may offer, the types and timestamps
+/// that it may return, whether it may be empty, and whether `encode` may return an error of its own.
 pub trait EncodeMetric: Send + Sync + Drop {
-    /// `metric_type` may answer this type. Where nothing is declared it may answer any.
+    /// `metric_type` may return this type. If nothing is declared, it may return any type.
     ghost types: { Self → MetricType → Type 0 } = { λ _ _. Unit {0} };
 
-    /// `is_empty` may answer true.
+    /// `is_empty` may return true.
     ghost may_be_empty: { Self → Type 0 } = { λ _. ⊥ };
 
-    /// `timestamp` may answer so many milliseconds, or none.
+    /// `timestamp` may return this number of milliseconds, or none.
     ghost stamps: { Self → Option ℕ → Type 0 } = { λ _ stamp. stamp ≡ None };
 
     /// The lists of members that `encode` may offer.
     ghost offers: { Self → List Member → Type 0 };
 
-    /// `encode` may answer an error of its own other than `Memory`.
+    /// `encode` may return an error of its own other than `Memory`.
     ghost may_fault: { Self → Type 0 } = { λ _. ⊥ };
 
-    /// Offers the metric's members to the encoder. It may wait where they stand under a lock.
+    /// Offers the metric's members to the encoder. It may wait if they are under a lock.
     fn encode(&self, encoder: &mut MetricEncoder) -> Result<(), EncodeError>
         ensures { HandsMembers (offers self.now) (may_fault self.now) encoder.old encoder.new result };
 
-    /// The metric's type. A registry asks it once, when the metric is registered.
+    /// The metric's type. A registry reads it once, when the metric is registered.
     fn metric_type(&self) -> MetricType
         ensures { types self.now result };
 
-    /// When the samples were taken, of which whole milliseconds are written; mostly `None`.
+    /// When the samples were taken, since the Unix epoch; mostly `None`. It is written in whole milliseconds.
     fn timestamp(&self) -> Option<Duration>
         ensures { stamps self.now (option_map millis result) };
 
-    /// Whether the metric has no members; then nothing is written of it. It may wait for a lock.
+    /// Whether the metric has no members. If so, nothing of it is written. It may wait for a lock.
     fn is_empty(&self) -> bool
         ensures { IsTrue result → may_be_empty self.now }
     {
@@ -165,9 +165,9 @@ impl Model for MetricEncoder {
 }
 
 impl MetricEncoder {
-    /// An encoder for the family of this printed name and type, under these constant labels, of which it keeps a copy, and
-    /// this timestamp in milliseconds. Its samples go to this sink, which has no common labels yet. It may find no memory. It is
-    /// for the collector, which alone makes encoders.
+    /// An encoder for the family with this printed name, this type, these constant labels and this timestamp in milliseconds.
+    /// It puts the samples into this sink, which has no common labels yet. It copies the labels, and fails with `Memory` if
+    /// memory runs out. Only the collector makes encoders.
     pub fn new(
         alloc: Global,
         name: String,
@@ -195,8 +195,8 @@ impl MetricEncoder {
         })
     }
 
-    /// An encoder that appends the lines of families, of which `begin_family` begins each. It is for the collector. It may find no
-    /// memory.
+    /// An encoder that appends the lines of families, each of which begins with `begin_family`. Fails with `Memory` if memory
+    /// runs out. It is for the collector.
     pub fn for_lines(alloc: Global) -> Result<MetricEncoder, EncodeError>
         ensures made { IfOk result (λ encoder. (encoder.output ≡ OutputText []) × (encoder.refused ≡ None)) }
         ensures memory { IfErr result (λ e. e ≡ EncodeError.Memory) }
@@ -206,9 +206,9 @@ impl MetricEncoder {
         MetricEncoder::new(alloc, name, MetricType::Unknown, &[], None, sink)
     }
 
-    /// Goes on to the family of this printed name and type, under these constant labels, appends the lines that stand before its
-    /// samples, and writes the timestamp, in milliseconds, on each sample. The name is exchanged for that of the family before. It
-    /// is for the collector. It may find no memory; then part of these lines may stand at the end.
+    /// Goes on to the family with this printed name, this type and these constant labels, and appends the lines that come before
+    /// its samples. The timestamp, in milliseconds, is written on each sample. `name` is swapped with the name of the family
+    /// before. Fails with `Memory` if memory runs out; then the text may end in a part of these lines. It is for the collector.
     pub fn begin_family(
         &mut self,
         alloc: Global,
@@ -247,8 +247,8 @@ impl MetricEncoder {
         }
     }
 
-    /// Takes a member: its labels, which are read once, and its point. It is refused first as the point's type, then as
-    /// its labels, then as its values are; an own error of either becomes `Memory` or `MetricFault`.
+    /// Takes a member: its labels, which are read once, and its point. Errors, in this order: those of the point's type, of the
+    /// labels, and of the point's values. An error of the labels' or the point's own becomes `Memory` or `MetricFault`.
     pub fn encode<LS: EncodeLabelSet, P: EncodePoint>(
         &mut self,
         labels: &LS,
@@ -330,7 +330,7 @@ impl MetricEncoder {
         self.encode(&(), &InfoLabels(labels))
     }
 
-    /// The first refusal, where the metric returned `visited`. It is for the collector.
+    /// The first refusal, after the metric returned `visited`. It is for the collector.
     pub fn outcome(&self, visited: Result<(), EncodeError>) -> Result<(), EncodeError>
         ensures { MatchResult result
             (λ _. (self.now.refused ≡ None) × (visited ≡ Ok tt))

@@ -1,4 +1,4 @@
-// What an encoder makes of an error that what it visited answered of itself.
+// What an encoder makes of an error of the source that it visited.
 ghost use Rattle.std.specs.Prelude.{◌≡◌};
 ghost use Rattle.fm_encoder.specs.Gathered.{own_refusal};
 

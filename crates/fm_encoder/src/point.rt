@@ -1,4 +1,4 @@
-//! Points: what hands them over, and the encoder that puts their samples into a sink.
+//! Points: what emits them, and the encoder that puts their samples into a sink.
 ghost use Rattle.std.specs.Prelude.{◌≡◌, ◌⊎◌, ◌++◌, List, [], ◌∷◌, MatchResult, None, Some, OnOk, IfErr, IfSome, string_bytes};
 ghost use Rattle.std.specs.Option.{option_map, option_copied};
 ghost use Rattle.fm_grammar.specs.Names.{IsSnakeCase};
@@ -34,15 +34,15 @@ mod states;
 mod summary;
 mod totals;
 
-/// Something that hands over points, mostly one.
+/// A source of points: mostly of one.
 pub trait EncodePoint {
-    /// The lists of points that `encode` may hand over.
+    /// The lists of points that `encode` may emit.
     ghost points: { Self → List Point → Type 0 };
 
-    /// `encode` may answer an error of its own other than `Memory`.
+    /// `encode` may return an error of its own other than `Memory`.
     ghost may_fault: { Self → Type 0 } = { λ _. ⊥ };
 
-    /// Hands the point to the encoder. It may wait where its value stands under a lock.
+    /// Passes the point to the encoder. It may wait if its value is under a lock.
     fn encode(&self, encoder: &mut PointEncoder) -> Result<(), EncodeError>
         ensures { HandsPoints (points self.now) (may_fault self.now) encoder.old encoder.new result };
 }
@@ -53,7 +53,7 @@ pub struct PointEncoder {
     alloc: Global,
     name: String,
     time: Option<u128>,
-    // The common labels of the next samples, where none of them was refused.
+    // The common labels of the next samples, if none of them was refused.
     labels: LabelSetEncoder,
     deferred: Option<EncodeError>,
     sink: Sink,
@@ -81,7 +81,7 @@ impl Model for PointEncoder {
     ghost invariant = { IsGathering };
 }
 
-// Puts a sample into a sink, whose own labels stand behind the common ones.
+// Puts a sample into a sink. The sample's own labels come after the common ones.
 fn push_to(
     sink: &mut Sink,
     name: &str,
@@ -117,7 +117,7 @@ fn push_to(
     sink.push(name, kind, common, own, value, time, exemplar)
 }
 
-// Reads a member's labels behind the constant ones, for a sink's next samples to have.
+// Reads a member's labels, which follow the constant ones. The sink's next samples have them.
 fn read_labels<LS: EncodeLabelSet>(
     encoder: &mut LabelSetEncoder,
     sink: &mut Sink,
@@ -171,8 +171,8 @@ impl PointEncoder {
         }
     }
 
-    // Goes on to a family of this name, which is exchanged for that of the family before, this type and this timestamp, and appends the
-    // lines that stand before its samples. It may find no memory; then part of these lines may stand at the end.
+    // Goes on to a family of this name, type and timestamp, and appends the lines that come before its samples. The name is swapped with
+    // that of the family before. If memory runs out, the text may end in a part of these lines.
     pub(crate) fn begin_family(
         &mut self,
         name: &mut String,
@@ -228,7 +228,7 @@ impl PointEncoder {
         Ok(())
     }
 
-    // Adds a sample whose own labels stand behind the common ones.
+    // Adds a sample whose own labels come after the common ones.
     fn push_labeled(
         &mut self,
         kind: SampleKind,
@@ -310,7 +310,7 @@ impl PointEncoder {
         }
     }
 
-    // Ends a member, where the point answered `visited`.
+    // Ends a member, after the point returned `visited`.
     pub(crate) fn end_points(&mut self, visited: Result<(), EncodeError>) -> Result<(), EncodeError>
         ensures ended { EndsPoints visited self.old self.new }
         ensures answered { result ≡ result_of self.new.refused }

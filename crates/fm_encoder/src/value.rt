@@ -1,4 +1,4 @@
-//! Values of metrics: what hands them over, and the encoders that take one number each.
+//! Values of metrics: what emits them, and the encoders that take one number each.
 
 mod counter;
 mod encoder;

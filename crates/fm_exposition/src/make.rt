@@ -30,7 +30,13 @@ pub fn family(
     unit: Option<String>,
     samples: SampleStore,
 ) -> FamilySamples
-    ensures { result ≡ record { name = string_bytes name; metric_type = metric_type; help = string_bytes help; unit = option_map string_bytes unit; samples = samples.samples } }
+    ensures { result ≡ record {
+      name = string_bytes name;
+      metric_type = metric_type;
+      help = string_bytes help;
+      unit = option_map string_bytes unit;
+      samples = samples.samples;
+    } }
 {
     FamilySamples {
         name,

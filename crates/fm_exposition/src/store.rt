@@ -126,7 +126,8 @@ impl SampleStore {
 // Counts one more sample of the last point.
 fn count_one(counts: &mut Vec<usize>)
     requires { (front : List ℕ) × (count : ℕ) × (counts.old.items ≡ front ++ count ∷ []) × (count + 1 < 2 ^ 64) }
-    ensures { (front : List ℕ) (count : ℕ) → counts.old.items ≡ front ++ count ∷ [] → counts.new.items ≡ front ++ (count + 1) ∷ [] }
+    ensures { (front : List ℕ) (count : ℕ) → counts.old.items ≡ front ++ count ∷ []
+        → counts.new.items ≡ front ++ (count + 1) ∷ [] }
 {
     let last = counts.len() - 1;
     counts[last] += 1;

@@ -67,12 +67,12 @@ pub last_value : {L M : Type 0} (es : List (L × M)) (k : L) (m : M) → slice_g
 last_value [] k m = refl
 last_value (e ∷ es) k m = last_value es k m
 
--- where a metric is there
+-- if a metric is there
 pub gets_there : {L M A : Type 0} (eq : L → L → Bool) (promises : Result M MetricError → Type 0) (labels : L) (old new : List (L × M)) (tells : A → M → Type 0) (a : A) (m : M)
     → lookup (eq labels) old ≡ Some m → new ≡ old → tells a m → GetsOrAdds eq promises labels old new tells (Ok a)
 gets_there eq promises labels old new tells a m there same told = rw there (same, told)
 
--- where none is there, and one was added
+-- if none is there, and one was added
 pub gets_added : {L M A : Type 0} (eq : L → L → Bool) (promises : Result M MetricError → Type 0) (labels k : L) (old new : List (L × M)) (tells : A → M → Type 0) (a : A) (m : M)
     → lookup (eq labels) old ≡ None → eq labels k ≡ true → promises (Ok m) → new ≡ old ++ (k, m) ∷ [] → tells a m → GetsOrAdds eq promises labels old new tells (Ok a)
 gets_added eq promises labels k old new tells a m gone same kept added told = rw gone (k, m, same, kept, added, told)

@@ -19,7 +19,7 @@ pub all_pairs_equal : {A B : Type 0} (R : A → A → Type 0) (eq : A → A → 
     → (xs ys : List (A × B)) → AllZip (λ p q. R p.0 q.0 × S p.1 q.1) xs ys → pointwise (λ p q. eq p.0 q.0 && same p.1 q.1) xs ys ≡ true
 all_pairs_equal R eq S same names values = pointwise_zip _ _ (λ p q h. both_true (names p.0 q.0 h.0) (values p.1 q.1 h.1))
 
--- a text is a clone of another where it has its bytes
+-- a text is a clone of another if it has its bytes
 abbrev pub IsTextClone : String Global → String Global → Type 0
 IsTextClone s t = string_bytes t ≡ string_bytes s
 

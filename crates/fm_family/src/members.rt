@@ -90,7 +90,8 @@ impl<LS: Clone + Eq + Hash + Drop, M: Drop, S: BuildHasher> FamilyCore<LS, M, S>
     ) -> Result<usize, MetricError>
         requires ready { get LS.eq self.old.members labels.now ≡ None → MF.is_ready factory.now }
         requires clones { ClonesEqual LS.is_clone LS.eq }
-        ensures gets { GetsOrAdds LS.eq (MF.promises factory.now) labels.now self.old.members.entries self.new.members.entries (HoldsMetric self.new.members.entries) result }
+        ensures gets { GetsOrAdds LS.eq (MF.promises factory.now) labels.now self.old.members.entries
+            self.new.members.entries (HoldsMetric self.new.members.entries) result }
         ensures within { IfOk result (λ i. i < length self.new.members.entries) }
         ensures different { IsUnique LS.eq self.new.members }
     {
@@ -115,7 +116,9 @@ impl<LS: Clone + Eq + Hash + Drop, M: Drop, S: BuildHasher> FamilyCore<LS, M, S>
     ) -> Result<&M, MetricError>
         requires ready { get LS.eq self.old.members labels.now ≡ None → MF.is_ready factory.now }
         requires clones { ClonesEqual LS.is_clone LS.eq }
-        ensures* gets { sem 𝓛 (ends_with_member LS.row M.row S.row S.Hasher.row LS.Hash S.BuildHasher S.Hasher.Hasher self.entry labels.now (MF.promises factory.now) result) }
+        ensures* gets { sem 𝓛
+            (ends_with_member LS.row M.row S.row S.Hasher.row LS.Hash S.BuildHasher S.Hasher.Hasher self.entry
+            labels.now (MF.promises factory.now) result) }
         ensures there { IsSome (get LS.eq self.old.members labels.now) → IsOk result }
     {
         match self.place_or_new(labels, factory) {
@@ -133,7 +136,9 @@ impl<LS: EncodeLabelSet + Eq + Hash, M: EncodePoint, S: BuildHasher> FamilyCore<
             (Any (MayFault LS.may_fault M.may_fault) self.now.members.entries) encoder.old encoder.new result }
         ensures all { encoder.old.refused ≡ None → encoder.new.refused ≡ None → result ≡ Ok tt
             → (ms : List Member) × OffersOf LS.labels M.points self.now.members.entries ms × MembersClean encoder.old.context ms
-            × (encoder.new.output ≡ appended encoder.old.context.setting.name encoder.old.output (members_samples encoder.old.context ms)) }
+            × (encoder.new.output
+            ≡ appended encoder.old.context.setting.name encoder.old.output
+            (members_samples encoder.old.context ms)) }
         ensures different { IsUnique LS.eq self.now.members }
     {
         for member in &self.members {

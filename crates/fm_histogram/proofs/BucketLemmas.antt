@@ -1,4 +1,4 @@
--- The bucket of one value more, and its place.
+-- The bucket of one value more, and its index.
 use Rattle.std.proofs.Common.{◌≡◌, ℕ, suc, zero, ◌+◌, ◌<◌, ◌≤◌, Bool, true, false, ◌&&◌, cond, ltb, ℤ, List, [], ◌∷◌, ◌++◌, Option, Some, length, get_or, set, count_by, refl, ap, ◌∙◌, arith, int_lt}
 use Rattle.std.proofs.lemmas.Int.{ints}
 use Rattle.std.proofs.lemmas.Bool.Decides.{nat_tests}
@@ -7,7 +7,7 @@ use Rattle.fm_bucket.specs.declared.bound.Bucket.{Bucket}
 use Rattle.fm_bucket.specs.declared.bound.Bound.TheVariants.{Finite, Inf}
 use Rattle.fm_histogram.specs.Histogram.{is_above, is_between, buckets_above, rises, place, place_among, one_more}
 
--- a bound above one that does not lie below x does not lie below x
+-- a bound above one that is not below x is not below x
 stays_above : (a b x : ℤ) → int_lt a x ≡ false → int_lt a b ≡ true → int_lt b x ≡ false
 stays_above a b x h k = grind (arith, ints)
 
@@ -20,7 +20,7 @@ pub and_right : (a b : Bool) → (a && b) ≡ true → b ≡ true
 and_right true b h = h
 and_right false b h = absurd (cc)
 
--- one more value that the test answers true, or false, at
+-- one more value for which the test returns true, or false, at
 counted : (p : ℤ → Bool) (xs : List ℤ) (x : ℤ) → p x ≡ true → count_by p (xs ++ x ∷ []) ≡ count_by p xs + 1
 counted p xs x h = sum_by-append (λ y. cond (p y) 1 0) xs (x ∷ []) ∙ (rw h refl)
 
@@ -44,7 +44,7 @@ unchanged low (b ∷ bs) xs v out up =
 abbrev pub after : ℤ → Bucket → List Bucket → List Bucket
 after v d bs = set bs (place v bs) (one_more (get_or bs (place v bs) d))
 
--- a step of the next lemma, by whether the bound lies below the value
+-- a step of the next lemma, by whether the bound is below the value
 observed_by : (low : Option ℤ) (b : ℤ) (bounds xs : List ℤ) (v : ℤ) (d : Bucket) → is_above low v ≡ true → rises (Some b) bounds ≡ true
     → (int_lt b v ≡ true → buckets_above (Some b) bounds (xs ++ v ∷ []) ≡ after v d (buckets_above (Some b) bounds xs))
     → (below : Bool) → int_lt b v ≡ below
@@ -60,7 +60,7 @@ observed_by low b bs xs v d above up rest false is =
     let count = counted (is_between low b) xs v here in
     rw (is, count, e) refl
 
--- one more value is counted in the bucket at its place
+-- one more value is counted in the bucket at its index
 pub observed : (low : Option ℤ) (bounds xs : List ℤ) (v : ℤ) (d : Bucket) → is_above low v ≡ true → rises low bounds ≡ true
     → buckets_above low bounds (xs ++ v ∷ []) ≡ after v d (buckets_above low bounds xs)
 observed low [] xs v d above up = ap (λ n. record { upper_bound = Inf; count = n } ∷ []) (counted (is_above low) xs v above)
@@ -75,7 +75,7 @@ none_below low (b ∷ bs) v d zero out up within = stays_above low b v out (and_
 none_below low (b ∷ bs) v d (suc i) out up within =
     none_below b bs v d i (stays_above low b v out (and_left (int_lt low b) (rises (Some b) bs) up)) (and_right (int_lt low b) (rises (Some b) bs) up) (omega arith)
 
--- one place further on both sides
+-- the next index on both sides
 zero_below : (p : ℕ) → true ≡ ltb 0 (suc p)
 zero_below p = grind (arith, nat_tests)
 
@@ -94,7 +94,7 @@ first_by b bs v d (suc i) up within rest true is = rw is (rest i (omega arith) �
 first_by b bs v d zero up within rest false is = rw is (never_below 0)
 first_by b bs v d (suc i) up within rest false is = rw is (none_below b bs v d i is up (omega arith) ∙ never_below (suc i))
 
--- the bounds that are below x come before its place, and no others
+-- the bounds below x come before its index, and no others
 pub place_is_first : (low : Option ℤ) (bounds : List ℤ) (v d : ℤ) (i : ℕ) → rises low bounds ≡ true → i < length bounds → int_lt (get_or bounds i d) v ≡ ltb i (place_among v bounds)
 place_is_first low [] v d i up within = absurd (omega arith)
 place_is_first low (b ∷ bs) v d i up within =
@@ -106,12 +106,12 @@ within_by : (bs : List ℤ) (v : ℤ) (below : Bool) → place_among v bs ≤ le
 within_by bs v true h = omega arith
 within_by bs v false h = omega arith
 
--- the place is at most after the last bound
+-- the index is at most that after the last bound
 pub place_within : (bounds : List ℤ) (v : ℤ) → place_among v bounds ≤ length bounds
 place_within [] v = omega arith
 place_within (b ∷ bs) v = within_by bs v (int_lt b v) (place_within bs v)
 
--- the bucket that takes a value stands at the value's place among the bounds
+-- the bucket that takes a value is at the value's index among the bounds
 pub place_is : (low : Option ℤ) (bounds xs : List ℤ) (v : ℤ) → place v (buckets_above low bounds xs) ≡ place_among v bounds
 place_is low [] xs v = refl
 place_is low (b ∷ bs) xs v = ap (λ n. cond (int_lt b v) (suc n) 0) (place_is (Some b) bs xs v)

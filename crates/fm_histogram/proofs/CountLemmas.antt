@@ -26,7 +26,7 @@ pub sum_fits : (sum v : ℤ) (count : ℕ) → neg_ℤ (pos (2 ^ 63 * count)) �
     → to_z w128 (of_z w128 (to_z w128 (of_z w128 sum) +ℤ to_z w128 (of_z w128 v))) ≡ sum +ℤ v
 sum_fits sum v count low high small fits = omega (arith, ints)
 
--- the histogram of one value more has one more in the bucket of its place
+-- the histogram of one value more has one more in the bucket at its index
 pub observes : (bounds xs : List ℤ) (s : Histogram) (v : ℤ) (at : ℕ) (d : Bucket) → IsCounts bounds xs s → at ≡ place v s.buckets
     → IsCounts bounds (xs ++ v ∷ []) (record { buckets = set s.buckets at (one_more (get_or s.buckets at d)); count = s.count + 1; sum = s.sum +ℤ v })
 observes bounds xs s v at d h here =
@@ -39,7 +39,7 @@ observes bounds xs s v at d h here =
 pub count_within : (bounds : List ℤ) (s : Histogram) (i : ℕ) (d : Bucket) → IsOfSome bounds s → i < length s.buckets → (get_or s.buckets i d).count ≤ s.count
 count_within bounds s i d some = rw some.is.is (λ h. counts_within None bounds some.values d i h)
 
--- the sum of two sums fits where the counts do
+-- the sum of two sums fits if the counts do
 pub sums_fit : (s t : ℤ) (n m : ℕ) → neg_ℤ (pos (2 ^ 63 * n)) ≤ℤ s → s ≤ℤ pos (2 ^ 63 * n) → neg_ℤ (pos (2 ^ 63 * m)) ≤ℤ t → t ≤ℤ pos (2 ^ 63 * m) → n + m < 2 ^ 64
     → to_z w128 (of_z w128 (to_z w128 (of_z w128 s) +ℤ to_z w128 (of_z w128 t))) ≡ s +ℤ t
 sums_fit s t n m a b c d small = omega (arith, ints)

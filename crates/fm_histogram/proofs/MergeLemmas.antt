@@ -83,7 +83,7 @@ bounds_same low low' (b ∷ bs) (b' ∷ bs') xs ys e =
     let rest = bounds_same (Some b) (Some b') bs bs' xs ys tail in
     cc
 
--- equal bounds agree place by place, and are as many
+-- equal lists of bounds agree index by index, and are as long
 pub bound_at : (ls rs : List Bucket) (i : ℕ) (d e : Bucket) → i < length ls → i < length rs → upper_bounds ls ≡ upper_bounds rs → (get_or ls i d).upper_bound ≡ (get_or rs i e).upper_bound
 bound_at [] rs i d e h k same = absurd (omega arith)
 bound_at (l ∷ ls) [] i d e h k same = absurd (omega arith)

@@ -19,7 +19,7 @@ both_taken p s t u some some' same is few =
       few = few;
     }
 
--- the same where they are merged, and else nothing new
+-- the same if they are merged, and else nothing new
 pub merged_taken : (p : ℤ → Bool) (s t u : Histogram) (r : Result (Unit {0}) MetricError) → CountsTaken p s → CountsTaken p t
     → OnOk r (upper_bounds s.buckets ≡ upper_bounds t.buckets) → OnOk r (u ≡ merged s t) → OnOk r (u.count < 2 ^ 64) → OnErr r (u ≡ s) → CountsTaken p u
 merged_taken p s t u (Ok v) some some' same is few kept = both_taken p s t u some some' same is few

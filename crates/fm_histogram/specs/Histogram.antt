@@ -1,16 +1,16 @@
--- The histogram of a list of values: how many of them lie in each interval between bounds, how many there are, and their sum.
+-- The histogram of a list of values: how many of them are in each interval between bounds, how many there are, and their sum.
 use Rattle.std.specs.Prelude.{ℕ, ◌+◌, Bool, true, not, ◌&&◌, ◌||◌, ◌≡◌, ℤ, pos, neg_ℤ, ◌+ℤ◌, ◌≤ℤ◌, ◌<◌, ◌*◌, ◌^◌, List, [], ◌∷◌, Option, Some, None, length, count_by, filter, map, All, Contains, ◌↔◌, int_lt, suc, if◌then◌else◌}
 use Rattle.fm_bucket.specs.BoundTests.{lies_below}
 use Rattle.fm_bucket.specs.declared.bound.Bound.{Bound}
 use Rattle.fm_bucket.specs.declared.bound.Bound.TheVariants.{Finite, Inf}
 use Rattle.fm_bucket.specs.declared.bound.Bucket.{Bucket}
 
--- x lies above the bound before. The first interval has none
+-- x is above the bound before. The first interval has none
 abbrev pub is_above : Option ℤ → ℤ → Bool
 is_above None x = true
 is_above (Some low) x = int_lt low x
 
--- x lies above the bound before, and at most at this bound
+-- x is above the bound before, and at most this bound
 abbrev pub is_between : Option ℤ → ℤ → ℤ → Bool
 is_between low bound x = is_above low x && not (int_lt bound x)
 
@@ -24,7 +24,7 @@ abbrev pub total : List ℤ → ℤ
 total [] = pos 0
 total (x ∷ xs) = x +ℤ total xs
 
--- each bound lies above the one before
+-- each bound is above the one before
 abbrev pub rises : Option ℤ → List ℤ → Bool
 rises low [] = true
 rises low (b ∷ bs) = is_above low b && rises (Some b) bs
@@ -74,12 +74,12 @@ pub record IsOfSome (bounds : List ℤ) (s : Histogram) : Type 0 where
   pub low : neg_ℤ (pos (2 ^ 63 * s.count)) ≤ℤ s.sum
   pub high : s.sum ≤ℤ pos (2 ^ 63 * s.count)
 
--- the place of the bucket that takes x
+-- the index of the bucket that takes x
 abbrev pub place : ℤ → List Bucket → ℕ
 place x [] = 0
 place x (b ∷ bs) = if lies_below b.upper_bound x then suc (place x bs) else 0
 
--- how many of the bounds that rise are below x: the place of its bucket
+-- how many of the rising bounds are below x: the index of its bucket
 abbrev pub place_among : ℤ → List ℤ → ℕ
 place_among x [] = 0
 place_among x (b ∷ bs) = if int_lt b x then suc (place_among x bs) else 0
@@ -107,7 +107,7 @@ merged_buckets [] bs = []
 abbrev pub merged : Histogram → Histogram → Histogram
 merged s t = record { buckets = merged_buckets s.buckets t.buckets; count = s.count + t.count; sum = s.sum +ℤ t.sum }
 
--- a bound put in its place, unless it is there
+-- a bound inserted in order, unless it is there
 abbrev pub inserted : ℤ → List ℤ → List ℤ
 inserted x [] = x ∷ []
 inserted x (b ∷ bs) = if int_lt b x then b ∷ inserted x bs else (if int_lt x b then x ∷ b ∷ bs else b ∷ bs)

@@ -1,4 +1,4 @@
-//! Counts of values by bounds, whichever values are taken.
+//! Counts of values by bounds, for both kinds of histograms.
 ghost use Rattle.std.specs.Prelude.{◌≡◌, ℕ, ℤ, pos, true, ◌+◌, ◌^◌, ◌<◌, ◌≤◌, ◌↔◌, List, [], ◌∷◌, ◌++◌, None, Err, IfOk, IfErr, OnOk, OnErr, length, ◌⊎◌, ◌≢◌, IsTrue, slice_index_or, slice_set};
 ghost use Rattle.fm_raw.specs.declared.error.MetricError.TheVariants.{Memory, CountFull, UnequalBounds};
 ghost use Rattle.fm_bucket.specs.declared.bound.Bucket.{Bucket as OneBucket};
@@ -15,7 +15,7 @@ use std::sync::ledger::Blank;
 /// Counts of values by bounds, how many values there are, and their sum in millionths.
 #[derive(Clone, Drop)]
 pub struct Counts {
-    // The bounds of all buckets but the last, side by side, where a search is quickest.
+    // The bounds of all buckets but the last, side by side: a search is fastest there.
     bounds: Vec<Fixed>,
     buckets: Vec<Bucket>,
     count: u64,
@@ -80,7 +80,8 @@ impl Counts {
 
     // Counts one value more.
     pub(crate) fn add(&mut self, value: Fixed) -> Result<(), MetricError>
-        ensures counted { OnOk result ((bounds xs : List ℤ) → IsCounts bounds xs self.old → IsCounts bounds (xs ++ value ∷ []) self.new) }
+        ensures counted { OnOk result
+            ((bounds xs : List ℤ) → IsCounts bounds xs self.old → IsCounts bounds (xs ++ value ∷ []) self.new) }
         ensures full { (result ≡ Err CountFull) ↔ (self.old.count + 1 ≡ 2 ^ 64) }
         ensures only_full { IfErr result (λ e. e ≡ CountFull) }
         ensures count { OnOk result (self.new.count ≡ self.old.count + 1) }
@@ -97,13 +98,15 @@ impl Counts {
         Ok(())
     }
 
-    // Adds what the other counts, where it has the same bounds.
+    // Adds what the other counts, if it has the same bounds.
     pub(crate) fn merge(&mut self, other: &Counts) -> Result<(), MetricError>
         ensures merged { OnOk result (self.new ≡ merged self.old other.now) }
         ensures same { OnOk result (upper_bounds self.old.buckets ≡ upper_bounds other.now.buckets) }
         ensures few { OnOk result (self.new.count < 2 ^ 64) }
         ensures unequal { (result ≡ Err UnequalBounds) ↔ (upper_bounds self.old.buckets ≢ upper_bounds other.now.buckets) }
-        ensures full { (result ≡ Err CountFull) ↔ ((upper_bounds self.old.buckets ≡ upper_bounds other.now.buckets) × (2 ^ 64 ≤ self.old.count + other.now.count)) }
+        ensures full { (result ≡ Err CountFull)
+            ↔ ((upper_bounds self.old.buckets ≡ upper_bounds other.now.buckets)
+            × (2 ^ 64 ≤ self.old.count + other.now.count)) }
         ensures only { IfErr result (λ e. (e ≡ UnequalBounds) ⊎ (e ≡ CountFull)) }
         ensures kept { OnErr result (self.new ≡ self.old) }
     {
@@ -148,7 +151,8 @@ fn same_bounds(left: &[Bucket], right: &[Bucket]) -> bool
 // Adds the other's count in each bucket.
 fn add_counts(buckets: &mut [Bucket], other: &[Bucket])
     requires len { length buckets.old ≡ length other.now }
-    requires fits { (i : ℕ) (d e : OneBucket) → i < length other.now → (slice_index_or buckets.old i d).count + (slice_index_or other.now i e).count < 2 ^ 64 }
+    requires fits { (i : ℕ) (d e : OneBucket) → i < length other.now
+        → (slice_index_or buckets.old i d).count + (slice_index_or other.now i e).count < 2 ^ 64 }
     ensures { buckets.new ≡ merged_buckets buckets.old other.now }
 {
     for i in 0..other.len() {

@@ -31,7 +31,7 @@ struct Locked<S: Sign> {
 /// How many observed values lie in each bucket, how many there are, and their sum, which its clones share under a lock.
 /// The sign says whether negative values and bounds are taken.
 ///
-/// A call that observes, lends or encodes waits while another thread has the lock. Making one, cloning and encoding take
+/// A call that observes, reads or encodes waits while another thread has the lock. Making one, cloning and encoding take
 /// memory.
 #[derive(Drop)]
 pub struct HistogramOf<S: Sign, H: Wait> {
@@ -42,14 +42,14 @@ pub struct HistogramOf<S: Sign, H: Wait> {
 /// How many observed values lie in each bucket, how many there are, and their sum, which its clones share under a lock.
 /// Negative values are not taken.
 ///
-/// A call that observes, lends or encodes waits while another thread has the lock. Making one, cloning and encoding take
+/// A call that observes, reads or encodes waits while another thread has the lock. Making one, cloning and encoding take
 /// memory.
 pub type Histogram<H> = HistogramOf<NotNegative, H>;
 
 /// How many current values lie in each bucket, how many there are, and their sum, which its clones share under a lock.
 /// Negative values and bounds are taken too.
 ///
-/// A call that observes, lends or encodes waits while another thread has the lock. Making one, cloning and encoding take
+/// A call that observes, reads or encodes waits while another thread has the lock. Making one, cloning and encoding take
 /// memory.
 pub type GaugeHistogram<H> = HistogramOf<Any, H>;
 
@@ -68,8 +68,8 @@ impl<S: Sign, H: Wait + Drop> HistogramOf<S, H> {
         Ok(HistogramOf { locked, wait })
     }
 
-    /// A histogram of no values, without a time of creation. Its bounds are those given that are taken, each once and in order, and
-    /// `Inf`: a histogram takes those that are not negative, and a gauge histogram all. It takes memory and may find none.
+    /// A histogram of no values, without a time of creation. Its bounds are the given ones, each once and in order, and `Inf`. A
+    /// histogram ignores negative bounds; a gauge histogram takes all. Fails with `Memory` if memory runs out.
     pub fn new<I: Iterator<Item = Fixed> + Drop>(
         wait: H,
         alloc: Global,
@@ -86,8 +86,8 @@ impl<S: Sign, H: Wait + Drop> HistogramOf<S, H> {
 }
 
 impl<S: Sign, H: Wait> HistogramOf<S, H> {
-    /// Counts a value in the first bucket whose bound is not below it. A value that is not taken changes nothing: a negative one in a
-    /// histogram. It returns `CountFull` where the count is the greatest `u64` and the value is taken, and then changes nothing.
+    /// Counts a value in the first bucket whose bound is not below it. In a histogram a negative value changes nothing, which is no
+    /// error. For a value that is taken it fails with `CountFull` if the count is the greatest `u64`, and then changes nothing.
     pub fn observe(&self, value: Fixed) -> Result<(), MetricError>
         ensures { IfErr result (λ e. (e ≡ CountFull) × (takes S.NEGATIVE value ≡ true)) }
     {
@@ -96,7 +96,7 @@ impl<S: Sign, H: Wait> HistogramOf<S, H> {
 }
 
 impl<H: Wait + Drop> Histogram<H> {
-    /// The same as `new`, created at this time since the Unix epoch. Its whole milliseconds are written.
+    /// Like `new`, created at this time since the Unix epoch, which is written in whole milliseconds.
     pub fn with_created<I: Iterator<Item = Fixed> + Drop>(
         wait: H,
         alloc: Global,
@@ -114,8 +114,8 @@ impl<H: Wait + Drop> Histogram<H> {
 }
 
 impl<H: Wait> Histogram<H> {
-    /// Lends what was counted so far to `f`, under the lock, and returns what `f` does. The lock is a `Mutex`, under which `observe`
-    /// is quickest: calls of one histogram follow each other. `f` must not use the same histogram: it would wait for ever.
+    /// Calls `f` with what was counted so far, under the lock, and returns its result. The lock is a `Mutex`, with which `observe`
+    /// is fastest: the calls of one histogram run one after another. `f` must not use the same histogram: it would wait for ever.
     pub fn with_snapshot<R, F: FnOnce(&HistogramSnapshot) -> R>(&self, f: F) -> R
         requires { F.IsAlwaysCallable f }
         ensures { (snapshot : _) × FnOnceReturnsAt F.FnOnce f snapshot result }
@@ -124,7 +124,7 @@ impl<H: Wait> Histogram<H> {
         f(&snapshot)
     }
 
-    /// When the histogram was created, if that is known.
+    /// When the histogram was created, since the Unix epoch, if it is known.
     pub fn created(&self) -> Option<Duration>
         ensures { result ≡ created_of self.now }
     {
@@ -133,7 +133,7 @@ impl<H: Wait> Histogram<H> {
 }
 
 impl<H: Wait> GaugeHistogram<H> {
-    /// Lends what was counted so far to `f`, as a histogram does.
+    /// Calls `f` with what was counted so far, as a histogram does.
     pub fn with_snapshot<R, F: FnOnce(&GaugeHistogramSnapshot) -> R>(&self, f: F) -> R
         requires { F.IsAlwaysCallable f }
         ensures { (snapshot : _) × FnOnceReturnsAt F.FnOnce f snapshot result }
@@ -162,7 +162,7 @@ impl<S: Sign, H: Wait + Drop> TryDefault<H> for SnapshotOf<S> {
     }
 }
 
-/// The same histogram. The clone may find no memory.
+/// Another handle of the same histogram. Cloning takes memory, and fails if memory runs out.
 impl<S: Sign, H: Wait + Clone> Clone for HistogramOf<S, H> {
     ghost is_clone = { λ h k. arc_value k.locked ≡ arc_value h.locked };
 
@@ -173,7 +173,7 @@ impl<S: Sign, H: Wait + Clone> Clone for HistogramOf<S, H> {
     }
 }
 
-/// The time of creation. The lock protects the counts, which are not shown.
+/// Shows the time of creation, but not the counts, since the lock protects them.
 impl<H: Wait> Debug for Histogram<H> {
     fn fmt<W: fmt::Write>(&self, f: &mut Formatter<W>) -> fmt::Result {
         f.debug_struct("Histogram")
@@ -182,7 +182,7 @@ impl<H: Wait> Debug for Histogram<H> {
     }
 }
 
-/// Its name. The lock protects the counts, which are not shown.
+/// Shows the name of the type only, since the lock protects the counts.
 impl<H: Wait> Debug for GaugeHistogram<H> {
     fn fmt<W: fmt::Write>(&self, f: &mut Formatter<W>) -> fmt::Result {
         f.debug_struct("GaugeHistogram").finish_non_exhaustive()
@@ -195,9 +195,11 @@ impl<S: Sign, H: Wait> TypedMetric for HistogramOf<S, H> {
     const TYPE: MetricType = S::TYPE;
 }
 
-/// What was counted so far: the histogram of some values that are all taken, by bounds that are.
+/// What was counted so far: the histogram of some values that are all taken, with bounds that are taken.
 impl<S: Sign, H: Wait> EncodePoint for HistogramOf<S, H> {
-    ghost points = { λ h ps. (s : Counted) × CountsTaken (takes S.NEGATIVE) s × (ps ≡ S.point s (option_map millis (created_of h)) ∷ []) };
+    ghost points = { λ h ps. (s : Counted)
+        × CountsTaken (takes S.NEGATIVE) s
+        × (ps ≡ S.point s (option_map millis (created_of h)) ∷ []) };
 
     fn encode(&self, points: &mut PointEncoder) -> Result<(), EncodeError> {
         let guard = self.locked.snapshot.lock(&self.wait);
@@ -210,7 +212,9 @@ impl<S: Sign, H: Wait> EncodePoint for HistogramOf<S, H> {
 impl<S: Sign + Send + Sync, H: Wait + Send + Sync + Drop> EncodeMetric for HistogramOf<S, H> {
     ghost types = { λ _ t. t ≡ S.TYPE };
 
-    ghost offers = { λ h ms. (s : Counted) × CountsTaken (takes S.NEGATIVE) s × (ms ≡ alone (S.point s (option_map millis (created_of h))) ∷ []) };
+    ghost offers = { λ h ms. (s : Counted)
+        × CountsTaken (takes S.NEGATIVE) s
+        × (ms ≡ alone (S.point s (option_map millis (created_of h))) ∷ []) };
 
     fn encode(&self, encoder: &mut MetricEncoder) -> Result<(), EncodeError> {
         encoder.encode(&(), self)

@@ -6,14 +6,15 @@ use fm_bucket::{Probe, Steps, find_bucket};
 use fm_raw::Fixed;
 use std::sync::ledger::{Blank, Ledger};
 
-// Whether a bound reaches the value. Each call is one comparison of the two, and one step.
+// Whether a bound is at least the value. Each call is one comparison of the two, and one step.
 #[derive(Drop)]
 struct BoundsProbe<'a, L: Ledger> {
     bounds: &'a [Fixed],
     value: Fixed,
     steps: Steps<L>,
     ghost within: { place_among value bounds.now ≤ length bounds.now },
-    ghost rising: { (i : ℕ) (d : ℤ) → i < length bounds.now → int_lt (slice_index_or bounds.now i d) value ≡ nat_lt i (place_among value bounds.now) },
+    ghost rising: { (i : ℕ) (d : ℤ) → i < length bounds.now
+        → int_lt (slice_index_or bounds.now i d) value ≡ nat_lt i (place_among value bounds.now) },
 }
 
 impl<'a, L: Ledger> Probe for BoundsProbe<'a, L> {
@@ -30,13 +31,14 @@ impl<'a, L: Ledger> Probe for BoundsProbe<'a, L> {
     }
 }
 
-/// The index of the value's bucket, where these are the bounds of all buckets but the last, and rise.
+/// The index of the value's bucket, given the rising bounds of all buckets but the last.
 pub(crate) fn place_of<L: Ledger>(bounds: &[Fixed], value: Fixed, blank: Blank) -> usize
     requires name { blank.name ≡ L.name }
     requires parts { blank.parts ≡ L.parts }
     requires some { 0 < blank.parts }
     requires within { place_among value bounds.now ≤ length bounds.now }
-    requires rising { (i : ℕ) (d : ℤ) → i < length bounds.now → int_lt (slice_index_or bounds.now i d) value ≡ nat_lt i (place_among value bounds.now) }
+    requires rising { (i : ℕ) (d : ℤ) → i < length bounds.now
+        → int_lt (slice_index_or bounds.now i d) value ≡ nat_lt i (place_among value bounds.now) }
     ensures { result ≡ place_among value bounds.now }
 {
     let mut probe = BoundsProbe {

@@ -46,15 +46,19 @@ impl<S: Sign> Model for SnapshotOf<S> {
 }
 
 impl<S: Sign> SnapshotOf<S> {
-    /// A snapshot of no values. Its bounds are those given that are taken, each once and in order, and `Inf`: a histogram takes those
-    /// that are not negative, and a gauge histogram all. It takes memory.
+    /// A snapshot of no values. Its bounds are the given ones, each once and in order, and `Inf`. A histogram ignores negative
+    /// bounds; a gauge histogram takes all. Fails with `Memory` if memory runs out.
     pub fn new<I: Iterator<Item = Fixed> + Drop>(
         alloc: Global,
         bounds: I,
     ) -> Result<SnapshotOf<S>, MetricError>
         requires can { I.can_next bounds }
         requires ends { IsFinite (I.remaining bounds) }
-        ensures bounds { IfOk result (λ s. (given : List ℤ) × Drains I.next_gives bounds given × ((taken : List ℤ) × IsBoundsOf (takes S.NEGATIVE) given taken × IsHistogram (takes S.NEGATIVE) taken [] s)) }
+        ensures bounds { IfOk result (λ s. (given : List ℤ)
+            × Drains I.next_gives bounds given
+            × ((taken : List ℤ)
+            × IsBoundsOf (takes S.NEGATIVE) given taken
+            × IsHistogram (takes S.NEGATIVE) taken [] s)) }
         ensures only_memory { IfErr result (λ e. e ≡ Memory) }
     {
         let rising = rising_bounds(alloc, bounds, S::NEGATIVE)?;
@@ -77,7 +81,7 @@ impl<S: Sign> SnapshotOf<S> {
         })
     }
 
-    /// The buckets, from the least bound on. The last one has the bound `Inf`.
+    /// The buckets, by rising bounds. The last one has the bound `Inf`.
     pub fn buckets(&self) -> &[Bucket]
         ensures { result.now ≡ self.now.buckets }
     {
@@ -102,10 +106,12 @@ impl<S: Sign> SnapshotOf<S> {
         S::encode(&self.counts, created, points)
     }
 
-    /// Counts a value in the first bucket whose bound is not below it. A value that is not taken changes nothing: a negative one in a
-    /// histogram. It returns `CountFull` where the count is the greatest `u64` and the value is taken, and then changes nothing.
+    /// Counts a value in the first bucket whose bound is not below it. In a histogram a negative value changes nothing, which is no
+    /// error. For a value that is taken it fails with `CountFull` if the count is the greatest `u64`, and then changes nothing.
     pub fn observe(&mut self, value: Fixed) -> Result<(), MetricError>
-        ensures counted { OnOk result ((bounds xs : List ℤ) → IsHistogram (takes S.NEGATIVE) bounds xs self.old → IsHistogram (takes S.NEGATIVE) bounds (xs ++ value ∷ []) self.new) }
+        ensures counted { OnOk result
+            ((bounds xs : List ℤ) → IsHistogram (takes S.NEGATIVE) bounds xs self.old
+            → IsHistogram (takes S.NEGATIVE) bounds (xs ++ value ∷ []) self.new) }
         ensures full { (result ≡ Err CountFull) ↔ ((self.old.count + 1 ≡ 2 ^ 64) × (takes S.NEGATIVE value ≡ true)) }
         ensures only_full { IfErr result (λ e. e ≡ CountFull) }
         ensures count { OnOk result (self.new.count ≡ self.old.count + (if takes S.NEGATIVE value then 1 else 0)) }
@@ -117,13 +123,18 @@ impl<S: Sign> SnapshotOf<S> {
         self.counts.add(value)
     }
 
-    /// Adds what the other counts. It returns `UnequalBounds` where the bounds differ, and else `CountFull`
-    /// where both counts together are no `u64`, and then changes nothing.
+    /// Adds what the other counts. Fails with `UnequalBounds` if the bounds differ, and else with `CountFull` if the sum of both
+    /// counts exceeds the greatest `u64`; then it changes nothing. It takes no memory.
     pub fn merge(&mut self, other: &SnapshotOf<S>) -> Result<(), MetricError>
         ensures merged { OnOk result (self.new ≡ merged self.old other.now) }
-        ensures histogram { OnOk result ((bounds xs ys : List ℤ) → IsHistogram (takes S.NEGATIVE) bounds xs self.old → IsHistogram (takes S.NEGATIVE) bounds ys other.now → IsHistogram (takes S.NEGATIVE) bounds (xs ++ ys) self.new) }
+        ensures histogram { OnOk result
+            ((bounds xs ys : List ℤ) → IsHistogram (takes S.NEGATIVE) bounds xs self.old
+            → IsHistogram (takes S.NEGATIVE) bounds ys other.now
+            → IsHistogram (takes S.NEGATIVE) bounds (xs ++ ys) self.new) }
         ensures unequal { (result ≡ Err UnequalBounds) ↔ (upper_bounds self.old.buckets ≢ upper_bounds other.now.buckets) }
-        ensures full { (result ≡ Err CountFull) ↔ ((upper_bounds self.old.buckets ≡ upper_bounds other.now.buckets) × (2 ^ 64 ≤ self.old.count + other.now.count)) }
+        ensures full { (result ≡ Err CountFull)
+            ↔ ((upper_bounds self.old.buckets ≡ upper_bounds other.now.buckets)
+            × (2 ^ 64 ≤ self.old.count + other.now.count)) }
         ensures only { IfErr result (λ e. (e ≡ UnequalBounds) ⊎ (e ≡ CountFull)) }
         ensures kept { OnErr result (self.new ≡ self.old) }
     {
@@ -132,14 +143,14 @@ impl<S: Sign> SnapshotOf<S> {
 }
 
 impl HistogramSnapshot {
-    /// How many values were taken.
+    /// How many values were counted.
     pub fn count(&self) -> u64
         ensures { result ≡ self.now.count }
     {
         self.counts.count()
     }
 
-    /// The sum of the values that were taken.
+    /// The sum of the values that were counted, in millionths.
     pub fn sum(&self) -> FixedSum
         ensures { result ≡ self.now.sum }
     {
@@ -155,7 +166,7 @@ impl GaugeHistogramSnapshot {
         self.counts.count()
     }
 
-    /// The sum of the values.
+    /// The sum of the values, in millionths.
     pub fn gsum(&self) -> FixedSum
         ensures { result ≡ self.now.sum }
     {

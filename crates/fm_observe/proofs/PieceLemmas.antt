@@ -1,4 +1,4 @@
--- Values that lie in pieces, and the histograms of the pieces.
+-- Values that are cut into pieces, and the histograms of the pieces.
 use Rattle.std.proofs.Common.{◌≡◌, ℕ, ◌+◌, ◌<◌, ◌≤◌, ℤ, Bool, Option, List, [], ◌∷◌, ◌++◌, None, length, get_or, take, drop, filter, flat_map, ap, sym, ◌∙◌, arith, length-append}
 use Rattle.std.specs.Iterator.{Drains}
 use Rattle.std.proofs.lemmas.Iterator.{YieldsList, items_from_drains}
@@ -23,7 +23,7 @@ fewer taken f pieces n =
     let l = ap length (filter-append taken (flat_map f (take n pieces)) (flat_map f (drop n pieces))) in
     omega (arith, k, l, length-append (filter taken (flat_map f (take n pieces))) (filter taken (flat_map f (drop n pieces))))
 
--- where two histograms don't fit one, the joined list has too many values
+-- if two histograms don't fit into one, the joined list has too many values
 pub too_many : {X : Type 0} (taken : ℤ → Bool) (f : X → List ℤ) (pieces : List X) (i : ℕ) (d : X) (bounds : List ℤ) (s t : Histogram) (most : ℕ) → i < length pieces
     → IsHistogram taken bounds (flat_map f (take i pieces)) s → IsHistogram taken bounds (f (get_or pieces i d)) t → most ≤ s.count + t.count
     → most ≤ length (filter taken (flat_map f pieces))

@@ -16,7 +16,7 @@ use Rattle.fm_encoder.specs.Labels.{HandedLabel, NamePiece, ValuePiece}
 abbrev pub label : Text → Text → HandedLabel
 label name value = NamePiece name ∷ ValuePiece value ∷ []
 
--- what a metric is asked to be registered as by a name and a help, once it has said its type
+-- the request to register a metric by a name and a help, once its type is known
 abbrev pub named_metric : {M : Type 0} → Text → Text → Option unit.Unit → M → MetricType → Registration M
 named_metric name help u metric metric_type = record { name = name; help = help; metric_type = metric_type; unit = option_map seen_unit u; metric = metric }
 

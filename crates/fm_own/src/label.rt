@@ -65,13 +65,14 @@ impl EncodeLabelValue for LabelValue<'_> {
     }
 }
 
-/// Puts these labels into the encoder, each a name and a value, in order. A label set of a program's own does so in its `encode`,
-/// whatever the number of its labels.
+/// Passes these labels to the encoder, each a name and a value, in order. A label set of a program's own calls it in its `encode`,
+/// whatever the number of its labels. It fails as the encoder does.
 pub fn encode_labels<'a>(
     encoder: &mut LabelSetEncoder,
     labels: &[(&'a str, LabelValue<'a>)],
 ) -> Result<(), EncodeError>
-    ensures { HandsLabels (map ⟦<(&'a str, LabelValue<'a>) as EncodeLabel>⟧.pieces labels.now) ⊥ encoder.old encoder.new result }
+    ensures { HandsLabels (map ⟦<(&'a str, LabelValue<'a>) as EncodeLabel>⟧.pieces labels.now) ⊥ encoder.old encoder.new
+        result }
 {
     LabelSlice(labels).encode(encoder)
 }

@@ -6,8 +6,8 @@ use fm_encoder::{EncodeError, EncodeLabelSet, EncodeMetric, EncodePoint, MetricE
 use fm_raw::{MetricType, TypedMetric};
 use std::time::Duration;
 
-/// A metric of a program's own, of which nothing but its labels and its point is written: its type is that of the point. The point
-/// is a constant metric, such as `ConstGauge`, a shared one, such as `Counter`, or a type of the program's own.
+/// A metric of a program's own that consists of its labels and its point. Its type is that of the point. The point is a constant
+/// metric, such as `ConstGauge`, a shared one, such as `Counter`, or a type of the program's own.
 #[derive(Clone, Debug, Drop)]
 pub struct Labeled<LS, P> {
     /// Its labels.

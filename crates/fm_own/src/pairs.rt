@@ -13,12 +13,12 @@ use std::sync::Wait;
 /// Metrics by `N` pairs of a text of the program and a value of the type `V`, such as a number.
 pub type PairFamily<V, M, H, const N: usize> = DefaultFamily<[(StaticStr, V); N], M, H>;
 
-/// Lends the metric of these labels to `f`, and returns what `f` does. Where there is none, it is made by `try_default` and comes
-/// after the others.
+/// Calls `f` with the metric of these labels, and returns its result. If there is none, `try_default` makes one, which is added
+/// as the last member.
 ///
-/// It takes no memory where the metric is there, if its labels take none. Where there is no memory for a new one it returns
-/// `Memory`, and the members are as they were. It waits as `Family::with_or_new` does. A clone of a name and of a value must equal
-/// it, as those of numbers, truth values and `StaticStr` do.
+/// If the metric exists and cloning its labels takes no memory, the call takes none. If memory runs out for a new one, it fails
+/// with `Memory`, and the members stay as they were. It waits as `Family::with_or_new` does. Clones of a name and of a value must
+/// equal it, as those of numbers, truth values and `StaticStr` do.
 pub fn with_pairs<
     K: Clone + Hash + Drop,
     V: Clone + Hash + Drop,

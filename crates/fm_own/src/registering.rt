@@ -10,7 +10,7 @@ use fm_raw::{MetricType, Unit};
 use fm_registry::{Registry, RegistryError};
 use std::alloc::Global;
 
-// Both texts, in memory of their own.
+// Owned copies of both texts.
 fn owned(alloc: Global, name: &str, help: &str) -> Result<(String, String), RegistryError>
     ensures name { IfOk result (λ texts. string_bytes texts.0 ≡ name.now) }
     ensures help { IfOk result (λ texts. string_bytes texts.1 ≡ help.now) }
@@ -31,7 +31,8 @@ fn add_typed<M: Drop>(
     unit: Option<Unit>,
     metric: M,
 ) -> Result<(), RegistryError>
-    ensures registers { Adds (λ t. t ≡ metric_type) (named_metric name.now help.now unit metric) registry.old registry.new result }
+    ensures registers { Adds (λ t. t ≡ metric_type) (named_metric name.now help.now unit metric) registry.old
+        registry.new result }
     ensures grows { Grows registry.old registry.new }
     ensures sound { HasBook registry.old → HasBook registry.new }
 {
@@ -39,7 +40,7 @@ fn add_typed<M: Drop>(
     registry.add_metric(alloc, name, help, metric_type, unit, metric)
 }
 
-// Registers a metric by its name and its help, with a unit or without.
+// Registers a metric by its name and its help, with or without a unit.
 fn add_metric(
     alloc: Global,
     registry: &mut Registry,
@@ -48,7 +49,8 @@ fn add_metric(
     unit: Option<Unit>,
     metric: Box<dyn EncodeMetric>,
 ) -> Result<(), RegistryError>
-    ensures registers { Adds (λ t. types metric t) (named_metric name.now help.now unit metric) registry.old registry.new result }
+    ensures registers { Adds (λ t. types metric t) (named_metric name.now help.now unit metric) registry.old
+        registry.new result }
     ensures grows { Grows registry.old registry.new }
     ensures sound { HasBook registry.old → HasBook registry.new }
 {
@@ -56,11 +58,10 @@ fn add_metric(
     add_typed(alloc, registry, name, help, metric_type, unit, metric)
 }
 
-/// Registers a metric by its name and its help, as `Registry::register` does with texts of one's own: the same refusals, in the
-/// same order.
+/// Registers a metric by its name and its help, which are copied. It has the errors of `Registry::register`, in the same order.
 ///
-/// It takes memory for both texts first: where there is none it returns `Memory`. A refused metric is dropped, and the registry
-/// stays as it was.
+/// It takes memory for both texts first, and fails with `Memory` if there is none. At an error the metric is dropped, and the
+/// registry stays as it was.
 pub fn add(
     alloc: Global,
     registry: &mut Registry,
@@ -68,14 +69,15 @@ pub fn add(
     help: &str,
     metric: Box<dyn EncodeMetric>,
 ) -> Result<(), RegistryError>
-    ensures registers { Adds (λ t. types metric t) (named_metric name.now help.now None metric) registry.old registry.new result }
+    ensures registers { Adds (λ t. types metric t) (named_metric name.now help.now None metric) registry.old
+        registry.new result }
     ensures grows { Grows registry.old registry.new }
     ensures sound { HasBook registry.old → HasBook registry.new }
 {
     add_metric(alloc, registry, name, help, None, metric)
 }
 
-/// The same with a unit.
+/// Like `add`, with a unit.
 pub fn add_with_unit(
     alloc: Global,
     registry: &mut Registry,
@@ -84,7 +86,8 @@ pub fn add_with_unit(
     unit: Unit,
     metric: Box<dyn EncodeMetric>,
 ) -> Result<(), RegistryError>
-    ensures registers { Adds (λ t. types metric t) (named_metric name.now help.now (Some unit) metric) registry.old registry.new result }
+    ensures registers { Adds (λ t. types metric t) (named_metric name.now help.now (Some unit) metric) registry.old
+        registry.new result }
     ensures grows { Grows registry.old registry.new }
     ensures sound { HasBook registry.old → HasBook registry.new }
 {

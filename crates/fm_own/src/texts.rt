@@ -12,7 +12,7 @@ use std::sync::Wait;
 
 /// Metrics by label set, each of which begins as `try_default` makes it.
 ///
-/// Its hasher starts from a fixed state: where strangers choose the labels, take a `Family` with `RandomState`.
+/// Its hasher starts from a fixed state. If others can choose the label values, use a `Family` with `RandomState` instead.
 pub type DefaultFamily<LS, M, H> = Family<
     LS,
     M,
@@ -21,7 +21,7 @@ pub type DefaultFamily<LS, M, H> = Family<
     H,
 >;
 
-/// The same by labels that are pairs of texts.
+/// Metrics by label sets whose labels are pairs of texts, each of which begins as `try_default` makes it.
 pub type TextFamily<M, H> = Family<
     Vec<(String, String)>,
     M,
@@ -30,11 +30,11 @@ pub type TextFamily<M, H> = Family<
     H,
 >;
 
-/// Lends the metric of these labels to `f`, and returns what `f` does. Where there is none, it is made by `try_default` and comes
-/// after the others.
+/// Calls `f` with the metric of these labels, and returns its result. If there is none, `try_default` makes one, which is added
+/// as the last member.
 ///
-/// It takes memory for the labels, and for a new metric; where there is none it returns `Memory`, and the members are as they were. It
-/// waits as `Family::with_or_new` does.
+/// It takes memory for the labels and for a new metric. If memory runs out, it fails with `Memory`, and the members stay as they
+/// were. It waits as `Family::with_or_new` does.
 pub fn with_texts<M: TryDefault<H> + Drop, H: Wait + Clone + Drop, R, F: FnOnce(&M) -> R>(
     alloc: Global,
     family: &TextFamily<M, H>,

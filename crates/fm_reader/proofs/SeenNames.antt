@@ -39,7 +39,7 @@ pub noted : (old new : BTreeSet (Bor Text)) (key : Bor Text) (added : Bool) → 
 noted old new key true e updates same = λ names h. ((h key.now).0 (negated_true (has old key.now) e), holds_more old new key names updates h)
 noted old new key false e updates same = λ names h. ((h key.now).1 (negated_false (has old key.now) e), same_names old new names same h)
 
--- a name is new beside families where it is none of their names
+-- a name is new to families if it is none of their names
 
 new_name : (name : Text) (families : List Family) → IsFresh name (names_of families) → IsNewName name families
 new_name name [] h = tt

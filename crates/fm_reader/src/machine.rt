@@ -36,7 +36,13 @@ impl Model for Pending {
 
     ghost Value = { Family };
 
-    ghost view = { λ p. record { name = string_bytes p.name; metric_type = p.metric_type; help = string_bytes p.help; unit = option_map string_bytes p.unit; samples = p.samples.samples } };
+    ghost view = { λ p. record {
+      name = string_bytes p.name;
+      metric_type = p.metric_type;
+      help = string_bytes p.help;
+      unit = option_map string_bytes p.unit;
+      samples = p.samples.samples;
+    } };
 
     ghost invariant = { λ p. p.samples.common ≡ [] };
 }

@@ -100,7 +100,7 @@ no_unit_allowed StateSet unit e h = cc
 no_unit_allowed Info unit e h = cc
 no_unit_allowed _ unit e h = cc
 
--- where one of the tests says no
+-- if one of the tests says no
 pub unit_refused : (line name behind spaced text : Text) (m : MetricType) → line ≡ codes "# UNIT " ++ behind → behind ≡ name ++ spaced → spaced ≡ 32 ∷ text → (UnitAllowed m (Some text) → IsUnitText text → EndsWithUnit name text → ⊥) → FoundUnit line name m None
 unit_refused line name behind spaced text m cut named space bad = λ unit e fits allowed.
     let same = unit_is line name behind spaced text unit cut named space e in

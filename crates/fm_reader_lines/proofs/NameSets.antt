@@ -76,7 +76,7 @@ all_at x [] i d within h = absurd (omega arith)
 all_at x (y ∷ texts) zero d within h = h.0
 all_at x (y ∷ texts) (suc i) d within h = all_at x texts i d (omega arith) h.1
 
--- where all names differ, each is fresh beside the ones before it
+-- if all names differ, each is new to the ones before it
 pub different_at : (texts : List Text) (i : ℕ) (d : Text) → i < length texts → AllDifferent texts → IsFresh (get_or texts i d) (take i texts)
 different_at [] i d within h = absurd (omega arith)
 different_at (x ∷ texts) zero d within h = tt

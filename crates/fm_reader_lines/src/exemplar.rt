@@ -19,7 +19,8 @@ pub(crate) fn read_exemplar(
     kind: SampleKind,
     tail: Option<&str>,
 ) -> Result<Option<Option<Exemplar>>, AllocError>
-    ensures { IfOk result (λ found. FoundExemplar kind (tail_text tail.entry) (option_map (λ exemplar. option_map exemplar_of exemplar) found)) }
+    ensures { IfOk result (λ found. FoundExemplar kind (tail_text tail.entry)
+        (option_map (λ exemplar. option_map exemplar_of exemplar) found)) }
 {
     let Some(text) = tail else {
         return Ok(Some(None));

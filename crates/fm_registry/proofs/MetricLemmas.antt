@@ -51,7 +51,7 @@ module _ {M : Type 0} where
       (Decides-and (same_type a.metric_type b.metric_type) (same_unit (option_map seen_unit a.unit) (option_map seen_unit b.unit)) types (same_unit-Decides (option_map seen_unit a.unit) (option_map seen_unit b.unit))) in
       Decides-like (is_same_metric (seen_metric a x) (seen_metric b y)) (λ h. (h.0, h.1.0, h.1.1)) (λ h. (h.0, (h.1, h.2))) parts
 
-  -- metrics are the same where their metadata are found to be
+  -- metrics are the same if their metadata are found to be
   pub same_metric-test : (a b : Metadata) (x : M) (c : Bool) → Decides c (IsSameMetric a b) → is_same_metric (seen_metric a x) (seen_metric b x) ≡ c
   same_metric-test a b x c decides = same_from_decides {P = IsSameMetric a b} (is_same_metric (seen_metric a x) (seen_metric b x)) c (same_metric-Decides a b x x) decides
 

@@ -24,7 +24,7 @@ use Rattle.fm_registry.specs.declared.names.Tailed.{Tailed}
 use Rattle.fm_registry.specs.declared.registry.Subsystem.{Subsystem}
 use Rattle.fm_registry.specs.contracts.names.TailedPartialEq.TheImpl as key
 
--- keys are equal where their tails are
+-- keys are equal if their tails are
 tails_decide : (a b : Tailed) → Decides (key.ghosts.eq a b) (string_bytes a.tail ≡ string_bytes b.tail)
 tails_decide a b = bytes_eq-Decides (string_bytes a.tail) (string_bytes b.tail)
 
@@ -35,7 +35,7 @@ module _ {M : Type 0} where
       (Decides-like (bytes_eq (tail_of (seen_metric e.metadata x)) (string_bytes k.tail)) (λ h. sym h ∙ sym e.fits) (λ h. sym e.fits ∙ sym h) (bytes_eq-Decides (tail_of (seen_metric e.metadata x)) (string_bytes k.tail)))
       (tails_decide k e)
 
-  -- a tail is there where the map has its key
+  -- a tail is there if the map has its key
   has_tail : (es : List (Tailed × M)) (k : Tailed) → has_text (tails_of (seen_metrics es)) (string_bytes k.tail) ≡ is_some (lookup (key.ghosts.eq k) es)
   has_tail [] k = refl
   has_tail (e ∷ es) k =

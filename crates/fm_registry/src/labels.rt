@@ -144,7 +144,9 @@ fn is_among(labels: &[(String, String)], name: &str) -> bool
 // Whether a root refuses a label with this name after the labels `before`: the name is not valid, or one of them has
 // it.
 fn is_refused_behind(before: &[(String, String)], name: &str) -> bool
-    ensures { MatchBool result (label_refusal_behind (map (λ l. l.name) (labels_of before.now)) name.now ≡ Some (label_fault name.now)) (label_refusal_behind (map (λ l. l.name) (labels_of before.now)) name.now ≡ None) }
+    ensures { MatchBool result
+        (label_refusal_behind (map (λ l. l.name) (labels_of before.now)) name.now ≡ Some (label_fault name.now))
+        (label_refusal_behind (map (λ l. l.name) (labels_of before.now)) name.now ≡ None) }
 {
     if !is_label_name(name) {
         return true;

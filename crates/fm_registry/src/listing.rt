@@ -39,7 +39,11 @@ pub(crate) fn list_metrics<'a, M>(
     metrics: &'a IndexMap<Tailed, M>,
     list: &mut Vec<ListedMetric<'a, M>>,
 ) -> Result<(), AllocError>
-    ensures { OnOk result (seen_list list.new.items ≡ seen_list list.old.items ++ listed_with (option_map string_bytes namespace.now) (seen_labels const_labels.now) (seen_metrics metrics.now.entries)) }
+    ensures { OnOk result
+        (seen_list list.new.items
+        ≡ seen_list list.old.items
+        ++ listed_with (option_map string_bytes namespace.now) (seen_labels const_labels.now)
+        (seen_metrics metrics.now.entries)) }
 {
     for index in 0..metrics.len() {
         if let Some((key, metric)) = metrics.get_index(index) {

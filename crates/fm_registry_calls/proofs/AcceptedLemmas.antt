@@ -63,7 +63,7 @@ module _ {M : Type 0} where
     new = (λ i. gained (record { namespace = d.namespace; labels = d.labels; depth = d.depth; calls = sym calls i }) call) ∙ h.new;
   }
 
-  -- a call below a subsystem is accepted where the subsystem is there
+  -- a call below a subsystem is accepted if the subsystem is there
   there_from : (b : Book M) (n : Text) (call : Call M) → answer b (in_front n call) ≡ None → has_text (children_at b.calls []) n ≡ true
   there_from b n call h = by (has_text (children_at b.calls []) n) refl
     where

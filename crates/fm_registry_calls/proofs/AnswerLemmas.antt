@@ -28,17 +28,17 @@ pub none_from : {T : Type 0} (o : Option T) → is_some o ≡ false → o ≡ No
 none_from None h = refl
 none_from (Some x) h = absurd (true≢false h)
 
--- where two refusals come to none, both are none
+-- if two refusals together are none, both are none
 pub or_then-none : (o later : Option Refusal) → or_then o later ≡ None → (o ≡ None) × (later ≡ None)
 or_then-none None later h = (refl, h)
 or_then-none (Some r) later h = absurd (some_not_none h)
 
--- where nothing later refuses, the first decides
+-- if nothing later refuses, the first decides
 or_then-first : (o : Option Refusal) → or_then o None ≡ o
 or_then-first None = refl
 or_then-first (Some r) = refl
 
--- where no test refuses, each of them passes
+-- if no test refuses, each of them passes
 two_pass : (c d : Bool) (r s : Refusal) → first_of ((c, r) ∷ (d, s) ∷ []) ≡ None → (c ≡ false) × (d ≡ false)
 two_pass true d r s h = absurd (some_not_none h)
 two_pass false true r s h = absurd (some_not_none h)
@@ -80,7 +80,7 @@ namespace_passed n h = not_false (is_snake_case n) (by (not (is_snake_case n)) h
     by true e = absurd (some_not_none e)
     by false e = refl
 
--- where the first tests pass, the others decide
+-- if the first tests pass, the others decide
 pub first_of-++ : (ts us : List (Bool × Refusal)) → None ≡ first_of ts → first_of (ts ++ us) ≡ first_of us
 first_of-++ [] us h = refl
 first_of-++ (t ∷ ts) us h =
@@ -102,7 +102,7 @@ first_of-stays (t ∷ ts) us why h =
     elim t.0 as (λ c. Some why ≡ (if c then Some t.1 else first_of ts) → (if c then Some t.1 else first_of (ts ++ us)) ≡ Some why)
     [ true ↦ λ e. sym e | false ↦ λ e. first_of-stays ts us why e ] h
 
--- where no test refuses, the first ones don't
+-- if no test refuses, the first ones don't
 first_of-front : (ts us : List (Bool × Refusal)) → first_of (ts ++ us) ≡ None → first_of ts ≡ None
 first_of-front [] us h = refl
 first_of-front (t ∷ ts) us h =
@@ -110,11 +110,11 @@ first_of-front (t ∷ ts) us h =
     [ true ↦ λ e. e | false ↦ λ e. first_of-front ts us e ] h
 
 module _ {M : Type 0} (there : List (Registration M)) (children : List Text) (r : Registration M) where
-  -- where the name and the unit pass, what is there decides
+  -- if the name and the unit pass, what is there decides
   pub metric_refusal-named : None ≡ name_refusal r.name r.metric_type r.unit → metric_refusal there children r ≡ standing_refusal there children r
   metric_refusal-named h = first_of-++ (name_tests r.name r.metric_type r.unit) ((has_metric there r, AlreadyExists r.name) ∷ (is_tail_taken (tails_of there) children (tail_of r), NameTaken r.name) ∷ []) h
 
-  -- where the name or the unit does not pass, nothing else decides
+  -- if the name or the unit does not pass, nothing else decides
   pub metric_refusal-refused : (why : Refusal) → Some why ≡ name_refusal r.name r.metric_type r.unit → metric_refusal there children r ≡ Some why
   metric_refusal-refused why h = first_of-stays (name_tests r.name r.metric_type r.unit) ((has_metric there r, AlreadyExists r.name) ∷ (is_tail_taken (tails_of there) children (tail_of r), NameTaken r.name) ∷ []) why h
 

@@ -49,7 +49,7 @@ module _ {M : Type 0} where
       elim (is_same_metric r s) as (λ c. is_same_metric r s ≡ c → (if c then true else has_metric rs r) ≡ false)
       [ true ↦ λ e. absurd (h.0 (sym (same_tail r s e))) | false ↦ λ e. none_same rs r h.1 ] refl
 
-  -- where none has its tail
+  -- if none has its tail
   pub absent_under_tail : (rs : List (Registration M)) (r : Registration M) → has_text (tails_of rs) (tail_of r) ≡ false → has_metric rs r ≡ false
   absent_under_tail [] r h = refl
   absent_under_tail (s ∷ rs) r h =

@@ -48,7 +48,7 @@ module _ {M : Type 0} where
   differ_below : (t : Tree M) (b : Book M) → Reads t b → DifferBelow t
   differ_below t b r p = ap is_once (r.shows.children p) ∙ is_once-children b p r.book
 
-  -- a tree that shows a book, where the names of subsystems differ
+  -- a tree that shows a book, if the names of subsystems differ
   record ShowsOnce (t : Tree M) (b : Book M) : Type 0 where
     shows : Shows t b
     once : DifferBelow t
@@ -60,7 +60,7 @@ module _ {M : Type 0} where
     once = λ p. subst (λ o. is_once (children_of (subtree_from o p)) ≡ true) there (r.once (n ∷ p));
   }
 
-  -- each subsystem's metrics, where every one lists its own in order
+  -- each subsystem's metrics, if every one lists its own in order
   forest-order : (k : ℕ) (f : Forest M) (b : Book M)
       → ((t : Tree M) (d : Book M) → length d.calls ≤ k → ShowsOnce t d → listed_tree t ≡ order_to k d)
       → is_once (names_in f) ≡ true

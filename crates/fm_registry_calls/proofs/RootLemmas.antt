@@ -53,7 +53,7 @@ root_labels_valid labels h =
     let new = are_new [] labels h in
     record { names = new.names; different = new.different }
 
--- labels in turn: where the first ones pass, the others decide
+-- labels in turn: if the first ones pass, the others decide
 pub labels_refusal_behind-++ : (before : List Text) (xs ys : Labels) → labels_refusal_behind before xs ≡ None → labels_refusal_behind before (xs ++ ys) ≡ labels_refusal_behind (before ++ map (λ l. l.name) xs) ys
 labels_refusal_behind-++ before [] ys h = ap (λ ns. labels_refusal_behind ns ys) (sym (append-nil before))
 labels_refusal_behind-++ before (x ∷ xs) ys h =

@@ -13,7 +13,7 @@ use Rattle.fm_registry_calls.proofs.AcceptedLemmas.{IsBook-below, IsBook-gained,
 use Rattle.fm_registry_calls.proofs.BookLemmas.{metrics_at-calls_below, children_at-calls_below, labels_at-book_below, metrics_at-++, children_at-++, labels_given-++, calls_below-++}
 
 module _ {M : Type 0} where
-  -- a name is among a forest's names where a registry with it is found
+  -- a name is among a forest's names if a registry with it is found
   pub has_found : (f : Forest M) (n : Text) (c : Tree M) → find_child f n ≡ Some c → has_text (names_in f) n ≡ true
   has_found Leaf n c e = absurd (none_not_some e)
     where
@@ -54,7 +54,7 @@ module _ {M : Type 0} where
   pub reads_root : (t : Tree M) (b : Book M) → Reads t b → ReadsRoot t b
   reads_root t b r = record { metrics = r.shows.metrics []; children = r.shows.children []; namespace = r.shows.namespace []; labels = r.shows.labels []; depth = r.shows.depth [] ∙ omega arith; book = r.book }
 
-  -- and a tree reads a book where its root does and each subsystem reads the calls below it
+  -- and a tree reads a book if its root does and each subsystem reads the calls below it
   pub reads_above : (t : Tree M) (b : Book M) → ReadsRoot t b → ((n : Text) → ReadsFrom (find_child t.children n) (book_below b n)) → Reads t b
   reads_above t b root below = record {
     shows = record { metrics = metrics; children = children; namespace = namespace; labels = labels; depth = depth };
@@ -114,7 +114,7 @@ module _ {M : Type 0} where
         | false ↦ λ h. labels_given-absent calls q n h
       ] absent
 
-  -- a name is among a forest's names where a registry with it is found
+  -- a name is among a forest's names if a registry with it is found
   pub absent_from_find : (f : Forest M) (n : Text) → find_child f n ≡ None → has_text (names_in f) n ≡ false
   absent_from_find Leaf n e = refl
   absent_from_find (Child m facts below rest) n e =

@@ -60,7 +60,7 @@ module _ {M : Type 0} where
   with_nth (Child name facts below rest) zero new w = Child new w.facts w.children rest
   with_nth (Child name facts below rest) (suc place) new w = Child name facts below (with_nth rest place new w)
 
-  -- the index of the registry with the wanted name, where the first registry has this index
+  -- the index of the registry with the wanted name, if the first registry has this index
   abbrev pub place_from : ℕ → Forest M → Text → Option ℕ
   place_from place Leaf wanted = None
   place_from place (Child name facts below rest) wanted = if bytes_eq name wanted then Some place else place_from (place + 1) rest wanted

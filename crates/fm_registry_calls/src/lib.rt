@@ -97,6 +97,7 @@ impl<T: Drop> From<AllocFailed<T>> for RegistryError {
 /// In every book of accepted calls the rules for names hold in each registry, and no two of all its metrics have the
 /// same name in the exposition.
 pub fn names_are_different<M>()
-    ensures rules { (b : Book M) (path : Path) → IsBook b → AreSeparate (tails_of (metrics_at b.calls path)) (children_at b.calls path) }
+    ensures rules { (b : Book M) (path : Path) → IsBook b
+        → AreSeparate (tails_of (metrics_at b.calls path)) (children_at b.calls path) }
     ensures names { (b : Book M) → IsBook b → AllDifferent (map listed_name (order b)) }
 {}

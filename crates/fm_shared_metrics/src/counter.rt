@@ -133,7 +133,9 @@ impl<N: CounterValue> TypedMetric for Counter<N> {
 }
 
 impl<N: CounterValue + EncodeCounterValue> EncodePoint for Counter<N> {
-    ghost points = { λ c ps. (total : N) × N.in_range total × (ps ≡ CounterPoint (N.numbers total) [] (option_map millis (created_of c)) ∷ []) };
+    ghost points = { λ c ps. (total : N)
+        × N.in_range total
+        × (ps ≡ CounterPoint (N.numbers total) [] (option_map millis (created_of c)) ∷ []) };
 
     ghost may_fault = { λ _. (total : N) × N.in_range total × N.may_fault total };
 

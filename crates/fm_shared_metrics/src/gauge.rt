@@ -121,7 +121,9 @@ impl<N: GaugeValue + EncodeGaugeValue> EncodePoint for Gauge<N> {
 impl<N: GaugeValue + EncodeGaugeValue> EncodeMetric for Gauge<N> {
     ghost types = { λ _ t. t ≡ GaugeType };
 
-    ghost offers = { λ _ ms. (value : N) × N.in_range value × (ms ≡ record { labels = []; point = GaugePoint (N.numbers value) } ∷ []) };
+    ghost offers = { λ _ ms. (value : N)
+        × N.in_range value
+        × (ms ≡ record { labels = []; point = GaugePoint (N.numbers value) } ∷ []) };
 
     ghost may_fault = { λ _. (value : N) × N.in_range value × N.may_fault value };
 

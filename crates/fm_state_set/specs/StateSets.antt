@@ -24,7 +24,7 @@ module _ {T : Type 0} (eq : T → T → Bool) (all : List T) where
   abbrev pub AreDifferent : Type 0
   AreDifferent = (i j : ℕ) (x y : T) → i < j → slice_get all i ≡ Some x → slice_get all j ≡ Some y → eq x y ≡ false
 
-  -- each state's text, in order, with true where the state equals `current`
+  -- each state's text, in order, with true if the state equals `current`
   abbrev pub states_at : (T → List ℕ) → T → List (List ℕ × Bool)
   states_at text current = map (λ x. (text x, eq x current)) all
 

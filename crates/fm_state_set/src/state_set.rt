@@ -53,7 +53,8 @@ fn find_state<T: PartialEq>(all: &[T], state: &T) -> Option<usize>
 
 // If `state` equals `other` and one of a list of states, then `other` equals one of them too.
 fn equal_is_known<T: PartialEq>(state: &T, other: &T)
-    ensures { (all : List T) → T.eq state.now other.now ≡ true → ∥ IsState T.eq all state.now ∥₁ → ∥ IsState T.eq all other.now ∥₁ }
+    ensures { (all : List T) → T.eq state.now other.now ≡ true → ∥ IsState T.eq all state.now ∥₁
+        → ∥ IsState T.eq all other.now ∥₁ }
 {
     let _state = state;
     let _other = other;
@@ -67,7 +68,8 @@ trait TellStates: StateSetValue + 'static {
 impl<T: StateSetValue + 'static> TellStates for T {
     fn tell_states(&self, alloc: Global) -> Result<Vec<(&str, bool)>, MetricError>
         ensures told { IfOk result (λ told. map state_of told.items ≡ states_at T.eq T.all T.text self.now) }
-        ensures one { AreDifferent T.eq T.all → ∥ IsState T.eq T.all self.now ∥₁ → IfOk result (λ told. count_by (λ p. p.1) told.items ≡ 1) }
+        ensures one { AreDifferent T.eq T.all → ∥ IsState T.eq T.all self.now ∥₁
+            → IfOk result (λ told. count_by (λ p. p.1) told.items ≡ 1) }
         ensures memory { IfErr result (λ e. e ≡ Memory) }
     {
         let mut told = Vec::new(alloc);
@@ -112,7 +114,9 @@ impl<T: StateSetValue + 'static> StateSet<T> {
     /// A state set whose current state is `state`. Errors, in this order: there are more than 256 states
     /// (`TooManyStates`), no state equals `state` (`UnknownState`), memory runs out (`Memory`).
     pub fn new(alloc: Global, state: T) -> Result<StateSet<T>, MetricError>
-        ensures { MatchResult result (λ _. (length T.all ≤ MAX_STATES) × IsState T.eq T.all state) (IsRefusedAs T.eq T.all state) }
+        ensures { MatchResult result
+            (λ _. (length T.all ≤ MAX_STATES) × IsState T.eq T.all state)
+            (IsRefusedAs T.eq T.all state) }
     {
         if T::variants().len() > MAX_STATES {
             return Err(MetricError::TooManyStates);
@@ -141,7 +145,9 @@ impl<T: StateSetValue + 'static> StateSet<T> {
     /// Each state's text, in order, and whether the state equals the current one. Fails with `Memory` if memory runs
     /// out.
     pub fn states(&self) -> Result<Vec<(&str, bool)>, MetricError>
-        ensures told { IfOk result (λ told. (current : T) × IsVariant T.eq T.all current × (map state_of told.items ≡ states_at T.eq T.all T.text current)) }
+        ensures told { IfOk result (λ told. (current : T)
+            × IsVariant T.eq T.all current
+            × (map state_of told.items ≡ states_at T.eq T.all T.text current)) }
         ensures one { IfOk result (λ told. AreDifferent T.eq T.all → count_by (λ p. p.1) told.items ≡ 1) }
         ensures memory { IfErr result (λ e. e ≡ Memory) }
     {
@@ -192,7 +198,9 @@ impl<T: StateSetValue + 'static> TypedMetric for StateSet<T> {
 }
 
 impl<T: StateSetValue + 'static> EncodePoint for StateSet<T> {
-    ghost points = { λ _ ps. (current : T) × IsVariant T.eq T.all current × (ps ≡ StateSetPoint (states_at T.eq T.all T.text current) ∷ []) };
+    ghost points = { λ _ ps. (current : T)
+        × IsVariant T.eq T.all current
+        × (ps ≡ StateSetPoint (states_at T.eq T.all T.text current) ∷ []) };
 
     fn encode(&self, points: &mut PointEncoder) -> Result<(), EncodeError> {
         let Ok(states) = self.current().tell_states(self.alloc) else {
@@ -238,7 +246,9 @@ impl<T: StateSetValue + 'static> ConstStateSet<T> {
     /// state equals `state` (`UnknownState`). It takes no memory. It keeps the allocator for `states`.
     pub fn new(alloc: Global, state: T) -> Result<ConstStateSet<T>, MetricError>
         ensures made { IfOk result (λ s. kept_state s ≡ state) }
-        ensures refused { MatchResult result (λ _. (length T.all ≤ MAX_STATES) × IsState T.eq T.all state) (λ e. IsRefusedAs T.eq T.all state e × ¬ (e ≡ Memory)) }
+        ensures refused { MatchResult result
+            (λ _. (length T.all ≤ MAX_STATES) × IsState T.eq T.all state)
+            (λ e. IsRefusedAs T.eq T.all state e × ¬ (e ≡ Memory)) }
     {
         if T::variants().len() > MAX_STATES {
             return Err(MetricError::TooManyStates);

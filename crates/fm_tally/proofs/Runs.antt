@@ -40,7 +40,7 @@ amount_within who adds = sum_by-le-sum_by (λ (a : Accepted). cond (a.who == who
 room : (start v rest : ℕ) (before : List Accepted) → start + sum_of before + (v + rest) < 2 ^ 64 → fits start before v ≡ true
 room start v rest before h = grind (arith, nat_tests)
 
--- where all values fit, all are accepted and none is refused
+-- if all values fit, all are accepted and none is refused
 pub all_accepted : (start : ℕ) (before : List Accepted) (es : List Event) → start + sum_of before + sum_by event_value es < 2 ^ 64
     → (sum_of (accepted_after start before es) ≡ sum_of before + sum_by event_value es) × All (λ r. r ≢ Full) (replies_after start before es)
 all_accepted start before [] h = (omega arith, All-nil (λ r. r ≢ Full))

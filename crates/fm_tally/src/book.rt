@@ -81,8 +81,10 @@ impl Book {
         ensures sum { OnOk result (self.new ≡ self.old + sum_of (accepted self.old events.now)) }
         ensures own { IfOk result (λ r. (k who : ℕ) (d : Reply) (e : Event) → k < length events.now → slice_index_or events.now k e ≡ Event.Read who
             → (s : ℕ) × (slice_index_or r.items k d ≡ Reply.Sum s) × (amount who (accepted self.old (take k events.now)) ≤ s)) }
-        ensures none_refused { IfOk result (λ r. self.old + sum_by event_value events.now < 2 ^ 64 → All (λ x. x ≢ Reply.Full) r.items) }
-        ensures whole_sum { OnOk result (self.old + sum_by event_value events.now < 2 ^ 64 → self.new ≡ self.old + sum_by event_value events.now) }
+        ensures none_refused { IfOk result (λ r. self.old + sum_by event_value events.now < 2 ^ 64
+            → All (λ x. x ≢ Reply.Full) r.items) }
+        ensures whole_sum { OnOk result
+            (self.old + sum_by event_value events.now < 2 ^ 64 → self.new ≡ self.old + sum_by event_value events.now) }
         ensures only_memory { IfErr result (λ e. e ≡ TallyError.Memory) }
         ensures kept { OnErr result (self.new ≡ self.old) }
     {
@@ -96,8 +98,10 @@ impl Book {
 
     // Carries out one event, whatever was accepted before it.
     fn make(&mut self, event: Event) -> Reply
-        ensures reply { (start : ℕ) (before : List Accepted) → self.old ≡ start + sum_of before → result ≡ reply start before event }
-        ensures sum { (start : ℕ) (before : List Accepted) → self.old ≡ start + sum_of before → self.new ≡ start + sum_of (accept start before event) }
+        ensures reply { (start : ℕ) (before : List Accepted) → self.old ≡ start + sum_of before
+            → result ≡ reply start before event }
+        ensures sum { (start : ℕ) (before : List Accepted) → self.old ≡ start + sum_of before
+            → self.new ≡ start + sum_of (accept start before event) }
     {
         match event {
             Event::Add { who, v } => match self.add(who, v) {

@@ -1,4 +1,4 @@
--- Metrics that go on after a refusal, and answer `Ok`.
+-- Metrics that go on after a refusal, and return `Ok`.
 use Rattle.std.proofs.Common.{◌≡◌, ◌∙◌, ◌++◌, inl, inr, List, [], ◌∷◌, Result, Ok, refl, sym, ap}
 use Rattle.fm_encoder.proofs.Cases.{option_cases}
 use Rattle.fm_encode_error.specs.declared.EncodeError.{EncodeError}
@@ -12,7 +12,7 @@ MembersFault-before k context [] ys h = absurd h
 MembersFault-before k context (x ∷ xs) ys (inl h) = inl h
 MembersFault-before k context (x ∷ xs) ys (inr h) = inr (MembersFault-before k context xs ys h)
 
--- members of one part, whatever it was answered, and then of another
+-- members of one part, whatever the encoder returned, and then of another
 pub HandsMembers-ignored : {A B : List Member → Type 0} {F : Type 0} (old mid new : GatheredMembers) (first second : Result (Unit {0}) EncodeError) (others : List Member) → HandsMembers A F old mid first → first ≡ result_of mid.refused → HandsMembers B F mid new second → second ≡ result_of new.refused → B others → HandsMembers (Joined A B) F old new (Ok tt)
 HandsMembers-ignored {A} {B} {F} old mid new first second others a first_is b second_is admitted = record {
   context = b.context ∙ a.context;

@@ -1,4 +1,4 @@
--- The labels of replies, as they are handed over.
+-- The labels of replies, as they are emitted.
 use Rattle.std.specs.Prelude.{ℕ, Bool, true, false, List, [], ◌∷◌, Option, codes, decimal, if◌then◌else◌}
 use Rattle.std.specs.Option.{option_map_or}
 use Rattle.fastmetrics.specs.Labels.{HandedLabel, NamePiece, ValuePiece}
@@ -12,7 +12,7 @@ abbrev pub method_text : Method → List ℕ
 method_text Get = codes "GET"
 method_text Put = codes "PUT"
 
--- the label of an error, which is left out where nothing is known
+-- the label of an error, which is left out if nothing is known
 abbrev pub error_labels : Option Bool → List HandedLabel
 error_labels error =
     (if option_map_or (λ _. false) error true then []

@@ -21,7 +21,7 @@ pub fn have_counts(buckets: &[Bucket], counts: &[u64]) -> bool {
             .all(|(bucket, count)| bucket.count() == *count)
 }
 
-// Fails where these are not the buckets' own counts, or two pairs of a count and a sum are not equal.
+// Fails if these are not the buckets' own counts, or two pairs of a count and a sum are not equal.
 fn expect_totals(
     buckets: &[Bucket],
     counts: &[u64],
@@ -35,7 +35,7 @@ fn expect_totals(
     }
 }
 
-/// Fails where these are not the counts of a histogram's buckets, and its count and its sum.
+/// Fails if these are not the counts of a histogram's buckets, and its count and its sum.
 pub fn expect_observed(
     all: &HistogramSnapshot,
     counts: &[u64],
@@ -50,7 +50,7 @@ pub fn expect_observed(
     )
 }
 
-/// Fails where these are not the counts of a gauge histogram's buckets, and its count and its sum.
+/// Fails if these are not the counts of a gauge histogram's buckets, and its count and its sum.
 pub fn expect_observed_gauge(
     all: &GaugeHistogramSnapshot,
     counts: &[u64],
@@ -65,7 +65,7 @@ pub fn expect_observed_gauge(
     )
 }
 
-/// Fails where a sum is not written so.
+/// Fails if a sum is not written so.
 pub fn expect_sum(alloc: Global, sum: FixedSum, want: &str) -> Result<(), Fail> {
     let mut text = String::new(alloc);
     sum.write_text(&mut text)?;

@@ -62,7 +62,7 @@ impl EncodeMetric for Failing {
     }
 }
 
-/// A metric that returns one type when it is asked first, and another from then on. It emits a gauge.
+/// A metric that returns one type at the first call, and another from then on. It emits a gauge.
 #[derive(Drop)]
 pub struct Fickle {
     first: MetricType,

@@ -1,4 +1,4 @@
-//! Metrics of a user's own, which hand over members of any labels and points.
+//! Metrics of a user's own, which emit members of any labels and points.
 ghost use Rattle.std.specs.Prelude.{◌≡◌, ◌⊎◌};
 ghost use Rattle.std.specs.Option.{option_map};
 ghost use Rattle.fm_encoder.specs.Points.{millis};

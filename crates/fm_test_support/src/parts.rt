@@ -1,4 +1,4 @@
-//! Labels, values and points of a user's own: joined ones, and such as break the rules.
+//! Labels, values and points of a user's own: joined ones, and others that break the rules.
 ghost use Rattle.std.specs.Prelude.{◌≡◌, [], ◌∷◌, pos, false, codes, if◌then◌else◌};
 ghost use Rattle.fm_grammar.specs.Exposition.{Whole};
 ghost use Rattle.fm_grammar.specs.Numbers.{fixed_text};
@@ -70,7 +70,7 @@ impl EncodeLabelSet for Version {
     }
 }
 
-/// A label that hands over its value before its name.
+/// A label that emits its value before its name.
 #[derive(Drop)]
 pub struct ValueFirst(pub &'static str);
 
@@ -83,7 +83,7 @@ impl EncodeLabel for ValueFirst {
     }
 }
 
-/// A label that hands over a name and no value.
+/// A label that emits a name and no value.
 #[derive(Drop)]
 pub struct NameAlone(pub &'static str);
 
@@ -95,7 +95,7 @@ impl EncodeLabel for NameAlone {
     }
 }
 
-/// A label that hands over two names.
+/// A label that emits two names.
 #[derive(Drop)]
 pub struct TwoNames(pub &'static str, pub &'static str);
 
@@ -108,7 +108,7 @@ impl EncodeLabel for TwoNames {
     }
 }
 
-/// A label that hands over its name and two values.
+/// A label that emits its name and two values.
 #[derive(Drop)]
 pub struct TwoValues(pub &'static str);
 
@@ -122,12 +122,12 @@ impl EncodeLabel for TwoValues {
     }
 }
 
-/// A label that hands over its name and the value `x`, or nothing at all.
+/// A label that emits its name and the value `x`, or nothing at all.
 #[derive(Drop)]
 pub struct Perhaps {
     /// Its name.
     pub name: &'static str,
-    /// Whether it is handed over.
+    /// Whether it is emitted.
     pub is_written: bool,
 }
 
@@ -143,7 +143,7 @@ impl EncodeLabel for Perhaps {
     }
 }
 
-/// A label set that says it is empty, and answers an error where it is visited nevertheless.
+/// A label set that says it is empty, and returns an error if it is visited nevertheless.
 #[derive(Drop)]
 pub struct Unvisited;
 
@@ -255,7 +255,7 @@ impl<V: EncodeUnknownValue> EncodePoint for UnknownOf<V> {
     }
 }
 
-/// A label, a label set, a value, an exemplar or a point that answers an error of its own.
+/// A label, a label set, a value, an exemplar or a point that returns an error of its own.
 #[derive(Drop)]
 pub struct Faulty(pub EncodeError);
 

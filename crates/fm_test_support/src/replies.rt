@@ -33,10 +33,10 @@ impl EncodeLabelValue for Method {
     }
 }
 
-/// Whether there was an error, where that is known.
+/// Whether there was an error, if that is known.
 #[derive(Clone, Copy, PartialEq, Eq, Hash)]
 pub struct Outcome {
-    /// True where there was one.
+    /// True if there was one.
     pub error: Option<bool>,
 }
 
@@ -48,14 +48,14 @@ impl EncodeLabelSet for Outcome {
     }
 }
 
-/// How a request was made and answered.
+/// The method of a request and the status of its response.
 #[derive(Clone, Copy, PartialEq, Eq, Hash)]
 pub struct Reply {
     /// How it was made.
     pub method: Method,
-    /// The number of the answer's status.
+    /// The status number of the response.
     pub status: u16,
-    /// True where there was an error, where that is known.
+    /// True if there was an error, if that is known.
     pub error: Option<bool>,
 }
 
@@ -69,7 +69,7 @@ impl EncodeLabelSet for Reply {
     }
 }
 
-/// Which path was asked for.
+/// Which path was requested.
 #[derive(Clone, PartialEq, Eq, Hash, Drop)]
 pub struct Path {
     /// The path.

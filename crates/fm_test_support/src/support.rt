@@ -10,7 +10,7 @@ use std::alloc::Global;
 use std::io::{self, ErrorKind, Write};
 use std::test::Fail;
 
-/// A writer that takes at most `step` bytes a call and `room` bytes in all. Then it answers an error of this kind, or 0.
+/// A writer that takes at most `step` bytes a call and `room` bytes in all. Then it returns an error of this kind, or 0.
 #[derive(Drop)]
 pub struct Stopping {
     /// What was taken so far.
@@ -50,19 +50,19 @@ impl Write for Stopping {
     }
 }
 
-/// How many refusals of memory a story still bears.
+/// How many refusals of memory a story still tolerates.
 #[derive(Drop)]
 pub struct Patience {
     refusals: u32,
 }
 
 impl Patience {
-    /// Bears so many refusals.
+    /// Tolerates this number of refusals.
     pub fn new(refusals: u32) -> Patience {
         Patience { refusals }
     }
 
-    /// Bears a refusal.
+    /// Tolerates a refusal.
     pub fn bear(&mut self) -> Result<(), Fail> {
         if self.refusals == 0 {
             return Err(Fail::new("refused"));
@@ -80,7 +80,7 @@ pub fn text_of(bytes: Vec<u8>) -> Result<String, Fail> {
     }
 }
 
-// What encoding answers, and what a writer with this line then holds: straight, and by collecting first. Both are the same.
+// What encoding returns, and what a writer with this line then holds: straight, and by collecting first. Both are the same.
 fn encoded_both_ways(
     alloc: Global,
     before: &str,
@@ -110,7 +110,7 @@ pub fn document_of(alloc: Global, registry: &Registry) -> Result<String, Fail>
     Ok(document)
 }
 
-/// Fails where a text is not the wanted one.
+/// Fails if a text is not the wanted one.
 pub fn expect_text(text: &str, want: &str) -> Result<(), Fail> {
     if text == want {
         Ok(())
@@ -119,7 +119,7 @@ pub fn expect_text(text: &str, want: &str) -> Result<(), Fail> {
     }
 }
 
-/// Fails where this is not the document of a registry.
+/// Fails if this is not the document of a registry.
 pub fn expect_document_of(alloc: Global, registry: &Registry, want: &str) -> Result<(), Fail>
     requires { HasBook registry.now }
 {
@@ -127,7 +127,7 @@ pub fn expect_document_of(alloc: Global, registry: &Registry, want: &str) -> Res
     expect_text(document.as_str(), want)
 }
 
-// What encoding a metric under this name and the help `H` answers, and what a writer with this line then holds.
+// What encoding a metric under this name and the help `H` returns, and what a writer with this line then holds.
 fn encoded_after(
     alloc: Global,
     before: &str,
@@ -152,7 +152,7 @@ pub fn document_alone(
     Ok(document)
 }
 
-/// Fails where this is not the document of a metric alone, under this name and the help `H`.
+/// Fails if this is not the document of a metric alone, under this name and the help `H`.
 pub fn expect_document(
     alloc: Global,
     name: &str,
@@ -185,13 +185,13 @@ pub fn refusal(alloc: Global, metric: Box<dyn EncodeMetric>) -> Result<EncodeErr
     }
 }
 
-/// Fails where these are not the sample lines and the last line of a gauge `t`.
+/// Fails if these are not the sample lines and the last line of a gauge `t`.
 pub fn expect_lines(alloc: Global, metric: Box<dyn EncodeMetric>, want: &str) -> Result<(), Fail> {
     let lines = lines_of(alloc, metric)?;
     expect_text(lines.as_str(), want)
 }
 
-/// Fails where a metric alone, under the name `t`, is not refused by this error, or where a refusal wrote something.
+/// Fails if a metric alone, under the name `t`, is not refused by this error, or if a refusal wrote something.
 pub fn expect_refusal(
     alloc: Global,
     metric: Box<dyn EncodeMetric>,

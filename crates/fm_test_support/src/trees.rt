@@ -8,7 +8,7 @@ use fastmetrics::registry::{Registry, RegistryCall, RegistryError};
 use std::alloc::{AllocError, Global};
 use std::test::Fail;
 
-/// Texts of their own memory, such as the names of a path.
+/// Owned texts, such as the names of a path.
 pub fn texts(alloc: Global, names: &[&str]) -> Result<Vec<String>, AllocError> {
     let mut texts = Vec::new(alloc);
     for name in names {
@@ -17,7 +17,7 @@ pub fn texts(alloc: Global, names: &[&str]) -> Result<Vec<String>, AllocError> {
     Ok(texts)
 }
 
-/// Labels of their own memory.
+/// Owned labels.
 pub fn labels(alloc: Global, pairs: &[(&str, &str)]) -> Result<Vec<(String, String)>, AllocError> {
     let mut labels = Vec::new(alloc);
     for (name, value) in pairs {
@@ -36,7 +36,7 @@ pub fn are_labels(labels: &[(String, String)], pairs: &[(&str, &str)]) -> bool {
             && label.1.as_str() == pair.1)
 }
 
-// The number of an answer's refusal, and 0 for `Ok`.
+// The number of the refusal in a result, and 0 for `Ok`.
 fn number_of(answer: &Result<(), RegistryError>) -> u8 {
     match answer {
         Ok(()) => 0,
@@ -62,7 +62,7 @@ fn text_in(error: &RegistryError) -> &str {
     }
 }
 
-/// Fails where this is not the refusal with this number, which names this text.
+/// Fails if this is not the refusal with this number, which names this text.
 pub fn expect_refused(
     answer: Result<(), RegistryError>,
     number: u8,
@@ -75,7 +75,7 @@ pub fn expect_refused(
     }
 }
 
-/// Whether these are the numbers of the answers' refusals, with 0 for `Ok`.
+/// Whether these are the numbers of the refusals in the results, with 0 for `Ok`.
 pub fn have_numbers(answers: &[Result<(), RegistryError>], numbers: &[u8]) -> bool {
     answers.len() == numbers.len()
         && answers
@@ -84,7 +84,7 @@ pub fn have_numbers(answers: &[Result<(), RegistryError>], numbers: &[u8]) -> bo
             .all(|(answer, number)| number_of(answer) == *number)
 }
 
-/// Whether the answer at this index is the refusal with this number, which names this text.
+/// Whether the result at this index is the refusal with this number, which names this text.
 pub fn refuses(
     answers: &[Result<(), RegistryError>],
     index: usize,
@@ -97,7 +97,7 @@ pub fn refuses(
     }
 }
 
-/// Whether all answers but the one at this index are `Ok`, and that one is the refusal with this number, which names this
+/// Whether all results but the one at this index are `Ok`, and that one is the refusal with this number, which names this
 /// text.
 pub fn are_accepted_but(
     answers: &[Result<(), RegistryError>],
@@ -109,7 +109,7 @@ pub fn are_accepted_but(
         && answers.iter().filter(|answer| answer.is_err()).count() == 1
 }
 
-/// The path that goes down so often, from one subsystem to another of the same name.
+/// The path that goes down this number of times, from one subsystem to another of the same name.
 pub fn path_down(alloc: Global, name: &str, depth: usize) -> Result<Vec<String>, AllocError> {
     let mut path = Vec::new(alloc);
     for _ in 0..depth {
@@ -148,7 +148,7 @@ pub fn subsystem_at<M: Drop>(
     })
 }
 
-/// Six calls: a metric below where nothing is, the subsystem, a metric there, the subsystem with an invalid label and with
+/// Six calls: a metric in a subsystem that does not exist yet, the subsystem, a metric there, the subsystem with an invalid label and with
 /// a valid one, and a metric of the same name.
 pub fn six_calls<M: Drop>(
     alloc: Global,
@@ -202,7 +202,7 @@ pub fn register(
     register_with(alloc, registry, name, "H", None, metric)
 }
 
-/// Registers a metric with this help in a subsystem, which is made where it is not there.
+/// Registers a metric with this help in a subsystem, which is made if it is not there.
 pub fn register_below_with(
     alloc: Global,
     registry: &mut Registry,
@@ -226,7 +226,7 @@ pub fn register_below_with(
         .register(alloc, name, help, metric)
 }
 
-/// Registers a metric with the help `H` in a subsystem, which is made where it is not there.
+/// Registers a metric with the help `H` in a subsystem, which is made if it is not there.
 pub fn register_below(
     alloc: Global,
     registry: &mut Registry,
@@ -240,7 +240,7 @@ pub fn register_below(
     register_below_with(alloc, registry, below, name, "H", metric)
 }
 
-/// Sees that there is a subsystem, by its builder.
+/// Checks that there is a subsystem, by its builder.
 pub fn build_below(
     alloc: Global,
     registry: &mut Registry,

@@ -1,4 +1,4 @@
-//! Label sets as the keys of families: with random hashers, of lent texts, and of texts of the program.
+//! Label sets as the keys of families: with random hashers, of borrowed texts, and of texts of the program.
 
 use fastmetrics::encoder::{LabelStr, StaticStr};
 use fastmetrics::metrics::counter::Counter;
@@ -10,7 +10,7 @@ use std::test::Fail;
 
 type Hasher = BuildHasherDefault<FoldHasher>;
 
-// Counters by a text that strangers choose.
+// Counters by a text that others can choose.
 type Counters<S> = Family<String, Counter, DefaultFactory<Counter, HostRuntime>, S, HostRuntime>;
 
 #[test]

@@ -10,7 +10,7 @@ type Hasher = BuildHasherDefault<FoldHasher>;
 
 type Core = FamilyCore<u32, u64, Hasher>;
 
-// Whether a label has this member, made as the first number where it has none.
+// Whether a label has this member, made as the first number if it has none.
 fn gives(core: &mut Core, label: u32, new: u64, want: u64) -> bool {
     core.get_or_new(&label, &|| Ok(new)) == Ok(&want)
 }

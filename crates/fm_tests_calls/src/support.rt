@@ -34,7 +34,7 @@ impl StateSetValue for Job {
     }
 }
 
-/// A gauge that hands over no point, though it is not empty.
+/// A gauge that emits no point, though it is not empty.
 #[derive(Drop)]
 pub struct Silent;
 

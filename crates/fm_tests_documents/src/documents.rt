@@ -15,7 +15,7 @@ fn counter(alloc: Global, total: u64) -> Result<Box<ConstCounter>, AllocError> {
     Ok(Box::new(alloc, ConstCounter::new(total))?)
 }
 
-// Fails where this is not the document of a counter alone.
+// Fails if this is not the document of a counter alone.
 fn expect_counter(
     alloc: Global,
     name: &str,

@@ -9,7 +9,7 @@ use std::alloc::Global;
 use std::io::ErrorKind;
 use std::test::Fail;
 
-// Whether these bytes are so many of the document's first ones.
+// Whether these bytes are the document's first ones, and this number of them.
 fn begins_document(bytes: &[u8], count: usize) -> bool {
     bytes.len() == count
         && b"# TYPE jobs counter\n# HELP jobs Jobs done\njobs_total 10100\n# EOF\n".starts_with(
@@ -17,7 +17,7 @@ fn begins_document(bytes: &[u8], count: usize) -> bool {
         )
 }
 
-// Encodes for a writer that stops after so many bytes, and says whether the bytes are the document's first ones.
+// Encodes for a writer that stops after this number of bytes, and says whether the bytes are the document's first ones.
 fn stopped_at(
     alloc: Global,
     registry: &Registry,
@@ -32,7 +32,7 @@ fn stopped_at(
     (answer, begins_document(writer.bytes.as_slice(), room))
 }
 
-// Whether a writer that stops after so many bytes ends the writing there, however it stops.
+// Whether a writer that stops after this number of bytes ends the writing there, however it stops.
 fn stops_at(alloc: Global, registry: &Registry, room: usize) -> bool
     requires { HasBook registry.now }
 {
@@ -63,7 +63,7 @@ fn every_place_to_stop(rt: HostRuntime) -> Result<(), Fail> {
     Ok(())
 }
 
-// What ten bytes take, and what stands behind a beginning.
+// What a writer of ten bytes takes, and what comes after a beginning.
 fn around(
     alloc: Global,
     registry: &Registry,

@@ -20,7 +20,7 @@ c_total{a=\"x\\\"\\\\\\ny\",b=\"\"} 42 1.005 # {} 0.7 2.000
 # EOF
 ";
 
-// Takes at most `step` bytes a call and `room` bytes in all, and then answers an error, or 0.
+// Takes at most `step` bytes a call and `room` bytes in all, and then returns an error, or 0.
 #[derive(Drop)]
 struct Stopping {
     bytes: Vec<u8>,
@@ -194,7 +194,7 @@ fn push_total(alloc: Global, store: &mut SampleStore, i: u32) -> Result<(), Enco
     )
 }
 
-// So many totals, in points of two samples each that share these labels.
+// This number of totals, in points of two samples each that share these labels.
 fn totals(
     alloc: Global,
     common: Vec<(String, String)>,

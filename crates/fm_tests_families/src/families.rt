@@ -55,7 +55,7 @@ fn count_three<H: Wait + Clone + Drop>(replies: &Counters<Reply, H>) -> Result<(
     Ok(())
 }
 
-// Fails where this is not the document of a metric alone, with the help `Total HTTP requests`.
+// Fails if this is not the document of a metric alone, with the help `Total HTTP requests`.
 fn expect_requests(alloc: Global, metric: Box<dyn EncodeMetric>, want: &str) -> Result<(), Fail> {
     let mut registry = Registry::default();
     let help = "Total HTTP requests";
@@ -115,7 +115,7 @@ fn labels_that_are_left_out(rt: HostRuntime) -> Result<(), Fail> {
     )
 }
 
-// Fails where this is not the document of a metric alone, under the constant label `env`.
+// Fails if this is not the document of a metric alone, under the constant label `env`.
 fn expect_under_env(alloc: Global, metric: Box<dyn EncodeMetric>, want: &str) -> Result<(), Fail> {
     let env = labels(alloc, &[("env", "prod")])?;
     let mut registry = Registry::builder().with_const_labels(env)?.build()?;
@@ -133,7 +133,7 @@ fn labels_left_out_after_constant_ones(rt: HostRuntime) -> Result<(), Fail> {
     )
 }
 
-// Whether a reply has this total, or no member where there is none.
+// Whether a reply has this total, or no member if there is none.
 fn has_total<H: Wait + Clone + Drop>(
     replies: &Counters<Reply, H>,
     reply: Reply,
@@ -213,7 +213,7 @@ fn four_threads_lose_nothing(rt: HostRuntime) -> Result<(), Fail> {
     Ok(())
 }
 
-// Fails where this is not the document of a metric alone, each time that it is written.
+// Fails if this is not the document of a metric alone, each time that it is written.
 fn expect_twice(alloc: Global, metric: Box<dyn EncodeMetric>, want: &str) -> Result<(), Fail> {
     let mut registry = Registry::default();
     register(alloc, &mut registry, "m", metric)?;

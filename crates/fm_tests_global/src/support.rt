@@ -62,7 +62,7 @@ impl<M: Drop> Register<M> for One<M> {
     }
 }
 
-// Registers a gauge with the help `H`, where there is one. A refusal leaves the registry as it was.
+// Registers a gauge with the help `H`, if there is one. A refusal leaves the registry as it was.
 fn add_gauge<M: Drop>(
     alloc: Global,
     registry: &mut Registry<M>,

@@ -1,4 +1,4 @@
--- The point of buckets of a user's own, as it is handed over: its slots are empty.
+-- The point of buckets of a user's own, as it is emitted: its slots are empty.
 use Rattle.std.specs.Prelude.{[], replicate}
 use Rattle.std.specs.Option.{option_map}
 use Rattle.fastmetrics.specs.Points.{Point, HistogramPoint, millis}

@@ -246,7 +246,7 @@ fn first_of_two_faults(rt: HostRuntime) -> Result<(), Fail> {
     Ok(())
 }
 
-// A point of two buckets. The exemplar of the second answers an error of its own.
+// A point of two buckets. The exemplar of the second returns an error of its own.
 #[derive(Drop)]
 struct FaultySlot {
     buckets: [Bucket; 2],
@@ -263,7 +263,7 @@ impl EncodePoint for FaultySlot {
     }
 }
 
-// Why buckets with these counts are refused, where the exemplar of the second answers an error of its own.
+// Why buckets with these counts are refused if the exemplar of the second returns an error of its own.
 fn refusal_of_a_slot(alloc: Global, first: u64, second: u64) -> Result<EncodeError, Fail> {
     let bound = Bound::Finite(Fixed::ONE);
     let metric = OneMember {

@@ -1,4 +1,4 @@
-//! Buckets of a user's own, which hand over whatever they have.
+//! Buckets of a user's own, which emit whatever they have.
 ghost use Rattle.std.specs.Prelude.{◌≡◌, [], ◌∷◌, decimal, replicate, IfOk, IfErr};
 ghost use Rattle.std.specs.String.{string_bytes};
 ghost use Rattle.fastmetrics.specs.Labels.{NamePiece, ValuePiece};
@@ -12,7 +12,7 @@ use fastmetrics::raw::{FixedSum, MetricType};
 use std::alloc::Global;
 use std::time::Duration;
 
-/// Buckets with so many slots for exemplars, under one label with the value 3, in a family of this type.
+/// Buckets with this number of slots for exemplars, under one label with the value 3, in a family of this type.
 #[derive(Drop)]
 pub struct OwnBuckets {
     pub metric_type: MetricType,
@@ -24,7 +24,7 @@ pub struct OwnBuckets {
     pub created: Option<Duration>,
 }
 
-// So many slots without exemplars.
+// This number of slots without exemplars.
 fn empty_slots<'a>(alloc: Global, count: usize) -> Result<Vec<Option<&'a ()>>, EncodeError>
     ensures empty { IfOk result (λ v. slots_of (λ _. []) v.items ≡ replicate count []) }
     ensures memory { IfErr result (λ e. e ≡ EncodeError.Memory) }
@@ -53,7 +53,10 @@ impl EncodePoint for OwnBuckets {
 impl EncodeMetric for OwnBuckets {
     ghost types = { λ b t. t ≡ b.metric_type };
 
-    ghost offers = { λ b ms. ms ≡ record { labels = (NamePiece (string_bytes b.label) ∷ ValuePiece (decimal 3) ∷ []) ∷ []; point = own_point b } ∷ [] };
+    ghost offers = { λ b ms. ms ≡ record {
+      labels = (NamePiece (string_bytes b.label) ∷ ValuePiece (decimal 3) ∷ []) ∷ [];
+      point = own_point b;
+    } ∷ [] };
 
     fn encode(&self, encoder: &mut MetricEncoder) -> Result<(), EncodeError> {
         encoder.encode(&[(&self.label, 3u8)], self)

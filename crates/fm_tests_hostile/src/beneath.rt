@@ -32,7 +32,7 @@ pub(crate) fn document_beneath(
     document_with_help(alloc, &[("k", "v")], name, "H", metric)
 }
 
-/// Fails where this is not the document of a metric with the help `H` beneath such a subsystem.
+/// Fails if this is not the document of a metric with the help `H` beneath such a subsystem.
 pub(crate) fn expect_beneath(
     alloc: Global,
     name: &str,
@@ -43,7 +43,7 @@ pub(crate) fn expect_beneath(
     expect_text(document.as_str(), want)
 }
 
-/// Fails where a registry is not refused by this error, by `encode` and by `collect`, or where a refusal wrote something.
+/// Fails if a registry is not refused by this error, by `encode` and by `collect`, or if a refusal wrote something.
 pub(crate) fn expect_refused(
     alloc: Global,
     registry: &Registry,
@@ -64,7 +64,7 @@ pub(crate) fn expect_refused(
     }
 }
 
-/// Fails where a metric beneath a subsystem of this label is not refused by this error.
+/// Fails if a metric beneath a subsystem of this label is not refused by this error.
 pub(crate) fn expect_refusal_under(
     alloc: Global,
     label: (&str, &str),
@@ -78,7 +78,7 @@ pub(crate) fn expect_refusal_under(
     expect_refused(alloc, &registry, want)
 }
 
-/// Fails where a metric beneath a subsystem with the label `k` is not refused by this error.
+/// Fails if a metric beneath a subsystem with the label `k` is not refused by this error.
 pub(crate) fn expect_refusal_beneath(
     alloc: Global,
     metric: Box<dyn EncodeMetric>,

@@ -21,7 +21,7 @@ fn labels_at(alloc: Global, depth: usize) -> Result<Vec<(String, String)>, Alloc
     }
 }
 
-// The calls that make so many subsystems one in another, of which the first has a label.
+// The calls that make this number of subsystems one in another, of which the first has a label.
 fn one_in_another(alloc: Global, count: usize) -> Result<Vec<RegistryCall>, AllocError> {
     let mut calls = Vec::new(alloc);
     for depth in 0..count {

@@ -11,7 +11,7 @@ use std::test::Fail;
 
 type Traced = OneMember<(), CounterWith<u64, LabeledExemplar<Vec<(String, String)>>>>;
 
-// A counter of the total 5, with an exemplar whose label `v` has so many letters of two bytes.
+// A counter of the total 5, with an exemplar whose label `v` has this number of letters of two bytes.
 fn traced(alloc: Global, letters: u8) -> Result<Box<Traced>, AllocError> {
     let mut value = String::new(alloc);
     for _ in 0..letters {

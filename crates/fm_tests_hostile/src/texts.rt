@@ -14,7 +14,7 @@ use fm_test_support::support::{expect_document, expect_text};
 use std::alloc::{AllocError, Global};
 use std::test::Fail;
 
-// Fails where a text is not written so, as the value of two labels and as the help of a gauge.
+// Fails if a text is not written so, as the value of two labels and as the help of a gauge.
 fn expect_written(alloc: Global, text: &str, written: &str) -> Result<(), Fail> {
     let labels = vec![in alloc; (Word("v"), String::from_str(alloc, text)?)]?;
     let metric = Box::new(alloc, OneMember::gauge(labels, ConstGauge::new(5i64)))?;

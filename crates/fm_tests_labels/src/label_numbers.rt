@@ -30,7 +30,20 @@ enum Number {
 }
 
 impl EncodeLabelValue for Number {
-    ghost pieces = { elim [ I8 n ↦ ValuePiece (signed_decimal n) ∷ [] | I16 n ↦ ValuePiece (signed_decimal n) ∷ [] | I32 n ↦ ValuePiece (signed_decimal n) ∷ [] | I64 n ↦ ValuePiece (signed_decimal n) ∷ [] | I128 n ↦ ValuePiece (signed_decimal n) ∷ [] | Isize n ↦ ValuePiece (signed_decimal n) ∷ [] | U8 n ↦ ValuePiece (decimal n) ∷ [] | U16 n ↦ ValuePiece (decimal n) ∷ [] | U32 n ↦ ValuePiece (decimal n) ∷ [] | U64 n ↦ ValuePiece (decimal n) ∷ [] | U128 n ↦ ValuePiece (decimal n) ∷ [] | Usize n ↦ ValuePiece (decimal n) ∷ [] ] };
+    ghost pieces = { elim [
+      | I8 n ↦ ValuePiece (signed_decimal n) ∷ []
+      | I16 n ↦ ValuePiece (signed_decimal n) ∷ []
+      | I32 n ↦ ValuePiece (signed_decimal n) ∷ []
+      | I64 n ↦ ValuePiece (signed_decimal n) ∷ []
+      | I128 n ↦ ValuePiece (signed_decimal n) ∷ []
+      | Isize n ↦ ValuePiece (signed_decimal n) ∷ []
+      | U8 n ↦ ValuePiece (decimal n) ∷ []
+      | U16 n ↦ ValuePiece (decimal n) ∷ []
+      | U32 n ↦ ValuePiece (decimal n) ∷ []
+      | U64 n ↦ ValuePiece (decimal n) ∷ []
+      | U128 n ↦ ValuePiece (decimal n) ∷ []
+      | Usize n ↦ ValuePiece (decimal n) ∷ []
+    ] };
 
     ghost is_skipped = { λ _. false };
 
@@ -56,7 +69,7 @@ impl EncodeLabelValue for Number {
     }
 }
 
-// Fails where the line of a gauge with these two values as labels is another one.
+// Fails if the line of a gauge with these two values as labels is another one.
 fn expect_line(alloc: Global, least: Number, greatest: Number, want: &str) -> Result<(), Fail> {
     let labels = [(Word("least"), least), (Word("greatest"), greatest)];
     let metric = Box::new(alloc, OneMember::gauge(labels, ConstGauge::new(5i64)))?;

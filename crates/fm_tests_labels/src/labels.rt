@@ -225,7 +225,7 @@ fn sets_are_visited_once_a_point(rt: HostRuntime) -> Result<(), Fail> {
     Ok(())
 }
 
-// A gauge whose labels have lent and owned texts.
+// A gauge whose labels have borrowed and owned texts.
 #[derive(Drop)]
 struct LentAndOwned {
     method: String,

@@ -166,7 +166,7 @@ fn errors_of_parts(rt: HostRuntime) -> Result<(), Fail> {
     Ok(())
 }
 
-// A counter's point whose exemplar answers an error of its own.
+// A counter's point whose exemplar returns an error of its own.
 #[derive(Drop)]
 struct FaultyExemplar<V>(V);
 

@@ -1,4 +1,4 @@
-//! Tests of trees that are built, collected and written although a request for memory is refused.
+//! Tests of trees that are built, collected and written while a request for memory is refused.
 #![tactic(auto)]
 
 #[cfg(test)]

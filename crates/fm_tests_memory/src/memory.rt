@@ -1,7 +1,7 @@
-//! Trees that are built, collected and written although a request for memory is refused.
+//! Trees that are built, collected and written while a request for memory is refused.
 //!
-//! `scripts/refuse_allocations.sh` refuses one request of the process after the other. Each story is a pair of tests: one in
-//! which the refused call is made again, and one that fails at the first refusal, so that the script knows where to end.
+//! `scripts/refuse_allocations.sh` refuses each request of the process in turn. Each story is a pair of tests: one in
+//! which the refused call is made again, and one that fails at the first refusal, so that the script knows when to stop.
 ghost use Rattle.std.specs.Prelude.{IfOk};
 ghost use Rattle.fm_registry.specs.HasBook.{HasBook};
 
@@ -70,7 +70,7 @@ fn patient_root(
     Ok(registry)
 }
 
-// What registering a metric as `up`, in bytes, answers.
+// What registering a metric as `up`, in bytes, returns.
 fn register_up(
     alloc: Global,
     registry: &mut Registry,
@@ -237,7 +237,7 @@ fn patient_calls(alloc: Global, patience: &mut Patience) -> Result<Vec<RegistryC
 const FIRST_UP: &[u8] =
     b"before\n# TYPE myapp_db_up gauge\n# HELP myapp_db_up H\nmyapp_db_up 1\n# EOF\n";
 
-// The document after these answers: a refused call changes nothing, and those after it go on from there.
+// The document after these results: a refused call changes nothing, and those after it go on from there.
 fn document_after(
     answers: &[Result<(), RegistryError>],
     patience: &mut Patience,
@@ -284,7 +284,7 @@ fn collected(
     }
 }
 
-// Makes these calls, or the spare ones. Where the answers find no memory, the document is as it was.
+// Makes these calls, or the spare ones. If they find no memory, the document is as it was.
 fn run_calls(
     alloc: Global,
     patience: &mut Patience,
@@ -348,7 +348,7 @@ fn patient_letter(alloc: Global, patience: &mut Patience) -> Result<String, Fail
     }
 }
 
-// Bears a refusal that left the letter alone.
+// Tolerates a refusal that left the letter alone.
 fn bear_unwritten(patience: &mut Patience, error: MetricError, text: &String) -> Result<(), Fail> {
     patience.bear()?;
     if error != MetricError::Memory || text.as_str() != "x" {

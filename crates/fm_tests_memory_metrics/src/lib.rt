@@ -1,4 +1,4 @@
-//! Tests of metrics that are made, cloned, registered and written although a request for memory is refused.
+//! Tests of metrics that are made, cloned, registered and written while a request for memory is refused.
 #![tactic(auto)]
 
 #[cfg(test)]

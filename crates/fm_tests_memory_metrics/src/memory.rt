@@ -1,7 +1,7 @@
-//! Metrics that are made, cloned, registered and written although a request for memory is refused.
+//! Metrics that are made, cloned, registered and written while a request for memory is refused.
 //!
-//! `scripts/refuse_allocations.sh` refuses one request of the process after the other. Each story is a pair of tests: one in
-//! which the refused call is made again, and one that fails at the first refusal, so that the script knows where to end.
+//! `scripts/refuse_allocations.sh` refuses each request of the process in turn. Each story is a pair of tests: one in
+//! which the refused call is made again, and one that fails at the first refusal, so that the script knows when to stop.
 ghost use Rattle.fm_registry.specs.HasBook.{HasBook};
 
 use fastmetrics::encoder::EncodeMetric;
@@ -12,7 +12,7 @@ use fm_test_support::support::Patience;
 use std::alloc::{AllocError, Global};
 use std::test::Fail;
 
-// What a call gives that is made again where it finds no memory.
+// What a call gives that is made again if it finds no memory.
 macro_rules! patiently {
     ($patience:expr, $call:expr) => {
         match $call {
@@ -35,7 +35,7 @@ mod tallies;
 
 const BEFORE: &[u8] = b"before\n";
 
-// Bears a refusal for want of memory.
+// Tolerates a refusal for want of memory.
 fn bear(patience: &mut Patience, error: MetricError) -> Result<(), Fail> {
     if error != MetricError::Memory {
         return Err(Fail::new("another refusal"));
@@ -55,7 +55,7 @@ fn roomy(alloc: Global) -> Result<Vec<u8>, AllocError> {
     Ok(writer)
 }
 
-// What registering a metric as `m` answers.
+// What registering a metric as `m` returns.
 fn register_m(
     alloc: Global,
     registry: &mut Registry,
@@ -70,7 +70,7 @@ fn register_m(
     registry.register(alloc, name, help, metric)
 }
 
-// Registers this metric, or the spare one where that finds no memory.
+// Registers this metric, or the spare one if that finds no memory.
 fn add_m(
     alloc: Global,
     patience: &mut Patience,
@@ -88,7 +88,7 @@ fn add_m(
     Ok(())
 }
 
-// Sees that a metric alone, or the spare one, has this document.
+// Checks that a metric alone, or the spare one, has this document.
 fn expect_document(
     alloc: Global,
     patience: &mut Patience,

@@ -44,7 +44,7 @@ fn child_call(alloc: Global, name: &str) -> Result<RegistryCall, AllocError> {
     subsystem_at(alloc, &[], name, &[])
 }
 
-// What the second of two calls at an empty root is answered, where the first is accepted.
+// What the second of two calls at an empty root returns, if the first is accepted.
 fn second_answer(
     alloc: Global,
     first: RegistryCall,
@@ -102,7 +102,7 @@ fn metrics_beside_one_another(rt: HostRuntime) -> Result<(), Fail> {
     expect_refused(answer, 4, "g")
 }
 
-// A subsystem, a gauge whose name lies below it, one whose name doesn't, and a subsystem above that.
+// A subsystem, a gauge whose name is below it, one whose name doesn't, and a subsystem above that.
 fn calls_with_taken_names(alloc: Global) -> Result<Vec<RegistryCall>, AllocError> {
     let mut calls = Vec::new(alloc);
     calls.push(child_call(alloc, "db")?)?;

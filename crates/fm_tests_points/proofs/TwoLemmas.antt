@@ -1,4 +1,4 @@
--- Two exemplars that one object hands over.
+-- Two exemplars that one object emits.
 use Rattle.std.proofs.Common.{◌≡◌, ◌≤◌, ◌<◌, zero, suc, List, [], ◌∷◌, ◌++◌, map, length, Contains, None, Result, Ok, ◌⊎◌, inl, inr, ap, subst, ◌∙◌, append_assoc, length-append, arith}
 use Rattle.fm_grammar.specs.Exposition.{Exemplar}
 use Rattle.fm_encode_error.specs.declared.EncodeError.{EncodeError}
@@ -8,7 +8,7 @@ use Rattle.fm_encoder.specs.Gathered.{GatheredExemplars, OwnRefusal}
 use Rattle.fm_encoder.specs.Hands.{HandsExemplars}
 use Rattle.fm_encoder.proofs.Cases.{option_cases}
 
--- why an exemplar encoder refuses what is handed over after these exemplars
+-- why an exemplar encoder refuses what is emitted after these exemplars
 abbrev Refusal : Type 0 → List Exemplar → List HandedExemplar → EncodeError → Type 0
 Refusal F before xs k =
     OwnRefusal F k ⊎ (((k ≡ ExemplarTwice) × (2 ≤ length (before ++ map written_as xs))) ⊎ ((exemplar : HandedExemplar) × Contains xs exemplar × ExemplarPartsFault k exemplar))

@@ -34,7 +34,7 @@ fn half<LS>(labels: LS) -> LabeledExemplar<LS> {
     }
 }
 
-// So many times this text.
+// This text, repeated this number of times.
 fn repeated(alloc: Global, text: &str, count: u8) -> Result<String, AllocError> {
     let mut all = String::new(alloc);
     for _ in 0..count {
@@ -43,7 +43,7 @@ fn repeated(alloc: Global, text: &str, count: u8) -> Result<String, AllocError> 
     Ok(all)
 }
 
-// A label of this name, whose value is so many times this text.
+// A label of this name, whose value is this text, repeated this number of times.
 fn long_label(alloc: Global, name: &str, text: &str, count: u8) -> Result<Labels, AllocError> {
     let value = repeated(alloc, text, count)?;
     labels(alloc, &[(name, value.as_str())])
@@ -54,7 +54,7 @@ fn document_with(alloc: Global, labels: Labels) -> Result<String, Fail> {
     document_alone(alloc, "x", None, Box::new(alloc, five_with(half(labels)))?)
 }
 
-// Fails where such a counter is not refused by this error.
+// Fails if such a counter is not refused by this error.
 fn expect_refused_labels(alloc: Global, labels: Labels, want: EncodeError) -> Result<(), Fail> {
     expect_refusal(alloc, Box::new(alloc, five_with(half(labels)))?, want)
 }
@@ -120,7 +120,7 @@ fn letters_of_two_bytes(rt: HostRuntime) -> Result<(), Fail> {
     expect_refused_labels(alloc, long, EncodeError::ExemplarTooLong)
 }
 
-// Labels `a` and `c` of 63 letters, and of so many.
+// Labels `a` and `c`, one of 63 letters and one of this number of letters.
 fn two_labels(alloc: Global, count: u8) -> Result<Labels, AllocError> {
     let first = repeated(alloc, "b", 63)?;
     let second = repeated(alloc, "d", count)?;
@@ -209,7 +209,7 @@ fn two_buckets<E>(time: Option<Duration>, exemplar: E) -> OneMember<(), TwoBucke
     }
 }
 
-// Fails where this is not the document of such a histogram with the exemplar 0.7 under these labels.
+// Fails if this is not the document of such a histogram with the exemplar 0.7 under these labels.
 fn expect_buckets(
     alloc: Global,
     time: Option<Duration>,

@@ -1,4 +1,4 @@
-//! Points and exemplars of a user's own, which hand over whatever they have.
+//! Points and exemplars of a user's own, which emit whatever they have.
 ghost use Rattle.std.specs.Prelude.{◌≡◌, [], ◌∷◌, None, pos, codes};
 ghost use Rattle.fm_encoder.specs.Labels.{NamePiece, ValuePiece};
 ghost use Rattle.fm_encoder.specs.Points.{HistogramPoint, GaugeHistogramPoint, SummaryPoint};
@@ -13,7 +13,7 @@ use fastmetrics::raw::bucket::Bucket;
 use fastmetrics::raw::{Fixed, FixedSum, MetricType};
 use std::alloc::Global;
 
-/// Two buckets, an exemplar of the first, so many values and their sum, as the point of a histogram.
+/// Two buckets, an exemplar of the first, this number of values and their sum, as the point of a histogram.
 #[derive(Drop)]
 pub struct TwoBuckets<E> {
     /// The buckets.

@@ -189,7 +189,7 @@ impl<L: Ledger> Probe for Counting<L> {
     }
 }
 
-// The place found, and how often the probe was asked.
+// The index found, and how often the probe was called.
 fn search<L: Ledger>(n: usize, first: usize, blank: Blank) -> (usize, u64)
     requires name { blank.name ≡ L.name }
     requires parts { blank.parts ≡ L.parts }

@@ -44,7 +44,7 @@ fn metric_at(
     })
 }
 
-// Makes the calls, and compares what is read of the registry's document with what is collected. It has so many families.
+// Makes the calls, and compares what is read of the registry's document with what is collected. It has this number of families.
 fn is_read_back(alloc: Global, calls: Vec<RegistryCall>, families: usize) -> Result<bool, Fail> {
     let mut registry = Registry::default();
     for answer in registry.run(alloc, calls)? {

@@ -15,7 +15,7 @@ myapp_database_mysql_queries_total{env=\"prod\",engine=\"innodb\"} 7
 # EOF
 ";
 
-// The line at which a text is refused, or None where it is read or there is no memory.
+// The line at which a text is refused, or None if it is read or memory runs out.
 fn refused_line(alloc: Global, text: &str) -> Option<usize> {
     match read(alloc, text) {
         Err(ReadError::NotADocument { line }) => Some(line),
@@ -164,7 +164,7 @@ fn counters(rt: HostRuntime) -> Result<(), Fail> {
     Ok(())
 }
 
-// A document of a counter whose exemplar has a label `v` with so many times the letter é.
+// A document of a counter whose exemplar has a label `v` with the letter é, repeated this number of times.
 fn with_exemplar(alloc: Global, letters: usize) -> Result<String, Fail> {
     let mut text = String::from_str(alloc, "# TYPE c counter\n# HELP c H\nc_total 1 # {v=\"")?;
     for _ in 0..letters {

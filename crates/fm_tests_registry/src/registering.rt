@@ -13,7 +13,7 @@ use std::alloc::{AllocError, Global};
 use std::fmt::Display;
 use std::test::Fail;
 
-// Fails where registering one metric is not refused so, or at all where there is no refusal. A document has what was not refused.
+// Fails if registering one metric is not refused so, or at all if there is no refusal. A document has what was not refused.
 fn expect_answer(
     alloc: Global,
     name: &str,
@@ -49,7 +49,7 @@ fn names_of_metrics(rt: HostRuntime) -> Result<(), Fail> {
     Ok(())
 }
 
-// Fails where registering a gauge with this unit is not refused so.
+// Fails if registering a gauge with this unit is not refused so.
 fn expect_unit(
     alloc: Global,
     name: &str,
@@ -116,7 +116,7 @@ fn refusal_of(alloc: Global, number: u8) -> Result<RegistryError, AllocError> {
     })
 }
 
-// Fails where an error has another text.
+// Fails if an error has another text.
 fn expect_shown<E: Display>(alloc: Global, error: &E, want: &str) -> Result<(), Fail> {
     let text = format!(in alloc; "{error}")?;
     expect_text(text.as_str(), want)

@@ -47,7 +47,7 @@ fn gauges_of_two_threads(rt: HostRuntime) -> Result<(), Fail> {
     expect_gauge(alloc, Box::new(alloc, clone)?, "2000")
 }
 
-// Raises a counter to every second value from the first one on, and answers how often the total lay below a value that it
+// Raises a counter to every second value from the first one on, and returns how often the total was below a value that it
 // had been raised to.
 fn falls(hits: &Counter<u64>, first: u8) -> u32 {
     let mut falls = 0u32;
@@ -73,7 +73,7 @@ const COUNTER: &str = "# TYPE c counter\n# HELP c H\nc_total ";
 
 const GAUGE: &str = "# TYPE g gauge\n# HELP g H\ng ";
 
-// Fails where the document of a metric is not this beginning and this number.
+// Fails if the document of a metric is not this beginning and this number.
 fn expect_number(
     alloc: Global,
     name: &str,
@@ -89,12 +89,12 @@ fn expect_number(
     expect_text(own.unwrap_or("no number"), number)
 }
 
-// Fails where this is not the number of a counter's document.
+// Fails if this is not the number of a counter's document.
 fn expect_counter(alloc: Global, metric: Box<dyn EncodeMetric>, number: &str) -> Result<(), Fail> {
     expect_number(alloc, "c", COUNTER, metric, number)
 }
 
-// Fails where this is not the number of a gauge's document.
+// Fails if this is not the number of a gauge's document.
 fn expect_gauge(alloc: Global, metric: Box<dyn EncodeMetric>, number: &str) -> Result<(), Fail> {
     expect_number(alloc, "g", GAUGE, metric, number)
 }
@@ -182,7 +182,7 @@ fn times_of_creation(rt: HostRuntime) -> Result<(), Fail> {
     Ok(())
 }
 
-// Whether a word keeps the greater of its value and another, and answers the value before.
+// Whether a word keeps the greater of its value and another, and returns the value before.
 fn keeps_the_greater<N: Number, W: Atomic<N>>(less: N, greater: N) -> bool {
     let word = W::default();
     word.set(less);

@@ -1,4 +1,4 @@
-//! Metrics that do not keep to what they were asked, or to what they returned: none of them gets a wrong document.
+//! Metrics that ignore refusals, or contradict what they returned before: none of them gets a wrong document.
 ghost use Rattle.std.specs.Prelude.{◌≡◌, [], ◌∷◌};
 ghost use Rattle.fm_grammar.specs.Exposition.{Whole};
 ghost use Rattle.fm_encoder.specs.Points.{GaugePoint};
@@ -75,7 +75,7 @@ fn types_that_change(rt: HostRuntime) -> Result<(), Fail> {
     )
 }
 
-// A gauge whose value stands behind a lock. It keeps the handle that it waits by.
+// A gauge whose value is kept under a lock. It keeps the handle that it waits by.
 #[derive(Drop)]
 struct Locked<H: Wait + Drop> {
     value: Mutex<i64>,

@@ -44,7 +44,7 @@ fn states_of_a_failed_job(rt: HostRuntime) -> Result<(), Fail> {
     )
 }
 
-// What writing a metric under this constant label leaves in a writer, where it is refused as a label that is there twice.
+// What writing a metric under this constant label leaves in a writer, if it is refused as a label that is there twice.
 fn left_by_doubled_label(
     alloc: Global,
     label: (&str, &str),

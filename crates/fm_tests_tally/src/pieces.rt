@@ -18,7 +18,7 @@ fn up_to(alloc: Global, n: u8) -> Result<Vec<Fixed>, AllocError> {
     Ok(values)
 }
 
-// Fails where these are not the counts of a histogram's buckets, its count, and its sum as it is written.
+// Fails if these are not the counts of a histogram's buckets, its count, and its sum as it is written.
 fn expect_counted(
     alloc: Global,
     all: &HistogramSnapshot,

@@ -37,7 +37,7 @@ fn total_sees_others(rt: HostRuntime) -> Result<(), Fail> {
     Ok(())
 }
 
-// Share 0 adds the greatest number; share 1 adds 1 and then 0. What share 1 is answered, and what it has then.
+// Share 0 adds the greatest number; share 1 adds 1 and then 0. What share 1 gets as a result, and what it has then.
 fn filled<K: TallyKey, R: Wait>(
     rt: &R,
     alloc: Global,

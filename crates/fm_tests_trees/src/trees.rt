@@ -172,7 +172,7 @@ fn lent_and_lent_again(rt: HostRuntime) -> Result<(), Fail> {
     )
 }
 
-// The path that goes down so often.
+// The path that goes down this number of times.
 fn path_down(alloc: Global, depth: usize) -> Result<Vec<String>, AllocError> {
     let mut path = Vec::new(alloc);
     for _ in 0..depth {
@@ -181,7 +181,7 @@ fn path_down(alloc: Global, depth: usize) -> Result<Vec<String>, AllocError> {
     Ok(path)
 }
 
-// The calls that make so many subsystems one in another.
+// The calls that make this number of subsystems one in another.
 fn one_in_another(alloc: Global, count: usize) -> Result<Vec<RegistryCall>, AllocError> {
     let mut calls = Vec::new(alloc);
     for depth in 0..count {

@@ -8,7 +8,7 @@ use std::alloc::Global;
 use std::sync::Wait;
 use std::test::Fail;
 
-// Whether each call of a gauge answers the value before, or the current one, and leaves what the case says.
+// Whether each call of a gauge returns the value before, or the current one, and leaves what the case says.
 fn is_gauge<N: GaugeValue>(alloc: Global, case: Case<N>) -> Result<bool, MetricError> {
     let [value, by, up, down, more, less, _] = case;
     let gauge = Gauge::<N>::new(alloc, value)?;
@@ -66,7 +66,7 @@ fn counter_of<N: CounterValue, H: Wait + Drop>(
     Ok(counter)
 }
 
-// Whether each call of a counter answers the total before, or the current one, and leaves what the case says. Its value and its
+// Whether each call of a counter returns the total before, or the current one, and leaves what the case says. Its value and its
 // number are not negative.
 fn is_counter<N: CounterValue, H: Wait + Clone + Drop>(
     wait: &H,

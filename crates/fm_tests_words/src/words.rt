@@ -11,7 +11,7 @@ fn word_of<N: Number, W: Atomic<N>>(value: N) -> W {
     word
 }
 
-// Whether each call answers the value before, or the current one, and leaves what the case says. A new atomic holds zero.
+// Whether each call returns the value before, or the current one, and leaves what the case says. A new atomic holds zero.
 fn is_word<N: Number, W: Atomic<N>>(case: Case<N>) -> bool {
     let [value, by, up, down, more, less, greater] = case;
     let is_zero = W::default().get() == N::ZERO;

@@ -7,7 +7,7 @@ use fm_test_support::trees::{gauge, metric_at, subsystem_at};
 use std::alloc::{AllocError, Global};
 use std::test::Fail;
 
-// The calls that register so many gauges.
+// The calls that register this number of gauges.
 fn gauges(alloc: Global, count: u32) -> Result<Vec<RegistryCall>, AllocError> {
     let mut calls: Vec<RegistryCall> = Vec::new(alloc);
     for number in 0..count {
@@ -18,7 +18,7 @@ fn gauges(alloc: Global, count: u32) -> Result<Vec<RegistryCall>, AllocError> {
     Ok(calls)
 }
 
-// The calls that make so many subsystems, and register a gauge in each.
+// The calls that make this number of subsystems, and register a gauge in each.
 fn subsystems(alloc: Global, count: u32) -> Result<Vec<RegistryCall>, AllocError> {
     let mut calls: Vec<RegistryCall> = Vec::new(alloc);
     for number in 0..count {

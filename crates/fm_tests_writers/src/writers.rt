@@ -29,7 +29,7 @@ myapp_database_mysql_queries_total{env=\"prod\",engine=\"innodb\"} 7
 # EOF
 ";
 
-// A writer that takes at most `step` bytes a call and `room` bytes in all. Then it answers an error of this kind once, or 0 once;
+// A writer that takes at most `step` bytes a call and `room` bytes in all. Then it returns an error of this kind once, or 0 once;
 // whatever comes after that it takes, and counts.
 #[derive(Drop)]
 struct Ending {
@@ -55,7 +55,7 @@ impl Ending {
         }
     }
 
-    // Whether it has so many of the document's first bytes, was not called after its end, and was never flushed.
+    // Whether it has the document's first bytes, in this number, was not called after its end, and was never flushed.
     fn has_beginning(&self, document: &str, count: usize) -> bool {
         let is_left_alone = self.later_calls == 0 && self.flushes == 0;
         is_left_alone
@@ -90,7 +90,7 @@ impl Write for Ending {
     }
 }
 
-// Whether a writer that ends after so many bytes ends the encoding there, with this answer.
+// Whether a writer that ends after this number of bytes ends the encoding there, with this result.
 fn ends_encoding(
     alloc: Global,
     registry: &Registry,
@@ -104,7 +104,7 @@ fn ends_encoding(
     encode(alloc, &mut writer, registry) == answer && writer.has_beginning(document, room)
 }
 
-// The same where the registry is collected first.
+// The same if the registry is collected first.
 fn ends_writing(
     alloc: Global,
     registry: &Registry,
@@ -134,7 +134,7 @@ const WAYS: [(usize, Option<ErrorKind>); 6] = [
     (1, None),
 ];
 
-// Whether every way to end after so many bytes ends the writing there.
+// Whether every way to end after this number of bytes ends the writing there.
 fn every_way_ends(alloc: Global, registry: &Registry, document: &str, room: usize) -> bool
     requires { HasBook registry.now }
 {

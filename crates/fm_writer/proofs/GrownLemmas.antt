@@ -94,7 +94,7 @@ left_of_run f n b rest plain others after whole old now next last plain_is other
 pub list_whole : (a b : Text → Type 0) (first : Label) (others labels : List Label) → labels ≡ first ∷ others → Grows a b (label_text first ++ further_labels others) → Grows a b (label_list_text labels)
 list_whole a b first others labels is g = rw (is, label_list_is first others) g
 
--- the texts of two lists with a comma between them, where neither is empty, are the text of both
+-- the texts of two lists that are not empty, with a comma between them, are the text of both
 pub joined_whole : (a b : Text → Type 0) (front back : List Label) → ◌<◌ 0 (length front) → ◌<◌ 0 (length back) → Grows a b (label_list_text front ++ (codes "," ++ label_list_text back)) → Grows a b (label_list_text (front ++ back))
 joined_whole a b front [] some more g = absurd (omega (arith, more))
 joined_whole a b front (first ∷ others) some more g =

@@ -59,7 +59,7 @@ pub some_grown : (old new more : Text) (p : Option Part) → Grown old new more 
 some_grown old new more None grown is = tt
 some_grown old new more (Some p) grown is = IsPart-grown old new more p grown is
 
--- one place more, where the label under way has both parts
+-- one place more, if the current label has both parts
 places_pushed : (text : Text) (ps : List Place) (n v : Option Part) → AllByRecursion (IsPlace text) ps → IfSome n (IsPart text) → IfSome v (IsPart text) → AllByRecursion (IsPlace text) (ps ++ whole_place n v)
 places_pushed text [] None v a b c = tt
 places_pushed text [] (Some n) None a b c = tt
@@ -132,7 +132,7 @@ name_absent text ps i d name within other before there =
     subst (λ (ns : List Text). Contains ns name) (ap (names_in text) (take_more ps i d within) ∙ names_push text (take i ps) (get_or ps i d)) there in
     elim (Contains-append_cases _ _ name split) [ inl h ↦ before h | inr h ↦ other (Contains-one name _ h) ]
 
--- a name or a value more, of the label under way
+-- one name or value more, of the current label
 pub parts_named : (old new more : Text) (ps : List Place) (n v : Option Part) (p : Part) → Grown old new more → AreParts old ps n v → IsPart new p → AreParts new ps (Some p) v
 parts_named old new more ps n v p grown are is = record {
   places = places_grown old new more ps grown are.places;
@@ -165,7 +165,7 @@ shown_valued old new more ps n v p value grown are is = λ i. record {
   value = Some (is i);
 }
 
--- places of another text, of which a copy stands here, or none
+-- places of another text, of which this text is a copy, or none
 pub parts_assigned : (r : Result (Unit {0}) AllocError) (new other : Text) (ps others : List Place) → Grown [] new other → AllByRecursion (IsPlace other) others → OnOk r (ps ≡ others) → OnErr r (ps ≡ []) → AreParts new ps None None
 parts_assigned (Ok x) new other ps others grown are ok err =
     record { places = subst (AllByRecursion (IsPlace new)) (sym ok) (subst (λ (t : Text). AllByRecursion (IsPlace t) others) (sym grown.bytes) are); name = tt; value = tt }
@@ -217,7 +217,7 @@ end_listed text n v (l ∷ ls) is =
     ∙ ap (λ (t : Text). front ++ t) (sym (append-nil (codes "," ++ label_text last)))
     ∙ sym (list_joined (l ∷ ls) (last ∷ []) (omega arith))
 
--- a name more, of a label under way
+-- one name more, of the current label
 named_listed : (listed next : Bool) (old new name : Text) (ps : List Place) (n v : Option Part) (p : Part) (is_first : Bool) → (IsTrue next → (listed ≡ true) × (n ≡ None) × (v ≡ None)) → is_first ≡ (length ps == 0)
     → Grown old new (name_in_list is_first name) → part_in new p ≡ name → AreKept listed old ps n v → AreListed next (Some (part_in new p)) (option_map (part_in new) v) new (labels_in new ps)
 named_listed listed false old new name ps n v p is_first may e grown is kept = tt
@@ -236,7 +236,7 @@ kept_named listed next old new name ps n v p is_first may e grown within is kept
   listed = named_listed listed next old new name ps n v p is_first may e grown is kept;
 }
 
--- a value more
+-- one value more
 valued_listed : (listed next : Bool) (old new value : Text) (ps : List Place) (n v : Option Part) (p : Part) → (IsTrue next → (listed ≡ true) × IsSome n × (v ≡ None) × (escaped value ≡ value))
     → Grown old new value → part_in new p ≡ value → AreKept listed old ps n v → AreListed next (option_map (part_in new) n) (Some (part_in new p)) new (labels_in new ps)
 valued_listed listed false old new value ps n v p may grown is kept = tt
@@ -273,7 +273,7 @@ kept_ended listed next text ps n v may kept = record {
   listed = ended_listed listed next text ps n v may kept;
 }
 
--- labels whose parts lie in the text, where nothing is known of the list
+-- labels whose parts are within the text, if nothing is known of the list
 pub kept_unlisted : (text : Text) (ps : List Place) (n v : Option Part) → AreParts text ps n v → AreKept false text ps n v
 kept_unlisted text ps n v are = record { parts = are; listed = tt }
 

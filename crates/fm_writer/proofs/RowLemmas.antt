@@ -1,4 +1,4 @@
--- A sample's line appended in a few goes.
+-- A sample's line appended in a few steps.
 use Rattle.std.proofs.Common.{◌≡◌, [], ◌++◌, codes, append_assoc}
 use Rattle.fm_grammar.specs.Exposition.{Text, Sample}
 use Rattle.fm_grammar.specs.Kinds.{suffix_of}
@@ -7,7 +7,7 @@ use Rattle.fm_exposition.specs.Rows.{sample_row}
 use Rattle.fm_writer.specs.inside.Grown.{Grows}
 use Rattle.fm_writer.proofs.GrownLemmas.{grown_then, grown_nothing}
 
--- what stands behind the value
+-- what comes after the value
 abbrev pub after_value : Sample → Text
 after_value s = time_text s.time ++ (exemplar_text s.exemplar ++ codes "\n")
 
@@ -29,7 +29,7 @@ row_braced a b c d e name s some start list brace end =
     let whole : Grows a e ((name ++ (suffix_of s.kind ++ codes "{")) ++ (label_list_text s.labels ++ (codes "} " ++ (value_text s.value ++ after_value s)))) = grown_then a b e _ _ start (grown_then b c e _ _ list (grown_then c d e _ _ brace end)) in
     rw (some, ← braced_is name (suffix_of s.kind) (label_list_text s.labels) (value_text s.value) (time_text s.time) (exemplar_text s.exemplar)) whole
 
--- three pieces at once, and what stands behind them, up to the line feed or not
+-- three pieces at once, and what comes after them, with or without the line feed
 pub grown_line : (a b c : Text → Type 0) (word name space rest : Text) → Grows a b (word ++ (name ++ space)) → Grows b c (rest ++ codes "\n") → Grows a c ((word ++ (name ++ (space ++ rest))) ++ codes "\n")
 grown_line a b c word name space rest start end =
     let regrouped : (word ++ (name ++ space)) ++ (rest ++ codes "\n") ≡ (word ++ (name ++ (space ++ rest))) ++ codes "\n" = simp append_assoc in

@@ -8,23 +8,22 @@ pub data Output : Type 0 where
   OutputSamples : List Sample → Output
   OutputText : Text → Output
 
--- with these samples more, of a family with this printed name
+-- with these further samples, of a family with this printed name
 abbrev pub appended : Text → Output → List Sample → Output
 appended name (OutputSamples before) samples = OutputSamples (before ++ samples)
 appended name (OutputText before) samples = OutputText (before ++ sample_rows name samples)
 
--- with these lines more, where it has a text
+-- with these further lines, if it is a text
 abbrev pub with_lines : Output → Text → Output
 with_lines (OutputSamples before) lines = OutputSamples before
 with_lines (OutputText before) lines = OutputText (before ++ lines)
 
--- What contracts see of a sink: the labels that the next samples share, where it keeps samples and can take them, and the output so
--- far.
+-- What contracts see of a sink: the labels that the next samples share, if it keeps samples and can take them, and the output so far.
 pub record SinkState : Type 0 where
   pub shared : Option (List Label)
   pub output : Output
 
--- samples under these common labels may go to a sink
+-- samples with these common labels may go to a sink
 abbrev pub AreShared : List Label → Option (List Label) → Type 0
 AreShared common shared = IfSome shared (λ labels. labels ≡ common)
 

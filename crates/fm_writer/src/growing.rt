@@ -8,7 +8,7 @@ use std::marker::Model;
 // How many bytes a text has room for at first.
 const FIRST_ROOM: usize = 64;
 
-// Lengthens a list of bytes to so many, or to twice as many as there are where that is more.
+// Lengthens a list of bytes to this length or to twice its length, whichever is greater.
 #[cold]
 fn lengthen(bytes: &mut Vec<u8>, at_least: usize) -> Result<(), AllocError>
     requires { length bytes.old.items ≤ at_least }
@@ -20,7 +20,7 @@ fn lengthen(bytes: &mut Vec<u8>, at_least: usize) -> Result<(), AllocError>
     bytes.resize(doubled.max(at_least), 0)
 }
 
-// Where three pieces end that stand behind so many bytes.
+// Where three pieces end that follow this number of bytes.
 #[inline(always)]
 fn end_of_three(start: usize, first: usize, second: usize, third: usize) -> Option<usize>
     ensures { IfSome result (λ end. end ≡ start + first + second + third) }
@@ -31,7 +31,7 @@ fn end_of_three(start: usize, first: usize, second: usize, third: usize) -> Opti
         .checked_add(third)
 }
 
-// Writes a piece behind the first `at` bytes, and answers where it ends.
+// Writes a piece after the first `at` bytes, and returns where it ends.
 #[inline(always)]
 fn write_piece(bytes: &mut [u8], at: usize, piece: &[u8]) -> usize
     requires { at + length piece.now ≤ length bytes.old }
@@ -43,7 +43,7 @@ fn write_piece(bytes: &mut [u8], at: usize, piece: &[u8]) -> usize
     end
 }
 
-// Writes three pieces behind the first `at` bytes, and answers where they end.
+// Writes three pieces after the first `at` bytes, and returns where they end.
 #[inline(always)]
 fn write_three(bytes: &mut [u8], at: usize, first: &[u8], second: &[u8], third: &[u8]) -> usize
     requires { at + length first.now + length second.now + length third.now ≤ length bytes.old }
@@ -58,9 +58,9 @@ fn write_three(bytes: &mut [u8], at: usize, first: &[u8], second: &[u8], third: 
 /// A text that grows at its end.
 #[derive(Drop)]
 pub struct GrowingText {
-    // The text, and behind it the room for more.
+    // The text, followed by room for more.
     bytes: Vec<u8>,
-    // How long the text is.
+    // The length of the text in bytes.
     end: usize,
 }
 
@@ -76,7 +76,7 @@ impl Model for GrowingText {
 }
 
 impl GrowingText {
-    /// A text of nothing.
+    /// An empty text. It takes no memory.
     pub fn new(alloc: Global) -> GrowingText
         ensures { result ≡ [] }
     {
@@ -86,7 +86,7 @@ impl GrowingText {
         }
     }
 
-    /// A text of nothing, with room for so many bytes. It may find no memory.
+    /// An empty text with room for this number of bytes. Fails if memory runs out.
     pub fn with_room(alloc: Global, room: usize) -> Result<GrowingText, AllocError>
         ensures { IfOk result (λ text. text ≡ []) }
     {
@@ -102,14 +102,14 @@ impl GrowingText {
         &self.bytes[..self.end]
     }
 
-    /// Removes all bytes, and keeps the memory for further ones.
+    /// Removes all bytes, and keeps the memory for later ones.
     pub fn clear(&mut self)
         ensures { self.new ≡ [] }
     {
         self.end = 0;
     }
 
-    /// Appends bytes. It may find no memory; then the text stays.
+    /// Appends bytes. Fails if memory runs out, and then changes nothing.
     pub fn append(&mut self, bytes: &[u8]) -> Result<(), AllocError>
         ensures grown { OnOk result (Grown self.old self.new bytes.now) }
         ensures kept { OnErr result (self.new ≡ self.old) }
@@ -125,7 +125,7 @@ impl GrowingText {
         Ok(())
     }
 
-    /// Appends three pieces, all or none. It may find no memory; then the text stays.
+    /// Appends three pieces, all or none. Fails if memory runs out, and then changes nothing.
     #[inline(always)]
     pub fn append_three(
         &mut self,

@@ -1,4 +1,4 @@
-// The lines of a family that stand before its samples, appended to an output.
+// The lines of a family that come before its samples, appended to an output.
 ghost use Rattle.std.specs.Prelude.{◌≡◌, [], OnOk};
 ghost use Rattle.std.specs.Option.{option_copied};
 ghost use Rattle.fm_grammar.specs.Spelling.{type_line, help_line, unit_line};
@@ -51,7 +51,7 @@ fn append_unit_row<O: Output>(
     }
 }
 
-// Appends the lines of a family that stand before its samples.
+// Appends the lines of a family that come before its samples.
 #[tactic(auto, using(crate::proofs::GrownLemmas::grown))]
 pub(crate) fn append_heads<O: Output>(
     text: &mut O,

@@ -1,4 +1,4 @@
-// The texts of labels in one text, appended to an output.
+// The text of labels that are kept in one text, appended to an output.
 ghost use Rattle.std.specs.Prelude.{◌++◌, OnOk};
 ghost use Rattle.std.specs.List.{AllByRecursion};
 ghost use Rattle.fm_grammar.specs.Spelling.{label_text, label_list_text};
@@ -11,7 +11,7 @@ use crate::labels::append_label;
 use crate::output::Output;
 use std::alloc::AllocError;
 
-// Appends a label that stands in another text.
+// Appends a label that is kept in another text.
 fn append_placed<O: Output>(text: &mut O, raw: &[u8], place: &Place) -> Result<(), AllocError>
     requires { IsPlace raw.now place.now }
     ensures { OnOk result (Grows (O.stands_for text.old) (O.stands_for text.new) (label_text (label_in raw.now place.now))) }
@@ -23,7 +23,7 @@ fn append_placed<O: Output>(text: &mut O, raw: &[u8], place: &Place) -> Result<(
     )
 }
 
-// Appends a comma and a label that stands in another text.
+// Appends a comma and a label that is kept in another text.
 #[tactic(auto, using(crate::proofs::GrownLemmas::grown))]
 fn append_further_placed<O: Output>(
     text: &mut O,
@@ -37,7 +37,7 @@ fn append_further_placed<O: Output>(
     append_placed(text, raw, place)
 }
 
-// Appends labels that stand in another text, with a comma before each.
+// Appends labels that are kept in another text, with a comma before each.
 fn append_further_places<O: Output>(
     text: &mut O,
     raw: &[u8],
@@ -52,7 +52,7 @@ fn append_further_places<O: Output>(
     Ok(())
 }
 
-// Appends a label that stands in another text, and others with a comma before each.
+// Appends a label that is kept in another text, and others with a comma before each.
 #[tactic(auto, using(crate::proofs::GrownLemmas::grown))]
 fn append_first_place<O: Output>(
     text: &mut O,
@@ -68,7 +68,7 @@ fn append_first_place<O: Output>(
     append_further_places(text, raw, others)
 }
 
-// Appends labels that stand in another text, with commas between them.
+// Appends labels that are kept in another text, with commas between them.
 #[tactic(auto, using(crate::proofs::GrownLemmas::grown))]
 pub(crate) fn append_placed_list<O: Output>(
     text: &mut O,

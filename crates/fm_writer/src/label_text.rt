@@ -1,4 +1,4 @@
-//! Labels in one text.
+//! Labels that are kept in one text.
 ghost use Rattle.std.specs.Prelude.{◌≡◌, ◌++◌, ◌≤◌, ◌↔◌, IsTrue, [], ◌∷◌, length, drop, map, Contains, OnOk, OnErr, IfOk, Some, None, IsSome, true, is_some, codes, if◌then◌else◌};
 ghost use Rattle.std.specs.Option.{option_map};
 ghost use Rattle.std.specs.List.{AllByRecursion};
@@ -14,21 +14,21 @@ use crate::rendering::is_plain;
 use std::alloc::{AllocError, Global};
 use std::marker::Model;
 
-/// Where a name or a value stands in a text.
+/// Where a name or a value is in a text.
 #[derive(Clone, Copy, Debug)]
 pub(crate) struct Part {
     pub(crate) start: usize,
     pub(crate) end: usize,
 }
 
-/// Where a label stands in a text.
+/// Where the name and the value of a label are in a text.
 #[derive(Clone, Copy, Debug)]
 pub(crate) struct Place {
     pub(crate) name: Part,
     pub(crate) value: Part,
 }
 
-// Appends a name or a value, and answers where it stands.
+// Appends a name or a value, and returns where it is.
 fn append_part(text: &mut GrowingText, part: &str) -> Result<Part, AllocError>
     ensures grown { OnOk result (Grown text.old text.new part.now) }
     ensures part { IfOk result (λ p. IsPart text.new p × (part_in text.new p ≡ part.now)) }
@@ -42,7 +42,7 @@ fn append_part(text: &mut GrowingText, part: &str) -> Result<Part, AllocError>
     })
 }
 
-// Appends the name of a label, and answers where it stands. Before it come the quote that ends the label before and a comma, behind it the
+// Appends the name of a label, and returns where it is. Before it come the quote that ends the previous label and a comma, after it the
 // start of the value.
 fn append_name(text: &mut GrowingText, is_first: bool, name: &str) -> Result<Part, AllocError>
     ensures grown { OnOk result (Grown text.old text.new (name_in_list is_first name.now)) }
@@ -98,7 +98,7 @@ fn has_name(text: &[u8], places: &[Place], name: &[u8]) -> bool
     false
 }
 
-// Whether this label stands there.
+// Whether the label at this place is this one.
 fn is_label(text: &[u8], place: &Place, label: &(String, String)) -> bool
     requires { IsPlace text.now place.now }
     ensures { IsTrue result → label_in text.now place.now ≡ label_of label.now }
@@ -107,7 +107,7 @@ fn is_label(text: &[u8], place: &Place, label: &(String, String)) -> bool
         && part_at(text, place.value) == label.1.as_bytes()
 }
 
-// Whether the labels that stand there are these.
+// Whether the labels at these places are these.
 fn are_labels(text: &[u8], places: &[Place], labels: &[(String, String)]) -> bool
     requires { AllByRecursion (IsPlace text.now) places.now }
     ensures { IsTrue result → labels_in text.now places.now ≡ labels_of labels.now }
@@ -141,28 +141,28 @@ fn push_place(
     }
 }
 
-// Whether a text that is the labels' list, with these parts of a label under way, is that list with a further name too.
+// Whether a text that is the labels' list, with these parts of the current label, is still that list after a further name.
 fn may_take_name(is_listed: bool, name: Option<Part>, value: Option<Part>) -> bool
     ensures { IsTrue result → (is_listed ≡ true) × (name ≡ None) × (value ≡ None) }
 {
     is_listed && name.is_none() && value.is_none()
 }
 
-// The same with a further value.
+// The same after a further value.
 fn may_take_value(is_listed: bool, name: Option<Part>, value: Option<Part>, further: &[u8]) -> bool
     ensures { IsTrue result → (is_listed ≡ true) × IsSome name × (value ≡ None) × (escaped further.now ≡ further.now) }
 {
     is_listed && name.is_some() && value.is_none() && is_plain(further)
 }
 
-// The same where the label under way ends.
+// The same after the end of the current label.
 fn may_end(is_listed: bool, name: Option<Part>, value: Option<Part>) -> bool
     ensures { IsTrue result → (is_listed ≡ true) × (is_some name ≡ is_some value) }
 {
     is_listed && name.is_some() == value.is_some()
 }
 
-// Puts these places in place of others, or none where there is no memory.
+// Replaces the places by these others, or by none if memory runs out.
 fn replace_places(places: &mut Vec<Place>, others: &[Place]) -> Result<(), AllocError>
     ensures replaced { OnOk result (places.new.items ≡ others.now) }
     ensures none { OnErr result (places.new.items ≡ []) }
@@ -187,7 +187,7 @@ fn pairs_at<'a>(
     Ok(pairs)
 }
 
-// Appends the labels' list, given it without the quote at its end, and whether it is empty.
+// Appends the labels' list, given the list without the quote at its end, and whether it is empty.
 #[tactic(auto, using(crate::proofs::GrownLemmas::grown))]
 fn append_closed<O: Output>(text: &mut O, list: &[u8], is_empty: bool) -> Result<(), AllocError>
     ensures { OnOk result (Grows (O.stands_for text.old) (O.stands_for text.new) (list.now ++ (if is_empty then [] else codes "\""))) }
@@ -199,16 +199,16 @@ fn append_closed<O: Output>(text: &mut O, list: &[u8], is_empty: bool) -> Result
     }
 }
 
-/// Labels in one text, and the name and the value of a label under way.
+/// Labels that are kept in one text, and the name and the value of the current label, which has not ended yet.
 #[derive(Drop)]
 pub struct LabelText {
-    // The names and values as they are, each in its place of the labels' list.
+    // The names and values, each where it is in the labels' list.
     text: GrowingText,
     places: Vec<Place>,
-    // Those of the label under way.
+    // The name and the value of the current label.
     name: Option<Part>,
     value: Option<Part>,
-    // The text is the labels' list, but for the quote at its end.
+    // Whether the text is the labels' list, except for the quote at its end.
     is_listed: bool,
 }
 
@@ -228,7 +228,7 @@ impl Model for LabelText {
 }
 
 impl LabelText {
-    /// No labels.
+    /// No labels. It takes no memory.
     pub fn new(alloc: Global) -> LabelText
         ensures { result ≡ record { labels = []; name = None; value = None } }
     {
@@ -248,14 +248,14 @@ impl LabelText {
         self.places.len()
     }
 
-    /// Whether the label under way has a name.
+    /// Whether the current label has a name.
     pub fn is_named(&self) -> bool
         ensures { result ≡ is_some self.now.name }
     {
         self.name.is_some()
     }
 
-    /// Whether the label under way has a value.
+    /// Whether the current label has a value.
     pub fn is_valued(&self) -> bool
         ensures { result ≡ is_some self.now.value }
     {
@@ -276,7 +276,7 @@ impl LabelText {
         are_labels(self.text.as_slice(), &self.places, labels)
     }
 
-    /// Removes all labels, and keeps the memory for further ones.
+    /// Removes all labels, and keeps the memory for later ones.
     pub fn clear(&mut self)
         ensures { self.new ≡ record { labels = []; name = None; value = None } }
     {
@@ -287,7 +287,7 @@ impl LabelText {
         self.is_listed = true;
     }
 
-    /// Takes copies of these labels in place of its own. It may find no memory; then it has any labels.
+    /// Replaces its labels by copies of these. Fails if memory runs out; then nothing is known of its labels.
     pub fn assign(&mut self, labels: &LabelText) -> Result<(), AllocError>
         ensures assigned { OnOk result (self.new ≡ record { labels = labels.now.labels; name = None; value = None }) }
         ensures idle { (self.new.name ≡ None) × (self.new.value ≡ None) }
@@ -303,7 +303,7 @@ impl LabelText {
         Ok(())
     }
 
-    /// Begins a label with this name. It may find no memory; then nothing changes.
+    /// Begins a label with this name. Fails if memory runs out, and then changes nothing.
     pub fn set_name(&mut self, name: &str) -> Result<(), AllocError>
         ensures set { OnOk result (self.new ≡ record self.old { name = Some name.now }) }
         ensures kept { OnErr result (self.new ≡ self.old) }
@@ -314,7 +314,7 @@ impl LabelText {
         Ok(())
     }
 
-    /// Gives the label under way this value. It may find no memory; then nothing changes.
+    /// Gives the current label this value. Fails if memory runs out, and then changes nothing.
     pub fn set_value(&mut self, value: &str) -> Result<(), AllocError>
         ensures set { OnOk result (self.new ≡ record self.old { value = Some value.now }) }
         ensures kept { OnErr result (self.new ≡ self.old) }
@@ -325,8 +325,8 @@ impl LabelText {
         Ok(())
     }
 
-    /// Ends the label under way: one that has a name and a value is the last of the labels, another one is forgotten. It may find
-    /// no memory; then nothing changes.
+    /// Ends the current label: if it has a name and a value, it becomes the last of the labels, else it is dropped. Fails if
+    /// memory runs out, and then changes nothing.
     pub fn end_label(&mut self) -> Result<(), AllocError>
         ensures ended { OnOk result (self.new ≡ record {
           labels = self.old.labels ++ whole_label self.old.name self.old.value;
@@ -342,7 +342,7 @@ impl LabelText {
         Ok(())
     }
 
-    /// The labels from an index on, lent as pairs. It may find no memory.
+    /// The labels from an index on, as borrowed pairs. Fails if memory runs out.
     pub fn pairs(&self, alloc: Global, from: usize) -> Result<Vec<(&str, &str)>, AllocError>
         requires { from ≤ length self.now.labels }
         ensures { IfOk result (λ pairs. map shown_label pairs.items ≡ drop from self.now.labels) }
@@ -350,7 +350,7 @@ impl LabelText {
         pairs_at(alloc, self.text.as_slice(), &self.places[from..])
     }
 
-    /// Appends the labels with commas between them. It may find no memory.
+    /// Appends the labels with commas between them. Fails if memory runs out.
     pub(crate) fn append_to<O: Output>(&self, text: &mut O) -> Result<(), AllocError>
         ensures { OnOk result (Grows (O.stands_for text.old) (O.stands_for text.new) (label_list_text self.now.labels)) }
     {

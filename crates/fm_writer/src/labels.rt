@@ -16,13 +16,13 @@ pub(crate) trait LabelSource<O: Output> {
     // The labels.
     ghost labels: { Self → List Label };
 
-    // Their text may be appended.
+    // Whether their text may be appended.
     ghost is_ready: { Self → Type 0 } = { λ _. Unit {0} };
 
     fn len(&self) -> usize
         ensures { result ≡ length (labels self.now) };
 
-    // Appends the labels with commas between them. It may find no memory.
+    // Appends the labels with commas between them. Fails if memory runs out.
     fn append_to(&self, text: &mut O) -> Result<(), AllocError>
         requires { is_ready self.now }
         ensures { OnOk result (Grows (O.stands_for text.old) (O.stands_for text.new) (label_list_text (labels self.now))) };
@@ -75,7 +75,7 @@ impl<O: Output> LabelSource<O> for &[(String, String)] {
     }
 }
 
-// Appends the value of a label, and the quote behind it.
+// Appends the value of a label, and the quote after it.
 #[tactic(auto, using(crate::proofs::GrownLemmas::grown))]
 fn append_quoted<O: Output>(text: &mut O, value: &[u8]) -> Result<(), AllocError>
     ensures { OnOk result (Grows (O.stands_for text.old) (O.stands_for text.new) (escaped value.now ++ codes "\"")) }
@@ -87,7 +87,7 @@ fn append_quoted<O: Output>(text: &mut O, value: &[u8]) -> Result<(), AllocError
     text.put(b"\"")
 }
 
-// Appends a label behind a separator.
+// Appends a label after a separator.
 #[tactic(auto, using(crate::proofs::RowLemmas::line), unfolding(fm_grammar::specs::Spelling::label_text))]
 #[inline(always)]
 fn append_separated<O: Output>(
@@ -150,7 +150,7 @@ fn append_label_list<O: Output>(text: &mut O, labels: &[(String, String)]) -> Re
     }
 }
 
-// Makes an output the text of labels with commas between them.
+// Replaces an output by the text of labels with commas between them.
 pub(crate) fn render_label_list<O: Output>(
     text: &mut O,
     labels: &[(String, String)],

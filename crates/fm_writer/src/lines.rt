@@ -14,9 +14,9 @@ use fm_grammar::{MetricType, SampleKind};
 use std::alloc::{AllocError, Global};
 use std::marker::Model;
 
-/// Lines so far.
+/// The lines so far.
 ///
-/// Where there is no memory for a line, a part of it may stand at the end.
+/// If memory runs out during a call, the text may end in a part of a line.
 #[derive(Drop)]
 pub struct Lines {
     text: GrowingText,
@@ -31,7 +31,7 @@ impl Model for Lines {
 }
 
 impl Lines {
-    /// No lines.
+    /// No lines. It takes no memory.
     pub fn new(alloc: Global) -> Lines
         ensures { result ≡ record { text = [] } }
     {
@@ -47,14 +47,14 @@ impl Lines {
         self.text.as_slice()
     }
 
-    /// Appends bytes. It may find no memory.
+    /// Appends bytes. Fails if memory runs out.
     pub fn append(&mut self, bytes: &[u8]) -> Result<(), AllocError>
         ensures { OnOk result (Grown self.old.text self.new.text bytes.now) }
     {
         self.text.append(bytes)
     }
 
-    /// Appends the lines of a family that stand before its samples. It may find no memory.
+    /// Appends the lines of a family that come before its samples. Fails if memory runs out.
     pub fn append_heads(
         &mut self,
         name: &str,
@@ -73,7 +73,7 @@ impl Lines {
         append_heads(&mut self.text, name, metric_type, help, unit)
     }
 
-    /// Appends the line of a sample whose own labels come after the common ones. It may find no memory.
+    /// Appends the line of a sample, whose own labels come after the common ones. Fails if memory runs out.
     pub fn push(
         &mut self,
         name: &str,

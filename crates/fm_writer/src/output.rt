@@ -1,4 +1,4 @@
-// What a text is rendered to: a text that grows, or its size alone.
+// What a text is rendered to: a text that grows, or only the size of the text.
 ghost use Rattle.std.specs.Prelude.{◌≡◌, ◌+◌, ◌-◌, ◌^◌, ◌++◌, [], min, OnOk};
 ghost use Rattle.fm_grammar.specs.Exposition.{Text};
 ghost use Rattle.fm_writer.specs.inside.Grown.{Grows, size_of};
@@ -8,22 +8,22 @@ use std::alloc::AllocError;
 
 // What a text is rendered to.
 pub(crate) trait Output {
-    // The texts that it may stand for.
+    // The texts that it may represent.
     ghost stands_for: { Self → Text → Type 0 };
 
-    // Appends bytes. It may find no memory.
+    // Appends bytes. Fails if memory runs out.
     fn put(&mut self, bytes: &[u8]) -> Result<(), AllocError>
         ensures { OnOk result (Grows (stands_for self.old) (stands_for self.new) bytes.now) };
 
-    // Appends three pieces. It may find no memory.
+    // Appends three pieces. Fails if memory runs out.
     fn put_three(&mut self, first: &[u8], second: &[u8], third: &[u8]) -> Result<(), AllocError>
         ensures { OnOk result (Grows (stands_for self.old) (stands_for self.new) (first.now ++ (second.now ++ third.now))) };
 
-    // Appends what another output stands for. It may find no memory.
+    // Appends what another output represents. Fails if memory runs out.
     fn put_output(&mut self, other: &Self) -> Result<(), AllocError>
         ensures { (text : Text) → stands_for other.now text → OnOk result (Grows (stands_for self.old) (stands_for self.new) text) };
 
-    // Takes all away.
+    // Removes everything.
     fn reset(&mut self)
         ensures { stands_for self.new [] };
 }
@@ -48,17 +48,17 @@ impl Output for GrowingText {
     }
 }
 
-// The size of a text. A size that passes `usize` counts as the greatest `usize`.
+// The size of a text in bytes. A size above the greatest `usize` counts as the greatest `usize`.
 #[derive(Drop)]
 pub(crate) struct Size {
     // The size of the text so far.
     pub(crate) size: usize,
-    // The greatest size so far, also of what was taken away.
+    // The greatest size so far, before removals too.
     pub(crate) greatest: usize,
 }
 
 impl Size {
-    // The size of nothing.
+    // The size of an empty text.
     pub(crate) fn new() -> Size {
         Size {
             size: 0,

@@ -35,7 +35,7 @@ fn has_escape(byte: u8) -> bool
     (byte == b'\n') | (byte == b'"') | (byte == b'\\')
 }
 
-// How many bytes stand before the first one that is written with an escape.
+// How many bytes come before the first one that is written with an escape.
 fn plain_len(raw: &[u8]) -> usize
     ensures within { result ≤ length raw.now }
     ensures plain { escaped (take result raw.now) ≡ take result raw.now }
@@ -48,7 +48,7 @@ fn plain_len(raw: &[u8]) -> usize
     raw.len()
 }
 
-// Whether each byte of a text is written as it is. It asks each of them, so that several are asked at once.
+// Whether each byte of a text is written as it is. It tests all bytes, without an early end, so that several are tested at once.
 pub(crate) fn is_plain(raw: &[u8]) -> bool
     ensures { IsTrue result → escaped raw.now ≡ raw.now }
 {
@@ -59,7 +59,7 @@ pub(crate) fn is_plain(raw: &[u8]) -> bool
     !escapes
 }
 
-// Appends a text with its escapes: what stands between two of them at once.
+// Appends a text with its escapes. What is between two of them is appended at once.
 pub(crate) fn append_escaped<O: Output>(text: &mut O, raw: &[u8]) -> Result<(), AllocError>
     ensures { OnOk result (Grows (O.stands_for text.old) (O.stands_for text.new) (escaped raw.now)) }
 {

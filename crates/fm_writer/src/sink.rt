@@ -22,7 +22,7 @@ enum Form {
     Lines(Lines),
 }
 
-/// Labels of their own memory, equal to the lent ones. It may find no memory.
+/// Owned copies of borrowed labels. Fails if memory runs out.
 pub fn owned_labels(
     alloc: Global,
     labels: &[(&str, &str)],
@@ -72,7 +72,7 @@ impl Model for Sink {
 }
 
 impl Sink {
-    /// A sink that keeps samples. The next ones share no labels. It may find no memory.
+    /// A sink that keeps samples. The next ones share no labels. Fails if memory runs out.
     pub fn samples(alloc: Global) -> Result<Sink, AllocError>
         ensures { IfOk result (λ sink. sink ≡ record { shared = Some []; output = OutputSamples [] }) }
     {
@@ -83,7 +83,7 @@ impl Sink {
         })
     }
 
-    /// A sink that appends lines.
+    /// A sink that appends lines to these.
     pub fn lines(alloc: Global, lines: Lines) -> Sink
         ensures { result ≡ record { shared = None; output = OutputText lines.text } }
     {
@@ -93,7 +93,7 @@ impl Sink {
         }
     }
 
-    /// Appends the lines of a family that stand before its samples; a sink that keeps samples has none. It may find no memory.
+    /// Appends the lines of a family that come before its samples. A sink that keeps samples ignores them. Fails if memory runs out.
     pub fn append_heads(
         &mut self,
         name: &str,
@@ -116,8 +116,8 @@ impl Sink {
         }
     }
 
-    /// Ends the point. The next samples have these common labels, of which samples that are kept share a copy. Where there is no
-    /// memory the sink takes no samples until labels are shared again.
+    /// Ends the point. The next samples have these common labels; samples that are kept share one copy. Fails if memory runs out;
+    /// then the sink takes no samples until labels are shared again.
     pub fn share(&mut self, common: &LabelText) -> Result<(), AllocError>
         ensures output { self.new.output ≡ self.old.output }
         ensures shared { OnOk result (AreShared common.now.labels self.new.shared) }
@@ -131,7 +131,7 @@ impl Sink {
         Ok(())
     }
 
-    /// A sink that keeps samples takes none until labels are shared again.
+    /// Ends the sharing: a sink that keeps samples takes none until labels are shared again.
     pub fn unshare(&mut self)
         ensures { self.new ≡ record self.old { shared = None } }
     {
@@ -150,9 +150,9 @@ impl Sink {
     }
 
     /// Takes a sample of the family with this printed name. Its own labels come after the common ones, which are those that were
-    /// shared; the time is in milliseconds.
+    /// shared. The time is in milliseconds.
     ///
-    /// It may find no memory; then a part of a line may stand at the end of a text.
+    /// Fails if memory runs out; then the lines may end in a part of a line.
     pub fn push(
         &mut self,
         name: &str,
@@ -189,7 +189,7 @@ impl Sink {
         }
     }
 
-    /// The samples, or None where the sink appends lines.
+    /// The samples, or `None` if the sink appends lines.
     pub fn into_samples(self) -> Option<SampleStore>
         ensures { option_map (λ stored. stored.samples) result ≡ samples_in self.output }
     {
@@ -200,7 +200,7 @@ impl Sink {
         }
     }
 
-    /// The lines, or None where the sink keeps samples.
+    /// The lines, or `None` if the sink keeps samples.
     pub fn into_lines(self) -> Option<Lines>
         ensures { result ≡ lines_in self.output }
     {

@@ -138,7 +138,7 @@ fn append_families<O: Output>(
     Ok(())
 }
 
-// Makes an output the document of families. The common labels of each point are rendered to the second output.
+// Renders the document of families to an output. The common labels of each point are rendered to the second output.
 fn render_document<O: Output>(
     text: &mut O,
     common_text: &mut O,
@@ -162,7 +162,7 @@ fn measured(families: &[FamilySamples]) -> Result<(Size, Size), AllocError>
     Ok((text, common_text))
 }
 
-// The document's text, for which there is room before its first byte is rendered.
+// The document's text. Its memory is taken before its first byte is rendered.
 fn rendered(alloc: Global, families: &[FamilySamples]) -> Result<GrowingText, AllocError>
     ensures document { IfOk result (λ text. text ≡ document_rows families.now) }
     ensures utf8 { OnOk result (AllByRecursion IsUtf8Family families.now) }
@@ -174,23 +174,23 @@ fn rendered(alloc: Global, families: &[FamilySamples]) -> Result<GrowingText, Al
     Ok(text)
 }
 
-/// Appends the document of an exposition to what a writer holds.
+/// Writes the document of an exposition to a writer, after what it already has.
 ///
-/// It asks at most twice for memory, for the document and for the common labels of a point, and before the
-/// first byte: `Memory` says that there was none and that nothing was written. `Write` says that the writer answered an error, and
-/// `WriteZero` that it took no byte. No call is tried again, and the writer is not flushed.
+/// It takes memory at most twice, for the document and for the common labels of a point, and before the first byte is written.
+/// Errors: memory ran out, and nothing was written (`Memory`); the writer returned an error (`Write`) or took no byte
+/// (`WriteZero`), and a beginning of the document was written. No call is repeated, and the writer is not flushed.
 pub fn encode_exposition<W: Write>(
     alloc: Global,
     writer: &mut W,
     exposition: &Exposition,
 ) -> Result<(), EncodeError>
-    // After an Ok just the document was appended.
+    // After `Ok`, exactly the document was appended.
     ensures document { OnOk result (AppendsDocument (W.contents writer.old) (W.contents writer.new) exposition.now) }
-    // After an Ok the document that was appended is valid UTF-8.
+    // After `Ok`, the document that was appended is valid UTF-8.
     ensures utf8 { OnOk result (AppendsUtf8 (W.contents writer.old) (W.contents writer.new) exposition.now) }
-    // Without memory nothing was written.
+    // If memory ran out, nothing was written.
     ensures memory { IfErr result (λ e. e ≡ EncodeError.Memory → Keeps (W.contents writer.old) (W.contents writer.new)) }
-    // After a writer's fault a beginning of the document was appended.
+    // After an error of the writer, a beginning of the document was appended.
     ensures stopped { IfErr result (λ e. IsWritersFault e → BeginsDocument (W.contents writer.old) (W.contents writer.new) exposition.now) }
     ensures refusals { IfErr result IsWritingRefusal }
 {

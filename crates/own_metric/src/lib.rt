@@ -57,7 +57,10 @@ pub struct Waiting {
 impl EncodeMetric for Waiting {
     ghost types = { λ _ t. t ≡ Gauge };
 
-    ghost offers = { λ w ms. ms ≡ record { labels = ⟦<Queue as EncodeLabelSet>⟧.labels w.queue; point = GaugePoint (Whole (pos w.requests) ∷ []) } ∷ [] };
+    ghost offers = { λ w ms. ms ≡ record {
+      labels = ⟦<Queue as EncodeLabelSet>⟧.labels w.queue;
+      point = GaugePoint (Whole (pos w.requests) ∷ []);
+    } ∷ [] };
 
     fn encode(&self, encoder: &mut MetricEncoder) -> Result<(), EncodeError> {
         encoder.encode(&self.queue, &ConstGauge::new(self.requests))

@@ -28,12 +28,12 @@ impl Method {
     }
 }
 
-/// How a request was made and answered.
+/// The method of a request and the status of its response.
 #[derive(Clone, Copy, PartialEq, Eq, Hash)]
 pub struct Request {
     /// How it was made.
     pub method: Method,
-    /// The number of the answer's status.
+    /// The status number of the response.
     pub status: u16,
     /// Whether it failed.
     pub failed: bool,

@@ -15,7 +15,7 @@ use fastmetrics::raw::bucket::Bucket;
 use fastmetrics::raw::{FixedSum, MetricType};
 use std::time::Duration;
 
-/// How many requests were answered, and the trace of one of them.
+/// How many requests were completed, and the trace of one of them.
 #[derive(Drop)]
 pub struct Answered<LS> {
     /// How many.

@@ -56,7 +56,8 @@ fn start_all<'s, E, K: TallyKey + Send + Sync, R: Wait + Sync>(
 ) -> Result<Vec<PromisedHandle<Result<Share<K>, TallyError>, Work<'s, K>>>, TallyError>
     requires unused { All (λ s. s.amount ≡ 0) shares.items }
     ensures len { IfOk result (λ v. vec_len v ≡ length batches.now) }
-    ensures batch { IfOk result (λ v. (k : ℕ) (d : _) (e : _) → k < vec_len v → (slice_index_or v.items k d).promise.batch.now ≡ (slice_index_or batches.now k e).items) }
+    ensures batch { IfOk result (λ v. (k : ℕ) (d : _) (e : _) → k < vec_len v
+        → (slice_index_or v.items k d).promise.batch.now ≡ (slice_index_or batches.now k e).items) }
 {
     let mut workers = Vec::with_capacity(alloc, batches.len())?;
     for index in 0..batches.len() {
@@ -88,7 +89,8 @@ fn join_all<'s, E, K: TallyKey + Send + Sync, R: Threads + Wait + Sync>(
 ) -> Result<(Vec<Result<Share<K>, TallyError>>, Share<K>), TallyError>
     requires unused { All (λ s. s.amount ≡ 0) shares.items }
     ensures len { IfOk result (λ r. vec_len r.0 ≡ length batches.now) }
-    ensures each { IfOk result (λ r. (k : ℕ) (d : _) (e : _) → k < vec_len r.0 → IfOk (slice_index_or r.0.items k d) (λ share. share.amount ≡ sum (slice_index_or batches.now k e).items)) }
+    ensures each { IfOk result (λ r. (k : ℕ) (d : _) (e : _) → k < vec_len r.0
+        → IfOk (slice_index_or r.0.items k d) (λ share. share.amount ≡ sum (slice_index_or batches.now k e).items)) }
     ensures watch { IfOk result (λ r. r.1.amount ≡ watch.amount) }
 {
     let workers = start_all(scope, rt, alloc, tally, shares, batches)?;
@@ -110,7 +112,8 @@ fn run_all<'a, K: TallyKey + Send + Sync, R: Threads + Wait + Sync>(
 ) -> Result<(Vec<Result<Share<K>, TallyError>>, Share<K>), TallyError>
     requires unused { All (λ s. s.amount ≡ 0) shares.items }
     ensures len { IfOk result (λ r. vec_len r.0 ≡ length batches.now) }
-    ensures each { IfOk result (λ r. (k : ℕ) (d : _) (e : _) → k < vec_len r.0 → IfOk (slice_index_or r.0.items k d) (λ share. share.amount ≡ sum (slice_index_or batches.now k e).items)) }
+    ensures each { IfOk result (λ r. (k : ℕ) (d : _) (e : _) → k < vec_len r.0
+        → IfOk (slice_index_or r.0.items k d) (λ share. share.amount ≡ sum (slice_index_or batches.now k e).items)) }
     ensures watch { IfOk result (λ r. r.1.amount ≡ watch.amount) }
 {
     thread::scope(
@@ -118,7 +121,11 @@ fn run_all<'a, K: TallyKey + Send + Sync, R: Threads + Wait + Sync>(
         rt,
         move |scope| -> Result<(Vec<Result<Share<K>, TallyError>>, Share<K>), TallyError>
             requires { All (λ s. s.amount ≡ 0) shares.items }
-            ensures { IfOk result (λ r. (vec_len r.0 ≡ length batches.entry.now) × ((k : ℕ) (d : _) (e : _) → k < vec_len r.0 → IfOk (slice_index_or r.0.items k d) (λ share. share.amount ≡ sum (slice_index_or batches.entry.now k e).items)) × (r.1.amount ≡ watch.amount)) }
+            ensures { IfOk result (λ r. (vec_len r.0 ≡ length batches.entry.now)
+                × ((k : ℕ) (d : _) (e : _) → k < vec_len r.0
+                → IfOk (slice_index_or r.0.items k d) (λ share. share.amount
+                ≡ sum (slice_index_or batches.entry.now k e).items))
+                × (r.1.amount ≡ watch.amount)) }
         { join_all(scope, rt, alloc, tally, shares, watch, batches) },
     )
 }

@@ -1,7 +1,7 @@
-//! The registry of each scene, made, collected and written although a request for memory is refused.
+//! The registry of each scene, made, collected and written while a request for memory is refused.
 //!
-//! `scripts/refuse_allocations.sh` refuses one request of the process after the other. Each story is a pair of tests: one in
-//! which the refused call is made again, and one that fails at the first refusal, so that the script knows where to end.
+//! `scripts/refuse_allocations.sh` refuses each request of the process in turn. Each story is a pair of tests: one in
+//! which the refused call is made again, and one that fails at the first refusal, so that the script knows when to stop.
 ghost use Rattle.std.specs.Prelude.{IfOk};
 ghost use Rattle.fastmetrics.specs.HasBook.{HasBook};
 
@@ -20,7 +20,7 @@ use std::test::Fail;
 
 const BEFORE: &[u8] = b"before\n";
 
-// Bears a refusal, where one may still come.
+// Tolerates a refusal, if one may still come.
 fn bear(refusals: &mut u32) -> Result<(), Fail> {
     if *refusals == 0 {
         return Err(Fail::new("refused"));
@@ -29,7 +29,7 @@ fn bear(refusals: &mut u32) -> Result<(), Fail> {
     Ok(())
 }
 
-// Bears a fault for want of memory, also where a worker could not be started for it.
+// Tolerates a fault for want of memory, even if a worker could not be started for it.
 fn bear_fault(refusals: &mut u32, fault: Fault) -> Result<(), Fail> {
     let is_want = fault == Fault::no_memory()
         || fault == Fault::of_metric(MetricError::Memory)
@@ -58,7 +58,7 @@ fn roomy_writer(alloc: Global, refusals: &mut u32) -> Result<Vec<u8>, Fail> {
     }
 }
 
-// Bears a refusal of memory that wrote nothing.
+// Tolerates a refusal of memory that wrote nothing.
 fn bear_unwritten(refusals: &mut u32, error: EncodeError, writer: &[u8]) -> Result<(), Fail> {
     if error != EncodeError::Memory || writer != BEFORE {
         return Err(Fail::new("want of memory wrote something"));
@@ -66,7 +66,7 @@ fn bear_unwritten(refusals: &mut u32, error: EncodeError, writer: &[u8]) -> Resu
     bear(refusals)
 }
 
-// Sees that a writer has this document after the line `before`.
+// Checks that a writer has this document after the line `before`.
 fn expect_written(writer: &[u8], document: &str) -> Result<(), Fail> {
     if writer.strip_prefix(BEFORE) != Some(document.as_bytes()) {
         return Err(Fail::new("another document"));
@@ -133,7 +133,7 @@ fn expect_document(
     encode_whole(alloc, refusals, registry, document)
 }
 
-// Whether a registry was made, and has this document. Else a refusal was borne, and the registry is to be made again.
+// Whether a registry was made, and has this document. Else a refusal was tolerated, and the registry is to be made again.
 fn is_exposed(
     alloc: Global,
     refusals: &mut u32,

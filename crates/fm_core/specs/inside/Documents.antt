@@ -12,7 +12,7 @@ use Rattle.fm_encoder.specs.Gathered.{GatheredMembers}
 use Rattle.fm_core.specs.Families.{Heading}
 use Rattle.fm_core.specs.Admits.{IsFamilyOf, Admits}
 
--- the lines under a heading that stand before its samples
+-- the lines under a heading that come before its samples
 abbrev pub heading_rows : Heading → Text
 heading_rows heading =
     let registration = heading.registration in

@@ -26,7 +26,7 @@ pub use fm_writer::encode_exposition;
 use std::alloc::Global;
 use std::io::Write;
 
-// Goes on to a registry, and takes a metric of it, whose name is new.
+// Goes on to a registry, and takes a metric of it, which has a new name.
 fn encode_under<'a>(
     encoder: &mut MetricFamilyEncoder<'a>,
     namespace: Option<&'a str>,
@@ -35,11 +35,18 @@ fn encode_under<'a>(
     metric: &dyn EncodeMetric,
 ) -> Result<(), EncodeError>
     requires heading { IsListable (heading_in (option_copied namespace) (labels_of constants.now) metadata.now) }
-    requires new_name { IsNewName (listed_name (heading_in (option_copied namespace) (labels_of constants.now) metadata.now)) encoder.old.families }
+    requires new_name { IsNewName
+        (listed_name (heading_in (option_copied namespace) (labels_of constants.now) metadata.now))
+        encoder.old.families }
     requires accepting { encoder.old.refused ≡ None }
     ensures accepting { OnOk result (encoder.new.refused ≡ None) }
-    ensures ok { OnOk result (AddsFamily (offers metric.now) (stamps metric.now) (may_be_empty metric.now) (heading_in (option_copied namespace.entry) (labels_of constants.now) metadata.now) encoder.old.families encoder.new.families) }
-    ensures err { IfErr result (λ k. (k ≡ EncodeError.Memory) ⊎ FaultUnder (offers metric.now) (stamps metric.now) k (may_fault metric.now) (heading_in (option_copied namespace.entry) (labels_of constants.now) metadata.now)) }
+    ensures ok { OnOk result
+        (AddsFamily (offers metric.now) (stamps metric.now) (may_be_empty metric.now)
+        (heading_in (option_copied namespace.entry) (labels_of constants.now) metadata.now) encoder.old.families
+        encoder.new.families) }
+    ensures err { IfErr result (λ k. (k ≡ EncodeError.Memory)
+        ⊎ FaultUnder (offers metric.now) (stamps metric.now) k (may_fault metric.now)
+        (heading_in (option_copied namespace.entry) (labels_of constants.now) metadata.now)) }
 {
     encoder.enter(namespace, constants);
     encoder.encode(metadata, metric)
@@ -54,8 +61,11 @@ fn encode_listed<'a>(
     requires new_name { IsNewName (listed_name (seen_listed listed.now)) encoder.old.families }
     requires accepting { encoder.old.refused ≡ None }
     ensures accepting { OnOk result (encoder.new.refused ≡ None) }
-    ensures ok { OnOk result (AdmitsNext (λ m. offers m) (λ m. stamps m) (λ m. may_be_empty m) (seen_listed listed.now) encoder.old.families encoder.new.families) }
-    ensures err { IfErr result (λ k. (k ≡ EncodeError.Memory) ⊎ FaultOf k (λ m. offers m) (λ m. stamps m) (λ m. may_fault m) (seen_listed listed.now)) }
+    ensures ok { OnOk result
+        (AdmitsNext (λ m. offers m) (λ m. stamps m) (λ m. may_be_empty m) (seen_listed listed.now) encoder.old.families
+        encoder.new.families) }
+    ensures err { IfErr result (λ k. (k ≡ EncodeError.Memory)
+        ⊎ FaultOf k (λ m. offers m) (λ m. stamps m) (λ m. may_fault m) (seen_listed listed.now)) }
 {
     encode_under(
         encoder,
@@ -69,14 +79,16 @@ fn encode_listed<'a>(
 /// The exposition of a registry and all below it: a family for each metric that isn't empty, a registry's metrics by
 /// registration and then its subsystems by creation, depth first.
 ///
-/// The first refusal of an encoder ends it, whatever the metric makes of it; so does want of memory. It may wait where a
-/// metric waits for a lock.
+/// It stops at the first error: `Memory` if memory runs out, or a refusal of an encoder, even if the metric ignores it. It may
+/// wait if a metric waits for a lock.
 pub fn collect(alloc: Global, registry: &Registry) -> Result<Exposition, EncodeError>
     requires { HasBook registry.now }
     // Every book that the registry reads admits the exposition.
-    ensures admitted { IfOk result (λ e. (b : _) → Shows registry.now b → Admits (λ m. offers m) (λ m. stamps m) (λ m. may_be_empty m) (order b) e) }
+    ensures admitted { IfOk result (λ e. (b : _) → Shows registry.now b
+        → Admits (λ m. offers m) (λ m. stamps m) (λ m. may_be_empty m) (order b) e) }
     // A refusal names a fault that the tree has.
-    ensures fault { IfErr result (λ k. (k ≡ EncodeError.Memory) ⊎ ((b : _) → Shows registry.now b → Fault k (λ m. offers m) (λ m. stamps m) (λ m. may_fault m) (order b))) }
+    ensures fault { IfErr result (λ k. (k ≡ EncodeError.Memory)
+        ⊎ ((b : _) → Shows registry.now b → Fault k (λ m. offers m) (λ m. stamps m) (λ m. may_fault m) (order b))) }
     ensures not_writing { IfErr result (λ k. ¬ (IsWritersFault k)) }
 {
     let Ok(list) = registry.listing(alloc) else {
@@ -92,8 +104,8 @@ pub fn collect(alloc: Global, registry: &Registry) -> Result<Exposition, EncodeE
 /// Writes the document of a registry: renders it in memory while it visits the metrics, and then writes it. No lock is held while
 /// it writes.
 ///
-/// A metric's refusal, and want of memory, write nothing. The writer's error, or its result 0, ends the writing with
-/// `Write` or `WriteZero`; then a beginning of the document was written. Wrap a file or a socket in a `BufWriter`, and flush it.
+/// Errors: a metric was refused or memory ran out, and nothing was written; the writer returned an error (`Write`) or took no
+/// byte (`WriteZero`), and a beginning of the document was written. Wrap a file or a socket in a `BufWriter`, and flush it.
 pub fn encode<W: Write>(
     alloc: Global,
     writer: &mut W,
@@ -107,7 +119,7 @@ pub fn encode<W: Write>(
     // A refusal in collecting writes nothing, and names a fault that the tree has.
     ensures refused { IfErr result (λ k. ¬ (IsWritersFault k) → Keeps (W.contents writer.old) (W.contents writer.new)
         × ((k ≡ EncodeError.Memory) ⊎ ((b : _) → Shows registry.now b → Fault k (λ m. offers m) (λ m. stamps m) (λ m. may_fault m) (order b)))) }
-    // A writer's fault leaves a beginning of such a document.
+    // After an error of the writer, a beginning of such a document was written.
     ensures stopped { IfErr result (λ k. IsWritersFault k → BeginsAdmitted
         (λ e. (b : _) → Shows registry.now b → Admits (λ m. offers m) (λ m. stamps m) (λ m. may_be_empty m) (order b) e)
         (W.contents writer.old) (W.contents writer.new)) }

@@ -10,7 +10,7 @@ pub record FamilyConstants : Type 0 where
   pub metric_type : MetricType
   pub labels : List Label
 
--- the labels were tested: they may stand in a family of the type, or this is why they may not
+-- the labels were tested: they are allowed in a family of the type, or this is why they are not
 pub record AreTested (type : MetricType) (labels : List Label) (refusal : Option EncodeError) : Type 0 where
   pub clean : refusal ≡ None → LabelsClean type [] (handed_again labels)
   pub fault : (k : EncodeError) → refusal ≡ Some k → LabelsFault k type [] (handed_again labels)

@@ -1,5 +1,5 @@
 -- What holds of a point encoder's fields between calls: the family's name is in snake case, and well formed are the common labels
--- and the timestamp that further samples get. No common label has a name that the family's type keeps for labels of its own. The
+-- and the timestamp that further samples get. No common label has a name that the family's type reserves for labels of its own. The
 -- samples that the sink keeps may share the common labels.
 use Rattle.std.specs.Prelude.{IfSome}
 use Rattle.std.specs.String.{string_bytes}

@@ -20,12 +20,12 @@ abbrev pub AreTested : MetricType → List Text → List Text → Type 0
 AreTested type before [] = Unit {0}
 AreTested type before (name ∷ names) = MayFollow type before name × AreTested type (before ++ name ∷ []) names
 
--- the labels, and the name of the label under way, have the first of these names
+-- the labels, and the name of the current label, have the first of these names
 abbrev pub HaveNames : List Text → List Label → Option Text → Type 0
 HaveNames names labels name =
     (label_names labels ≡ take (length labels) names) × IfSome name (λ n. slice_get names (length labels) ≡ Some n)
 
--- of a label encoder for a family of this type: a name under way fits, and where `is_known`, the names are the first known ones
+-- in a label encoder for a family of this type: the current name fits, and if `is_known`, the names are the first known ones
 pub record AreKnown (type : MetricType) (known : KnownState) (is_known : Bool) (labels : List Label) (name : Option Text) : Type 0 where
   pub fits : (n : Text) → name ≡ Some n → NameFits type labels n
   pub of_type : known.metric_type ≡ type

@@ -12,7 +12,7 @@ use Rattle.fm_encoder.specs.Labels.{HandedLabel, label_names, LabelsFault, Label
 use Rattle.fm_encoder.specs.Gathered.{GatheredPieces, GatheredPoints, own_refusal, OwnRefusal}
 use Rattle.fm_encoder.specs.Hands.{SamePlace}
 
--- The end of a label, where what was visited had answered `visited`: a whole label is written, an own error is
+-- The end of a label, after its source returned `visited`: a whole label is written, an own error is
 -- refused, and so is a malformed label.
 pub record EndsLabel (visited : Result (Unit {0}) EncodeError) (old new : GatheredPieces) : Type 0 where
   pub type_kept : new.metric_type ≡ old.metric_type
@@ -24,12 +24,12 @@ pub record EndsLabel (visited : Result (Unit {0}) EncodeError) (old new : Gather
   pub own : (e : EncodeError) → old.refused ≡ None → visited ≡ Err e → new.refused ≡ Some (own_refusal e)
   pub refused : (k : EncodeError) → old.refused ≡ None → visited ≡ Ok tt → new.refused ≡ Some k → (k ≡ Memory) ⊎ ((k ≡ MalformedLabel) × IsMalformed old.pieces)
 
--- why a value is refused whose object hands over these numbers
+-- why a value is refused whose source emits these numbers
 abbrev pub NumberRefusal : List Value → Type 0 → EncodeError → Type 0
 NumberRefusal numbers MayFault k =
     OwnRefusal MayFault k ⊎ (((k ≡ ValueTwice) × (2 ≤ length numbers)) ⊎ ((k ≡ MissingValue) × (numbers ≡ [])))
 
--- a value that a metric may hand over: a whole number or millionths within their range
+-- a value that a metric may emit: a whole number or millionths within their range
 abbrev pub IsNumber : Value → Type 0
 IsNumber (Whole z) = ValueFits (Whole z)
 IsNumber (Fixed z) = ValueFits (Fixed z)
@@ -52,28 +52,28 @@ pub record BeginsPoint (type : MetricType) (old new : GatheredPoints) : Type 0 w
   pub no_deferred : new.refused ≡ None → old.deferred ≡ None
   pub refused : (k : EncodeError) → old.refused ≡ None → new.refused ≡ Some k → ((k ≡ KindMismatch) × (¬ (type ≡ old.setting.metric_type))) ⊎ (old.deferred ≡ Some k)
 
--- one sample more, or want of memory
+-- one more sample, or want of memory
 pub record PushesSample (sample : Sample) (old new : GatheredPoints) : Type 0 where
   pub place : SamePlace old new
   pub formed : new.refused ≡ None → IsSample old.setting.metric_type sample
   pub output : new.refused ≡ None → new.output ≡ appended old.setting.name old.output (sample ∷ [])
   pub refused : (k : EncodeError) → new.refused ≡ Some k → k ≡ Memory
 
--- several samples more, or want of memory
+-- several more samples, or want of memory
 pub record PushesSamples (pushed : List Sample) (old new : GatheredPoints) : Type 0 where
   pub place : SamePlace old new
   pub formed : new.refused ≡ None → AllByRecursion (IsSample old.setting.metric_type) pushed
   pub output : new.refused ≡ None → new.output ≡ appended old.setting.name old.output pushed
   pub refused : (k : EncodeError) → new.refused ≡ Some k → k ≡ Memory
 
--- The test of a state set's labels: they may be written where there are no states, or no common label has the family's name.
+-- The test of a state set's labels: they may be written if there are no states, or no common label has the family's name.
 pub record TestsStates (is_empty : Bool) (old new : GatheredPoints) : Type 0 where
   pub place : SamePlace old new
   pub output : new.output ≡ old.output
   pub passed : new.refused ≡ None → (is_empty ≡ true) ⊎ (¬ (Contains (label_names old.common) old.setting.name))
   pub refused : (k : EncodeError) → new.refused ≡ Some k → (k ≡ DuplicateLabel) × (is_empty ≡ false) × Contains (label_names old.common) old.setting.name
 
--- The labels of the next points are read: they are clean and written out, or their refusal waits.
+-- The labels of the next points are read: they are valid and written out, or their refusal is kept for the next point.
 pub record BeginsMember (labels : List HandedLabel) (MayFault : Type 0) (old new : GatheredPoints) : Type 0 where
   pub setting : new.setting ≡ old.setting
   pub output : new.output ≡ old.output
@@ -82,7 +82,7 @@ pub record BeginsMember (labels : List HandedLabel) (MayFault : Type 0) (old new
   pub common : new.deferred ≡ None → new.common ≡ all_written labels
   pub deferred : (k : EncodeError) → new.deferred ≡ Some k → OwnRefusal MayFault k ⊎ LabelsFault k old.setting.metric_type [] labels
 
--- The end of a member, where the point had answered `visited`: an own error is refused.
+-- The end of a member, after the point returned `visited`: an own error is refused.
 pub record EndsPoints (visited : Result (Unit {0}) EncodeError) (old new : GatheredPoints) : Type 0 where
   pub place : SamePlace old new
   pub output : new.output ≡ old.output

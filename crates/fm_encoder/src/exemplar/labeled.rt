@@ -12,11 +12,11 @@ use std::time::Duration;
 /// An observation under labels, mostly of the trace that it belongs to.
 #[derive(Clone, Copy, Debug, Drop)]
 pub struct LabeledExemplar<LS> {
-    /// Its labels. Their names and values have at most 128 code points together.
+    /// Its labels. Their names and values together have at most 128 code points.
     pub labels: LS,
     /// The value that was observed.
     pub value: Fixed,
-    /// When it was observed, since the Unix epoch, of which whole milliseconds are written.
+    /// When it was observed, since the Unix epoch. It is written in whole milliseconds.
     pub timestamp: Option<Duration>,
 }
 

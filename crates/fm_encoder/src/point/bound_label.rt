@@ -62,8 +62,8 @@ impl BoundLabel {
     }
 }
 
-// The label of a point's bucket at this index. Where the label that is kept there has another bound, it gives way to a new one, with those
-// after it. It may find no memory.
+// The label of a point's bucket at this index. If the label that is kept there has another bound, a new one
+// takes its place, and those after it are dropped. Fails if memory runs out.
 pub(crate) fn kept_label<'a>(
     alloc: Global,
     kept: &'a mut Vec<BoundLabel>,

@@ -25,13 +25,13 @@ use std::time::Duration;
 pub mod bare;
 
 impl PointEncoder {
-    /// Takes a histogram's point: its buckets with their own counts, a slot for an exemplar of each, how many values there
-    /// are, their sum, and when it was created, of which whole milliseconds are written. A bucket's sample has its bound in a
-    /// label `le`, and shows how many values the bucket and those before it have together.
+    /// Takes a histogram's point: its buckets, each with its own count; a slot for the exemplar of each bucket; how many values
+    /// there are; their sum in millionths; and when it was created, which is written in whole milliseconds. The sample of a
+    /// bucket has the bound as the label `le`, and shows how many values the bucket and those before it have together.
     ///
-    /// It is refused as `KindMismatch` in a family of another type, as `ExemplarCountMismatch` where buckets and slots differ in
-    /// number, then for its labels, and then, bucket by bucket, as `BucketOverflow` where so many values are no `u64`, or for
-    /// the exemplar. It may find no memory.
+    /// Errors, in this order: the family has another type (`KindMismatch`); the buckets and the slots differ in number
+    /// (`ExemplarCountMismatch`); the errors of the labels; then for each bucket in turn, the count to be shown exceeds the
+    /// greatest `u64` (`BucketOverflow`), or an error of the exemplar. Fails with `Memory` if memory runs out.
     pub fn encode_histogram<E: EncodeExemplar>(
         &mut self,
         buckets: &[Bucket],
@@ -50,8 +50,8 @@ impl PointEncoder {
         self.push_totals(count, sum, created)
     }
 
-    /// Takes a gauge histogram's point: its buckets, how many values there are and their sum, with the refusals of
-    /// `encode_histogram`.
+    /// Takes a gauge histogram's point: its buckets, how many values there are, and their sum in millionths. It fails as
+    /// `encode_histogram` does.
     pub fn encode_gauge_histogram<E: EncodeExemplar>(
         &mut self,
         buckets: &[Bucket],
@@ -104,7 +104,7 @@ impl PointEncoder {
         Ok(())
     }
 
-    // Adds the sample of a bucket behind so many values, and answers how many values there are with its own.
+    // Adds the sample of a bucket, given the count of values before it, and returns the count that includes the bucket's own.
     fn push_bucket<E: EncodeExemplar>(
         &mut self,
         before: u64,
@@ -131,7 +131,7 @@ impl PointEncoder {
         Ok(values)
     }
 
-    // Adds a sample that shows so many values up to the bound.
+    // Adds a sample that shows this count of values up to the bound.
     fn push_bound(
         &mut self,
         index: usize,

@@ -22,8 +22,8 @@ use fm_grammar::{MetricType, SampleKind};
 use std::time::Duration;
 
 impl PointEncoder {
-    /// Takes an unknown metric's point. It is refused as `KindMismatch` in a family of another type, then for its
-    /// labels, then as `MissingValue` or `ValueTwice` where the value wrote not just one number. It may find no memory.
+    /// Takes an unknown metric's point. Errors, in this order: the family has another type (`KindMismatch`); the errors of the
+    /// labels; the value emits no number (`MissingValue`) or several (`ValueTwice`). Fails with `Memory` if memory runs out.
     pub fn encode_unknown<V: EncodeUnknownValue>(&mut self, value: &V) -> Result<(), EncodeError>
         ensures handed { HandsPoints (λ ps. ps ≡ UnknownPoint (V.numbers value.now) ∷ []) (V.may_fault value.now) self.old self.new result }
         ensures answered { result ≡ result_of self.new.refused }
@@ -35,7 +35,7 @@ impl PointEncoder {
         }
     }
 
-    /// Takes a gauge's point, with the refusals of `encode_unknown`.
+    /// Takes a gauge's point. It fails as `encode_unknown` does.
     pub fn encode_gauge<V: EncodeGaugeValue>(&mut self, value: &V) -> Result<(), EncodeError>
         ensures handed { HandsPoints (λ ps. ps ≡ GaugePoint (V.numbers value.now) ∷ []) (V.may_fault value.now) self.old self.new result }
         ensures answered { result ≡ result_of self.new.refused }
@@ -47,8 +47,8 @@ impl PointEncoder {
         }
     }
 
-    /// Takes a counter's point: its total, an exemplar of it, and when it was created, of which whole milliseconds are
-    /// written. Beside the refusals of `encode_unknown` it has those of the exemplar.
+    /// Takes a counter's point: its total, an exemplar, and when it was created, since the Unix epoch, which is written in whole
+    /// milliseconds. It fails as `encode_unknown` does, and with the errors of the exemplar.
     pub fn encode_counter<V: EncodeCounterValue, E: EncodeExemplar>(
         &mut self,
         total: &V,
@@ -72,7 +72,7 @@ impl PointEncoder {
         self.push_total(number, exemplar, created)
     }
 
-    // Adds the sample of a counter's total, and that of its time of creation, where there is one.
+    // Adds the sample of a counter's total, and that of its time of creation, if there is one.
     fn push_total(
         &mut self,
         number: Value,
@@ -91,7 +91,7 @@ impl PointEncoder {
         self.push_created(created)
     }
 
-    // Adds the sample of a time of creation, where there is one.
+    // Adds the sample of a time of creation, if there is one.
     pub(crate) fn push_created(&mut self, created: Option<Duration>) -> Result<(), EncodeError>
         requires accepting { self.old.refused ≡ None }
         requires kind { Contains (kinds_of self.old.setting.metric_type) CreatedKind }

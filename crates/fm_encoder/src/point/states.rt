@@ -18,9 +18,10 @@ use fm_grammar::{MetricType, SampleKind};
 use fm_writer::LabelText;
 
 impl PointEncoder {
-    /// Takes a state set's point: each state's text, and whether it is on. A state's label has the family's name; where a
-    /// common label has it too, the point is refused as `DuplicateLabel`. It is refused as `KindMismatch` in a family of
-    /// another type, then for its labels, and may find no memory.
+    /// Takes a state set's point: each state's text, and whether the state is on. The label of a state has the family's name.
+    ///
+    /// Errors, in this order: the family has another type (`KindMismatch`); the errors of the labels; there are states and a
+    /// common label has the family's name (`DuplicateLabel`). Fails with `Memory` if memory runs out.
     pub fn encode_stateset(&mut self, states: Vec<(&str, bool)>) -> Result<(), EncodeError>
         ensures handed { HandsPoints (λ ps. ps ≡ StateSetPoint (map state_of states.entry.items) ∷ []) ⊥ self.old self.new result }
         ensures answered { result ≡ result_of self.new.refused }
@@ -37,7 +38,7 @@ impl PointEncoder {
         self.push_states(&mut LabelText::new(self.alloc), states)
     }
 
-    // Refuses the states, unless there are none, where a common label has the family's name.
+    // Refuses the states if there are any and a common label has the family's name.
     fn test_states(&mut self, is_empty: bool) -> Result<(), EncodeError>
         requires accepting { self.old.refused ≡ None }
         ensures tested { TestsStates is_empty self.old self.new }
@@ -83,8 +84,8 @@ impl PointEncoder {
         self.push_labeled(SampleKind::Plain, own, value, None)
     }
 
-    /// Takes an info's point: its labels, which stand behind the common ones. It is refused as `KindMismatch` in a family of
-    /// another type, then for the common labels, then for its own. It may find no memory.
+    /// Takes an info's point: its labels, which come after the common ones. Errors, in this order: the family has another type
+    /// (`KindMismatch`); the errors of the common labels; the errors of its own labels. Fails with `Memory` if memory runs out.
     pub fn encode_info<LS: EncodeLabelSet>(&mut self, labels: &LS) -> Result<(), EncodeError>
         ensures handed { HandsPoints (λ ps. ps ≡ InfoPoint (LS.labels labels.now) ∷ []) (LS.may_fault labels.now) self.old self.new result }
         ensures answered { result ≡ result_of self.new.refused }

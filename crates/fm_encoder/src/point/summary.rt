@@ -18,10 +18,12 @@ use fm_writer::LabelText;
 use std::time::Duration;
 
 impl PointEncoder {
-    /// Takes a summary's point: its quantiles, the sum of the values, how many there are, and when it was created, of which
-    /// whole milliseconds are written. A quantile's sample has the quantile in a label `quantile`, and shows its value.
+    /// Takes a summary's point: its quantiles, the sum of the values in millionths, how many values there are, and when it was
+    /// created, which is written in whole milliseconds. The sample of a quantile has it as the label `quantile`, and shows its
+    /// value.
     ///
-    /// It is refused as `KindMismatch` in a family of another type, then for its labels. It may find no memory.
+    /// Errors, in this order: the family has another type (`KindMismatch`); the errors of the labels. Fails with `Memory` if
+    /// memory runs out.
     pub fn encode_summary(
         &mut self,
         quantiles: &[Quantile],

@@ -35,7 +35,7 @@ fn sum_value(sum: FixedSum) -> Value
 }
 
 impl PointEncoder {
-    // Adds the samples of how many values there are, of their sum, and of a time of creation, where there is one.
+    // Adds the samples of how many values there are, of their sum, and of a time of creation, if there is one.
     pub(crate) fn push_totals(
         &mut self,
         count: u64,

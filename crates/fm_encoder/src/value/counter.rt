@@ -10,18 +10,18 @@ use fm_encode_error::EncodeError;
 use fm_exposition::Value;
 use fm_raw::fixed::Fixed;
 
-/// Takes the value of a counter: just one number.
+/// Takes the value of a counter, which is one number.
 pub type CounterValueEncoder = ValueEncoder<OfCounter>;
 
-/// Something that hands over the value of a counter.
+/// A source of the value of a counter.
 pub trait EncodeCounterValue {
-    /// The numbers that `encode` hands over, just one in a value that is not refused.
+    /// The numbers that `encode` emits. A value with more or less than one is refused.
     ghost numbers: { Self → List Number };
 
-    /// `encode` may answer an error of its own other than `Memory`.
+    /// `encode` may return an error of its own other than `Memory`.
     ghost may_fault: { Self → Type 0 } = { λ _. ⊥ };
 
-    /// Hands the number to the encoder.
+    /// Passes the number to the encoder.
     fn encode(&self, encoder: &mut CounterValueEncoder) -> Result<(), EncodeError>
         ensures { HandsNumbers (numbers self.now) (may_fault self.now) encoder.old encoder.new result };
 }
@@ -58,7 +58,7 @@ impl EncodeCounterValue for Fixed {
     }
 }
 
-// The one number that the value of a counter hands over.
+// The one number that the value of a counter emits.
 pub(crate) fn counter_number<V: EncodeCounterValue>(value: &V) -> Result<Value, EncodeError>
     ensures { MatchResult result
         (λ v. (V.numbers value.now ≡ value_of v ∷ []) × IsNumber (value_of v))

@@ -36,7 +36,7 @@ impl TakesLong for OfCounter {}
 
 impl TakesLong for OfGauge {}
 
-/// Takes the value of a metric of this kind: just one number.
+/// Takes the value of a metric of this kind, which is one number.
 #[derive(Drop)]
 pub struct ValueEncoder<K> {
     number: Option<Value>,
@@ -85,7 +85,7 @@ impl<K> ValueEncoder<K> {
         Ok(())
     }
 
-    // The one number, where nothing was refused and what was visited answered `visited`.
+    // The one number, after the visited source returned `visited`, or the first refusal.
     pub(crate) fn end(self, visited: Result<(), EncodeError>) -> Result<Value, EncodeError>
         ensures { MatchResult result
             (λ v. (self.refused ≡ None) × (visited ≡ Ok tt) × (self.numbers ≡ value_of v ∷ []) × IsNumber (value_of v))
@@ -105,7 +105,7 @@ impl<K> ValueEncoder<K> {
         }
     }
 
-    /// Takes the number; a second one is refused as `ValueTwice`.
+    /// Takes the number. A second number is refused as `ValueTwice`.
     pub fn encode_u32(&mut self, number: u32) -> Result<(), EncodeError>
         ensures handed { HandsNumbers (Whole (pos number) ∷ []) ⊥ self.old self.new result }
         ensures answered { result ≡ result_of self.new.refused }
@@ -113,7 +113,7 @@ impl<K> ValueEncoder<K> {
         self.gather(Value::Whole(i128::from(number)))
     }
 
-    /// Takes the number of millionths; a second one is refused as `ValueTwice`.
+    /// Takes the number, in millionths. A second number is refused as `ValueTwice`.
     pub fn encode_fixed(&mut self, number: Fixed) -> Result<(), EncodeError>
         ensures handed { HandsNumbers (Millionths number ∷ []) ⊥ self.old self.new result }
         ensures answered { result ≡ result_of self.new.refused }
@@ -123,7 +123,7 @@ impl<K> ValueEncoder<K> {
 }
 
 impl<K: TakesLong> ValueEncoder<K> {
-    /// Takes the number; a second one is refused as `ValueTwice`.
+    /// Takes the number. A second number is refused as `ValueTwice`.
     pub fn encode_u64(&mut self, number: u64) -> Result<(), EncodeError>
         ensures handed { HandsNumbers (Whole (pos number) ∷ []) ⊥ self.old self.new result }
         ensures answered { result ≡ result_of self.new.refused }
@@ -133,7 +133,7 @@ impl<K: TakesLong> ValueEncoder<K> {
 }
 
 impl<K: TakesSigned> ValueEncoder<K> {
-    /// Takes the number; a second one is refused as `ValueTwice`.
+    /// Takes the number. A second number is refused as `ValueTwice`.
     pub fn encode_i32(&mut self, number: i32) -> Result<(), EncodeError>
         ensures handed { HandsNumbers (Whole number ∷ []) ⊥ self.old self.new result }
         ensures answered { result ≡ result_of self.new.refused }
@@ -141,7 +141,7 @@ impl<K: TakesSigned> ValueEncoder<K> {
         self.gather(Value::Whole(i128::from(number)))
     }
 
-    /// Takes the number; a second one is refused as `ValueTwice`.
+    /// Takes the number. A second number is refused as `ValueTwice`.
     pub fn encode_i64(&mut self, number: i64) -> Result<(), EncodeError>
         ensures handed { HandsNumbers (Whole number ∷ []) ⊥ self.old self.new result }
         ensures answered { result ≡ result_of self.new.refused }
@@ -149,7 +149,7 @@ impl<K: TakesSigned> ValueEncoder<K> {
         self.gather(Value::Whole(i128::from(number)))
     }
 
-    /// Takes the number; a second one is refused as `ValueTwice`.
+    /// Takes the number. A second number is refused as `ValueTwice`.
     pub fn encode_isize(&mut self, number: isize) -> Result<(), EncodeError>
         ensures handed { HandsNumbers (Whole number ∷ []) ⊥ self.old self.new result }
         ensures answered { result ≡ result_of self.new.refused }
@@ -159,7 +159,7 @@ impl<K: TakesSigned> ValueEncoder<K> {
 }
 
 impl ValueEncoder<OfCounter> {
-    /// Takes the number; a second one is refused as `ValueTwice`.
+    /// Takes the number. A second number is refused as `ValueTwice`.
     pub fn encode_usize(&mut self, number: usize) -> Result<(), EncodeError>
         ensures handed { HandsNumbers (Whole (pos number) ∷ []) ⊥ self.old self.new result }
         ensures answered { result ≡ result_of self.new.refused }

@@ -69,7 +69,8 @@ fn named_metric(
 fn standing_under<'a, M>(metrics: &'a IndexMap<Tailed, M>, key: &Tailed) -> Option<&'a Metadata>
     ensures free { IfNone result (get tailed.eq metrics.now key.now ≡ None) }
     ensures taken { IfSome result (λ there. (is_some (get tailed.eq metrics.now key.now) ≡ true)
-        × ((x : M) → has_metric (seen_metrics metrics.now.entries) (seen_metric key.now.metadata x) ≡ is_same_metric (seen_metric key.now.metadata x) (seen_metric there.now x))) }
+        × ((x : M) → has_metric (seen_metrics metrics.now.entries) (seen_metric key.now.metadata x)
+        ≡ is_same_metric (seen_metric key.now.metadata x) (seen_metric there.now x))) }
 {
     let place = metrics.get_index_of(key)?;
     let (there, _) = metrics.get_index(place)?;
@@ -83,9 +84,11 @@ fn insert_new<M: Drop>(
     metric: M,
     is_below: bool,
 ) -> Result<(), RegistryError>
-    ensures ok { OnOk result (seen_metrics metrics.new.entries ≡ seen_metrics metrics.old.entries ++ seen_metric key.metadata metric ∷ []) }
+    ensures ok { OnOk result
+        (seen_metrics metrics.new.entries ≡ seen_metrics metrics.old.entries ++ seen_metric key.metadata metric ∷ []) }
     ensures err { OnErr result (metrics.new.entries ≡ metrics.old.entries) }
-    ensures answer { IsAnswered (refusal_of result) (refusal_beside (seen_metrics metrics.old.entries) is_below (seen_metric key.metadata metric)) }
+    ensures answer { IsAnswered (refusal_of result)
+        (refusal_beside (seen_metrics metrics.old.entries) is_below (seen_metric key.metadata metric)) }
 {
     if let Some(there) = standing_under(metrics, &key) {
         let is_same = key.metadata().is_same_as(there);
@@ -115,7 +118,8 @@ fn insert_metric<M: Drop>(
 ) -> Result<(), RegistryError>
     ensures ok { OnOk result (metrics_in metrics.new ≡ metrics_in metrics.old ++ seen_metric key.metadata metric ∷ []) }
     ensures err { OnErr result (metrics_in metrics.new ≡ metrics_in metrics.old) }
-    ensures answer { IsAnswered (refusal_of result) (refusal_beside (metrics_in metrics.old) is_below (seen_metric key.metadata metric)) }
+    ensures answer { IsAnswered (refusal_of result)
+        (refusal_beside (metrics_in metrics.old) is_below (seen_metric key.metadata metric)) }
 {
     insert_new(
         metrics.get_or_insert_with(|| IndexMap::new(alloc)),
@@ -133,7 +137,8 @@ impl<M: Drop> Registry<M> {
         metadata: Metadata,
         metric: M,
     ) -> Result<(), RegistryError>
-        ensures answer { IsAnswered (refusal_of result) (standing_refusal self.old.facts.metrics (names_in self.old.children) (seen_metric metadata metric)) }
+        ensures answer { IsAnswered (refusal_of result)
+            (standing_refusal self.old.facts.metrics (names_in self.old.children) (seen_metric metadata metric)) }
         ensures ok { OnOk result (self.new ≡ with_metric self.old (seen_metric metadata metric)) }
         ensures err { OnErr result (self.new ≡ self.old) }
     {
@@ -154,7 +159,9 @@ impl<M: Drop> Registry<M> {
         unit: Option<Unit>,
         metric: M,
     ) -> Result<(), RegistryError>
-        ensures answer { IsAnswered (refusal_of result) (metric_refusal self.old.facts.metrics (names_in self.old.children) (seen_metric (asked name help metric_type unit) metric)) }
+        ensures answer { IsAnswered (refusal_of result)
+            (metric_refusal self.old.facts.metrics (names_in self.old.children)
+            (seen_metric (asked name help metric_type unit) metric)) }
         ensures ok { OnOk result (self.new ≡ with_metric self.old (seen_metric (asked name help metric_type unit) metric)) }
         ensures err { OnErr result (self.new ≡ self.old) }
     {
@@ -173,8 +180,12 @@ impl<M: Drop> Registry<M> {
         unit: Option<Unit>,
         metric: M,
     ) -> Result<(), RegistryError>
-        ensures answer { (b : _) → Reads self.old b → IsAnswered (refusal_of result) (answer b (Register [] (seen_metric (asked name help metric_type unit) metric))) }
-        ensures ok { OnOk result ((b : _) → Reads self.old b → Reads self.new (after b (Register [] (seen_metric (asked name help metric_type unit) metric)))) }
+        ensures answer { (b : _) → Reads self.old b
+            → IsAnswered (refusal_of result)
+            (answer b (Register [] (seen_metric (asked name help metric_type unit) metric))) }
+        ensures ok { OnOk result
+            ((b : _) → Reads self.old b
+            → Reads self.new (after b (Register [] (seen_metric (asked name help metric_type unit) metric)))) }
         ensures err { OnErr result (self.new ≡ self.old) }
         ensures grows { Grows self.old self.new }
         ensures sound { HasBook self.old → HasBook self.new }
@@ -189,10 +200,10 @@ impl Registry {
     /// The metric's type is read once, and is kept. Errors, in this order: the name is not in snake case
     /// (`InvalidNameFormat`); the type can't have a unit (`MustHaveAnEmptyUnitString`); the unit's text is not one word
     /// of lowercase letters and digits (`OtherUnitFormatMustBeLowercase`); a metric with this name, type and unit is
-    /// registered here already (`AlreadyExists`); the name, or `name_unit` where there is a unit, is that of another
+    /// registered here already (`AlreadyExists`); the name, or `name_unit` if there is a unit, is that of another
     /// metric here, or begins with a subsystem's name and an underscore (`NameTaken`).
     ///
-    /// It allocates an entry for the metric and the name with its unit; where that fails, it returns `Memory`. The
+    /// It allocates an entry for the metric and the name with its unit; if that fails, it returns `Memory`. The
     /// first three errors allocate nothing. At an error the metric is dropped, and the registry stays as it was.
     pub fn register_metric(
         &mut self,

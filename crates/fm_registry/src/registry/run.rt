@@ -62,8 +62,11 @@ impl<M: Drop> Registry<M> {
         name: String,
         labels: Vec<(String, String)>,
     ) -> Result<(), RegistryError>
-        ensures answer { IsAnswered (refusal_of result) (subsystem_refusal self.old.facts.depth self.old.facts.metrics (names_in self.old.children) (string_bytes name) (labels_of labels.items)) }
-        ensures there { has_text (names_in self.old.children) (string_bytes name) ≡ true → refusal_of result ≡ asking_refusal self.old.facts.depth (string_bytes name) (labels_of labels.items) }
+        ensures answer { IsAnswered (refusal_of result)
+            (subsystem_refusal self.old.facts.depth self.old.facts.metrics (names_in self.old.children)
+            (string_bytes name) (labels_of labels.items)) }
+        ensures there { has_text (names_in self.old.children) (string_bytes name) ≡ true
+            → refusal_of result ≡ asking_refusal self.old.facts.depth (string_bytes name) (labels_of labels.items) }
         ensures ok { OnOk result (self.new ≡ with_subsystem self.old (string_bytes name) (labels_of labels.items)) }
         ensures err { OnErr result (self.new ≡ self.old) }
     {
@@ -80,8 +83,11 @@ impl<M: Drop> Registry<M> {
         name: String,
         labels: Vec<(String, String)>,
     ) -> Result<(), RegistryError>
-        ensures reply { (b : _) → Reads self.old b → IsReply (refusal_of result) b (AskSubsystem [] (string_bytes name) (labels_of labels.items)) }
-        ensures ok { OnOk result ((b : _) → Reads self.old b → Reads self.new (after b (AskSubsystem [] (string_bytes name) (labels_of labels.items)))) }
+        ensures reply { (b : _) → Reads self.old b
+            → IsReply (refusal_of result) b (AskSubsystem [] (string_bytes name) (labels_of labels.items)) }
+        ensures ok { OnOk result
+            ((b : _) → Reads self.old b
+            → Reads self.new (after b (AskSubsystem [] (string_bytes name) (labels_of labels.items)))) }
         ensures err { OnErr result (self.new ≡ self.old) }
     {
         self.ask_here(alloc, name, labels)
@@ -113,7 +119,8 @@ impl<M: Drop> Registry<M> {
         request: Request<M>,
     ) -> Result<(), RegistryError>
         ensures reply { (b : _) → Reads self.old b → IsReply (refusal_of result) b (call_at (path_of path.items) request) }
-        ensures ok { OnOk result ((b : _) → Reads self.old b → Reads self.new (after b (call_at (path_of path.items) request))) }
+        ensures ok { OnOk result
+            ((b : _) → Reads self.old b → Reads self.new (after b (call_at (path_of path.items) request))) }
         ensures err { OnErr result (self.new ≡ self.old) }
     {
         match path.pop() {

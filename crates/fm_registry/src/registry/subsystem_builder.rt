@@ -116,11 +116,21 @@ impl<'a, M: Drop> RegistrySubsystemBuilder<'a, M> {
     /// `subsystem` does, or with `Memory`. At an error the registry stays as it was.
     pub fn build(self) -> Result<&'a mut Subsystem<M>, RegistryError>
         ensures* writes_back { sem 𝓛 (lends_built M.row self.entry result) }
-        ensures answer { IsAnswered (refusal_of result) (subsystem_refusal self.entry.registry.now.facts.depth self.entry.registry.now.facts.metrics (names_in self.entry.registry.now.children) (string_bytes self.entry.name) (labels_of self.entry.labels.items)) }
+        ensures answer { IsAnswered (refusal_of result)
+            (subsystem_refusal self.entry.registry.now.facts.depth self.entry.registry.now.facts.metrics
+            (names_in self.entry.registry.now.children) (string_bytes self.entry.name)
+            (labels_of self.entry.labels.items)) }
         // Returning an existing one allocates nothing.
-        ensures there { has_text (names_in self.entry.registry.now.children) (string_bytes self.entry.name) ≡ true → refusal_of result ≡ asking_refusal self.entry.registry.now.facts.depth (string_bytes self.entry.name) (labels_of self.entry.labels.items) }
+        ensures there { has_text (names_in self.entry.registry.now.children) (string_bytes self.entry.name) ≡ true
+            → refusal_of result
+            ≡ asking_refusal self.entry.registry.now.facts.depth (string_bytes self.entry.name)
+            (labels_of self.entry.labels.items) }
         ensures name { IfOk result (λ s. string_bytes s.now.name ≡ string_bytes self.entry.name) }
-        ensures reads { IfOk result (λ s. (b : _) → Reads self.entry.registry.now b → LoanReads (with_subsystem self.entry.registry.now (string_bytes self.entry.name) (labels_of self.entry.labels.items)) (string_bytes self.entry.name) s.now.registry (after b (AskSubsystem [] (string_bytes self.entry.name) (labels_of self.entry.labels.items)))) }
+        ensures reads { IfOk result (λ s. (b : _) → Reads self.entry.registry.now b
+            → LoanReads
+            (with_subsystem self.entry.registry.now (string_bytes self.entry.name) (labels_of self.entry.labels.items))
+            (string_bytes self.entry.name) s.now.registry
+            (after b (AskSubsystem [] (string_bytes self.entry.name) (labels_of self.entry.labels.items)))) }
         ensures sound { IfOk result (λ s. HasBook self.entry.registry.now → HasBook s.now.registry) }
     {
         let RegistrySubsystemBuilder {

@@ -106,7 +106,8 @@ impl<M: Drop> Registry<M> {
 
     // Whether the name of a subsystem here begins with this name and an underscore, or the other way round.
     fn is_beside_child(&self, name: &str) -> bool
-        ensures { result ≡ list_any (λ child. below_test child name.now || below_test name.now child) (names_in self.now.children) }
+        ensures { result
+            ≡ list_any (λ child. below_test child name.now || below_test name.now child) (names_in self.now.children) }
     {
         match &self.subsystems {
             Some(subsystems) => is_related_to_any(subsystems, name),
@@ -179,7 +180,8 @@ impl<M: Drop> Registry<M> {
     ) -> Result<usize, RegistryError>
         requires depth { self.old.facts.depth < 64 }
         requires absent { place_in self.old.children (string_bytes name) ≡ None }
-        ensures answer { IsAnswered (refusal_of result) (new_name_refusal self.old.facts.metrics (names_in self.old.children) (string_bytes name)) }
+        ensures answer { IsAnswered (refusal_of result)
+            (new_name_refusal self.old.facts.metrics (names_in self.old.children) (string_bytes name)) }
         ensures place { IfOk result (λ place. place_in self.new.children (string_bytes name) ≡ Some place) }
         ensures ok { OnOk result (self.new ≡ with_subsystem self.old (string_bytes name) (labels_of labels.items)) }
         ensures err { OnErr result (self.new ≡ self.old) }
@@ -205,7 +207,8 @@ impl<M: Drop> Registry<M> {
         labels: Vec<(String, String)>,
     ) -> Result<usize, RegistryError>
         requires { self.old.facts.depth < 64 }
-        ensures answer { IsAnswered (refusal_of result) (child_refusal self.old.facts.metrics (names_in self.old.children) (string_bytes name)) }
+        ensures answer { IsAnswered (refusal_of result)
+            (child_refusal self.old.facts.metrics (names_in self.old.children) (string_bytes name)) }
         ensures there { has_text (names_in self.old.children) (string_bytes name) ≡ true → refusal_of result ≡ None }
         ensures place { IfOk result (λ place. place_in self.new.children (string_bytes name) ≡ Some place) }
         ensures ok { OnOk result (self.new ≡ with_subsystem self.old (string_bytes name) (labels_of labels.items)) }
@@ -224,8 +227,11 @@ impl<M: Drop> Registry<M> {
         name: String,
         labels: Vec<(String, String)>,
     ) -> Result<usize, RegistryError>
-        ensures answer { IsAnswered (refusal_of result) (subsystem_refusal self.old.facts.depth self.old.facts.metrics (names_in self.old.children) (string_bytes name) (labels_of labels.items)) }
-        ensures there { has_text (names_in self.old.children) (string_bytes name) ≡ true → refusal_of result ≡ asking_refusal self.old.facts.depth (string_bytes name) (labels_of labels.items) }
+        ensures answer { IsAnswered (refusal_of result)
+            (subsystem_refusal self.old.facts.depth self.old.facts.metrics (names_in self.old.children)
+            (string_bytes name) (labels_of labels.items)) }
+        ensures there { has_text (names_in self.old.children) (string_bytes name) ≡ true
+            → refusal_of result ≡ asking_refusal self.old.facts.depth (string_bytes name) (labels_of labels.items) }
         ensures place { IfOk result (λ place. place_in self.new.children (string_bytes name) ≡ Some place) }
         ensures ok { OnOk result (self.new ≡ with_subsystem self.old (string_bytes name) (labels_of labels.items)) }
         ensures err { OnErr result (self.new ≡ self.old) }
@@ -248,10 +254,15 @@ impl<M: Drop> Registry<M> {
         labels: Vec<(String, String)>,
     ) -> Result<&mut Subsystem<M>, RegistryError>
         ensures* writes_back { sem 𝓛 (lends_subsystem M.row self.entry (string_bytes name) (labels_of labels.items) result) }
-        ensures answer { IsAnswered (refusal_of result) (subsystem_refusal self.old.facts.depth self.old.facts.metrics (names_in self.old.children) (string_bytes name) (labels_of labels.items)) }
-        ensures there { has_text (names_in self.old.children) (string_bytes name) ≡ true → refusal_of result ≡ asking_refusal self.old.facts.depth (string_bytes name) (labels_of labels.items) }
+        ensures answer { IsAnswered (refusal_of result)
+            (subsystem_refusal self.old.facts.depth self.old.facts.metrics (names_in self.old.children)
+            (string_bytes name) (labels_of labels.items)) }
+        ensures there { has_text (names_in self.old.children) (string_bytes name) ≡ true
+            → refusal_of result ≡ asking_refusal self.old.facts.depth (string_bytes name) (labels_of labels.items) }
         ensures name { IfOk result (λ s. string_bytes s.now.name ≡ string_bytes name) }
-        ensures reads { IfOk result (λ s. (b : _) → Reads self.old b → LoanReads (with_subsystem self.old (string_bytes name) (labels_of labels.items)) (string_bytes name) s.now.registry (after b (AskSubsystem [] (string_bytes name) (labels_of labels.items)))) }
+        ensures reads { IfOk result (λ s. (b : _) → Reads self.old b
+            → LoanReads (with_subsystem self.old (string_bytes name) (labels_of labels.items)) (string_bytes name)
+            s.now.registry (after b (AskSubsystem [] (string_bytes name) (labels_of labels.items)))) }
         ensures sound { IfOk result (λ s. HasBook self.old → HasBook s.now.registry) }
     {
         let place = self.add_subsystem(alloc, name, labels)?;
@@ -273,11 +284,16 @@ impl<M: Drop> Registry<M> {
         name: String,
     ) -> Result<&mut Subsystem<M>, RegistryError>
         ensures* writes_back { sem 𝓛 (lends_subsystem M.row self.entry (string_bytes name) [] result) }
-        ensures answer { IsAnswered (refusal_of result) (subsystem_refusal self.old.facts.depth self.old.facts.metrics (names_in self.old.children) (string_bytes name) []) }
+        ensures answer { IsAnswered (refusal_of result)
+            (subsystem_refusal self.old.facts.depth self.old.facts.metrics (names_in self.old.children)
+            (string_bytes name) []) }
         // Returning an existing one allocates nothing.
-        ensures there { has_text (names_in self.old.children) (string_bytes name) ≡ true → refusal_of result ≡ asking_refusal self.old.facts.depth (string_bytes name) [] }
+        ensures there { has_text (names_in self.old.children) (string_bytes name) ≡ true
+            → refusal_of result ≡ asking_refusal self.old.facts.depth (string_bytes name) [] }
         ensures name { IfOk result (λ s. string_bytes s.now.name ≡ string_bytes name) }
-        ensures reads { IfOk result (λ s. (b : _) → Reads self.old b → LoanReads (with_subsystem self.old (string_bytes name) []) (string_bytes name) s.now.registry (after b (AskSubsystem [] (string_bytes name) []))) }
+        ensures reads { IfOk result (λ s. (b : _) → Reads self.old b
+            → LoanReads (with_subsystem self.old (string_bytes name) []) (string_bytes name) s.now.registry
+            (after b (AskSubsystem [] (string_bytes name) []))) }
         ensures sound { IfOk result (λ s. HasBook self.old → HasBook s.now.registry) }
     {
         self.labelled_subsystem(alloc, name, Vec::new(alloc))

@@ -1,4 +1,4 @@
-//! A document that is read although a request for memory is refused.
+//! A document that is read while a request for memory is refused.
 
 use fastmetrics::format::text::{ReadError, read};
 use fm_test_support::support::Patience;

@@ -79,7 +79,7 @@ fn measures_after_a_refusal(rt: HostRuntime) -> Result<(), Fail> {
     measure(rt.alloc(), &mut patience, fresh)
 }
 
-// Whether just the state at this place is on.
+// Whether only the state at this index is on.
 fn is_on(jobs: &StateSet<Job>, place: usize) -> Result<bool, MetricError> {
     let states = jobs.states()?;
     let texts = ["pending", "running", "completed", "failed"];

@@ -14,7 +14,7 @@ fn whole(n: i8) -> Fixed {
     Fixed::from_millionths(i64::from(n) * 1_000_000)
 }
 
-// Bears a refusal for want of memory, also where a worker could not be started for it.
+// Tolerates a refusal for want of memory, even if a worker could not be started for it.
 fn bear_fault(patience: &mut Patience, fault: TallyError) -> Result<(), Fail> {
     if fault != TallyError::Memory && fault != TallyError::SpawnFailed {
         return Err(Fail::new("another refusal"));

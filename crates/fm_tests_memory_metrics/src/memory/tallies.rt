@@ -9,7 +9,7 @@ use std::sync::Wait;
 use std::sync::ledger::Blank;
 use std::test::Fail;
 
-// Bears a refusal for want of memory.
+// Tolerates a refusal for want of memory.
 fn bear(patience: &mut Patience, error: TallyError) -> Result<(), Fail> {
     if error != TallyError::Memory {
         return Err(Fail::new("another refusal"));

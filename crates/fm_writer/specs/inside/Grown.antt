@@ -1,13 +1,13 @@
--- What an output has got.
+-- What was appended to an output.
 use Rattle.std.specs.Prelude.{◌≡◌, ℕ, List, ◌++◌, drop, min, length, ◌-◌, ◌^◌}
 use Rattle.std.specs.List.{flat_map}
 use Rattle.fm_grammar.specs.Exposition.{Text}
 
--- the text has got this at its end
+-- this was appended to the text
 pub record Grown (old new text : List ℕ) : Type 0 where
   pub bytes : new ≡ old ++ text
 
--- whatever text an output stood for, it stands for that text with this at its end
+-- whatever text an output represented, it now represents that text with this appended
 pub record Grows (old new : Text → Type 0) (text : Text) : Type 0 where
   pub grows : (front : Text) → old front → new (front ++ text)
 
@@ -23,6 +23,6 @@ pub record IsLeftOf (rest whole : Text) (old now : Text → Type 0) : Type 0 whe
   pub grown : Grows old now front
   pub is : front ++ rest ≡ whole
 
--- the length of the text, or the greatest number of the machine where the length passes it
+-- the length of the text, or the greatest `usize` if the length exceeds it
 abbrev pub size_of : Text → ℕ
 size_of text = min (length text) (2 ^ 64 - 1)

@@ -1,4 +1,4 @@
--- Labels in one text: where their parts stand, and what contracts see of them.
+-- Labels in one text: where their parts are, and what contracts see of them.
 use Rattle.std.specs.Prelude.{◌≡◌, ◌++◌, ◌≤◌, codes, None, Bool, true, false, List, [], ◌∷◌, length, map, Option, Some, IfSome}
 use Rattle.std.specs.List.{between, AllByRecursion}
 use Rattle.std.specs.Str.{IsUtf8}
@@ -8,11 +8,11 @@ use Rattle.fm_grammar.specs.Spelling.{escaped, label_list_text}
 use Rattle.fm_writer.specs.declared.label_text.Part.{Part}
 use Rattle.fm_writer.specs.declared.label_text.Place.{Place}
 
--- the name or value that stands there
+-- the name or value at this place
 abbrev pub part_in : Text → Part → Text
 part_in text part = between part.start part.end text
 
--- the label that stands there
+-- the label at this place
 abbrev pub label_in : Text → Place → Label
 label_in text place = record { name = part_in text place.name; value = part_in text place.value }
 
@@ -32,23 +32,23 @@ pub record IsPlace (text : Text) (place : Place) : Type 0 where
   pub name : IsPart text place.name
   pub value : IsPart text place.value
 
--- all places lie in the text, those of the label under way too
+-- all places are within the text, those of the current label too
 pub record AreParts (text : Text) (ps : List Place) (n v : Option Part) : Type 0 where
   pub places : AllByRecursion (IsPlace text) ps
   pub name : IfSome n (IsPart text)
   pub value : IfSome v (IsPart text)
 
--- what stands before the name of a label: behind another one its last quote, and a comma
+-- what comes before the name of a label: if another label precedes it, the quote that ends that one, and a comma
 abbrev pub name_in_list : Bool → Text → Text
 name_in_list true n = [] ++ (n ++ codes "=\"")
 name_in_list false n = codes "\"," ++ (n ++ codes "=\"")
 
--- the list of the labels before, with a comma behind it
+-- the list of the labels before, with a comma after it
 abbrev pub list_before : List Label → Text
 list_before [] = []
 list_before (label ∷ labels) = label_list_text (label ∷ labels) ++ codes ","
 
--- the text is the list of the labels but for the quote at its end, and what is there of the label under way
+-- the text is the list of the labels, except for the quote at its end, and the parts of the current label
 abbrev pub IsListed : Option Text → Option Text → Text → List Label → Type 0
 IsListed None None text [] = text ≡ []
 IsListed None None text (label ∷ labels) = text ++ codes "\"" ≡ label_list_text (label ∷ labels)
@@ -60,12 +60,12 @@ abbrev pub AreListed : Bool → Option Text → Option Text → Text → List La
 AreListed true n v text labels = IsListed n v text labels
 AreListed false n v text labels = Unit {0}
 
--- all parts lie in the text, which may be the list of the labels
+-- all parts are within the text, which may be the list of the labels
 pub record AreKept (is_listed : Bool) (text : Text) (ps : List Place) (n v : Option Part) : Type 0 where
   pub parts : AreParts text ps n v
   pub listed : AreListed is_listed (option_map (part_in text) n) (option_map (part_in text) v) text (labels_in text ps)
 
--- what contracts see: the labels, and the name and the value of the label under way
+-- what contracts see: the labels, and the name and the value of the current label
 pub record LabelsState : Type 0 where
   pub labels : List Label
   pub name : Option Text

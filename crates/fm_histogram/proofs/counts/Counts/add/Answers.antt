@@ -11,7 +11,7 @@ use Rattle.fm_histogram.proofs.EmptyLemmas.{endless}
 use Rattle.fm_histogram.proofs.CountLemmas.{sum_fits, observes, count_within}
 use Rattle.fm_histogram.proofs.counts.Counts.add.Goals as goal
 
--- the place of a value is that of a bucket
+-- the index of a value is that of a bucket
 within : (bounds : List ℤ) (s : Histogram) (v : ℤ) → IsOfSome bounds s → place_among v bounds < length s.buckets
 within bounds s v some = rw some.is.is (omega (arith, place_within bounds v, count_of_buckets None bounds some.values))
 

@@ -8,7 +8,7 @@ use Rattle.fm_histogram.proofs.MergeLemmas.{merges, bounds_same, lengths_same}
 use Rattle.fm_histogram.proofs.CountLemmas.{count_within, sums_fit, sums_low, sums_high}
 use Rattle.fm_histogram.proofs.counts.Counts.merge.Goals as goal
 
--- bucket by bucket the counts fit where all do
+-- bucket by bucket the counts fit if all do
 fit : (bs bs' : List ℤ) (s t : Histogram) (n : ℕ) (i : ℕ) (d e : Bucket) → IsOfSome bs s → IsOfSome bs' t → upper_bounds s.buckets ≡ upper_bounds t.buckets → s.count + t.count < n → i < length t.buckets
     → (get_or s.buckets i d).count + (get_or t.buckets i e).count < n
 fit bs bs' s t n i d e some some' same small h =
