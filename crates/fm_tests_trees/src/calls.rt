@@ -2,7 +2,7 @@
 ghost use Rattle.std.specs.Prelude.{IfOk};
 ghost use Rattle.fm_registry.specs.HasBook.{HasBook};
 
-use crate::boxed::{gauge_at, root, six_calls};
+use crate::boxed::{calls_at, root, six_calls};
 use fastmetrics::registry::{Registry, RegistryCall, RegistryError};
 use fm_test_support::support::expect_document_of;
 use fm_test_support::trees::{
@@ -72,14 +72,17 @@ fn a_gauge_registered_again(rt: HostRuntime) -> Result<(), Fail> {
 
 // Calls at paths that are there, and at others that are not.
 fn calls_at_depth(alloc: Global) -> Result<Vec<RegistryCall>, AllocError> {
-    let mut calls = Vec::new(alloc);
-    calls.push(subsystem_at(alloc, &[], "a", &[])?)?;
-    calls.push(subsystem_at(alloc, &["a"], "b", &[])?)?;
-    calls.push(subsystem_at(alloc, &["a", "c"], "d", &[])?)?;
-    calls.push(gauge_at(alloc, &["a", "b", "d"], "Bad", 1)?)?;
-    calls.push(gauge_at(alloc, &["b", "a"], "up", 1)?)?;
-    calls.push(gauge_at(alloc, &["a", "b"], "up", 1)?)?;
-    Ok(calls)
+    calls_at(
+        alloc,
+        &[
+            (&[], "a", None),
+            (&["a"], "b", None),
+            (&["a", "c"], "d", None),
+            (&["a", "b", "d"], "Bad", Some(1)),
+            (&["b", "a"], "up", Some(1)),
+            (&["a", "b"], "up", Some(1)),
+        ],
+    )
 }
 
 #[test]

@@ -2,11 +2,11 @@
 ghost use Rattle.std.specs.Prelude.{IfOk};
 ghost use Rattle.fm_registry.specs.HasBook.{HasBook};
 
-use crate::boxed::gauge_at;
+use crate::boxed::{calls_at, gauge_at};
 use crate::calls::all_refused;
 use fastmetrics::metrics::counter::ConstCounter;
 use fastmetrics::raw::Unit;
-use fastmetrics::registry::{Registry, RegistryCall};
+use fastmetrics::registry::{Registry, RegistryCall, RegistryError};
 use fm_test_support::support::expect_document_of;
 use fm_test_support::trees::{
     build_below, expect_refused, gauge, have_numbers, refuses, register, register_below,
@@ -60,15 +60,21 @@ fn calls_for(alloc: Global, all: &[Made]) -> Result<Vec<RegistryCall>, AllocErro
     Ok(calls)
 }
 
+// Whether of two calls the first is accepted, and the second is the refusal with this number, which names this text, or is accepted
+// where the number is 0.
+fn is_second(answers: &[Result<(), RegistryError>], number: u8, text: &str) -> bool {
+    have_numbers(answers, &[0, number]) && (number == 0 || refuses(answers, 1, number, text))
+}
+
 // Fails where of two calls at an empty root the first is refused, or the second is not the refusal with this number, which
 // names this text. The number 0 stands for a second call that is accepted.
 fn expect_second(alloc: Global, both: [Made; 2], number: u8, text: &str) -> Result<(), Fail> {
     let mut registry = Registry::default();
     let answers = registry.run(alloc, calls_for(alloc, &both)?)?;
-    if have_numbers(&answers, &[0, number]) && (number == 0 || refuses(&answers, 1, number, text)) {
+    if is_second(&answers, number, text) {
         Ok(())
     } else {
-        Err(Fail::new(format_args!("the second of two calls: {text:?}")))
+        Err(Fail::new("another answer to the second of two calls"))
     }
 }
 
@@ -102,16 +108,17 @@ fn names_of_one_kind(rt: HostRuntime) -> Result<(), Fail> {
 
 // A subsystem, a gauge whose name lies below it, one whose name doesn't, and a subsystem above that.
 fn calls_with_taken_names(alloc: Global) -> Result<Vec<RegistryCall>, AllocError> {
-    let all = [
-        Made::Child("db"),
-        Made::Gauge("db_up"),
-        Made::Gauge("up_now"),
-        Made::Child("up"),
-    ];
-    let mut calls = calls_for(alloc, &all)?;
-    calls.push(gauge_at(alloc, &["up"], "now", 2)?)?;
-    calls.push(gauge_at(alloc, &["db"], "up", 3)?)?;
-    Ok(calls)
+    calls_at(
+        alloc,
+        &[
+            (&[], "db", None),
+            (&[], "db_up", Some(1)),
+            (&[], "up_now", Some(1)),
+            (&[], "up", None),
+            (&["up"], "now", Some(2)),
+            (&["db"], "up", Some(3)),
+        ],
+    )
 }
 
 #[test]

@@ -1,7 +1,7 @@
 //! Trees of registries: namespaces and labels, what roots refuse, depth, and the order of a document.
 
-use crate::boxed::{gauge_at, root};
-use fastmetrics::registry::{Registry, RegistryCall, RegistryError};
+use crate::boxed::{calls_at, gauge_at, root};
+use fastmetrics::registry::{Registry, RegistryCall, RegistryError, Subsystem};
 use fm_test_support::support::{document_of, expect_document_of};
 use fm_test_support::trees::{
     are_accepted_but, are_labels, build_below, expect_refused, gauge, have_numbers, labels,
@@ -47,6 +47,13 @@ fn what_roots_say(rt: HostRuntime) -> Result<(), Fail> {
     Ok(())
 }
 
+// Whether a subsystem has this name, this namespace and these labels.
+fn is_below(below: &Subsystem, name: &str, namespace: &str, labels: &[(&str, &str)]) -> bool {
+    below.name() == name
+        && below.namespace() == Some(namespace)
+        && are_labels(below.constant_labels(), labels)
+}
+
 #[test]
 fn what_subsystems_say(rt: HostRuntime) -> Result<(), Fail> {
     let alloc = rt.alloc();
@@ -55,8 +62,7 @@ fn what_subsystems_say(rt: HostRuntime) -> Result<(), Fail> {
     let name = String::from_str(alloc, "cache")?;
     let cache = registry.subsystem(alloc, name)?;
     let labels = [("env", "prod"), ("region", "us-west"), ("type", "redis")];
-    assert!(rt; cache.name() == "cache" && cache.namespace() == Some("myapp_cache"));
-    assert!(rt; are_labels(cache.constant_labels(), &labels));
+    assert!(rt; is_below(cache, "cache", "myapp_cache", &labels));
     Ok(())
 }
 
@@ -76,8 +82,7 @@ fn keys_given_twice(rt: HostRuntime) -> Result<(), Fail> {
     registry.run(alloc, calls_with_keys(alloc)?)?;
     let name = String::from_str(alloc, "a")?;
     let below = registry.subsystem(alloc, name)?;
-    assert!(rt; below.namespace() == Some("a"));
-    assert!(rt; are_labels(below.constant_labels(), &[("k", "2"), ("z", "0")]));
+    assert!(rt; is_below(below, "a", "a", &[("k", "2"), ("z", "0")]));
     Ok(())
 }
 
@@ -149,17 +154,20 @@ fn names_of_subsystems(rt: HostRuntime) -> Result<(), Fail> {
 
 // Calls that register here and below in turn.
 fn calls_in_turn(alloc: Global) -> Result<Vec<RegistryCall>, AllocError> {
-    let mut calls = Vec::new(alloc);
-    calls.push(subsystem_at(alloc, &[], "x", &[])?)?;
-    calls.push(gauge_at(alloc, &["x"], "g", 1)?)?;
-    calls.push(gauge_at(alloc, &[], "c", 2)?)?;
-    calls.push(subsystem_at(alloc, &[], "b", &[])?)?;
-    calls.push(gauge_at(alloc, &["b"], "g", 3)?)?;
-    calls.push(gauge_at(alloc, &[], "a", 4)?)?;
-    calls.push(subsystem_at(alloc, &["x"], "z", &[])?)?;
-    calls.push(gauge_at(alloc, &["x", "z"], "g", 5)?)?;
-    calls.push(gauge_at(alloc, &["x"], "a", 6)?)?;
-    Ok(calls)
+    calls_at(
+        alloc,
+        &[
+            (&[], "x", None),
+            (&["x"], "g", Some(1)),
+            (&[], "c", Some(2)),
+            (&[], "b", None),
+            (&["b"], "g", Some(3)),
+            (&[], "a", Some(4)),
+            (&["x"], "z", None),
+            (&["x", "z"], "g", Some(5)),
+            (&["x"], "a", Some(6)),
+        ],
+    )
 }
 
 #[test]
@@ -214,6 +222,13 @@ fn deepest_gauge(alloc: Global) -> Result<RegistryCall, AllocError> {
     })
 }
 
+// The calls that make 65 subsystems one in another, of which the last is refused, and register that gauge.
+fn calls_to_the_deepest(alloc: Global) -> Result<Vec<RegistryCall>, AllocError> {
+    let mut calls = one_in_another(alloc, 65)?;
+    calls.push(deepest_gauge(alloc)?)?;
+    Ok(calls)
+}
+
 // Whether a document has only the deepest gauge.
 fn has_the_deepest_gauge(document: &str) -> bool {
     document.starts_with("# TYPE root_a_a_a_a")
@@ -224,10 +239,8 @@ fn has_the_deepest_gauge(document: &str) -> bool {
 #[test]
 fn deepest_registries(rt: HostRuntime) -> Result<(), Fail> {
     let alloc = rt.alloc();
-    let mut calls = one_in_another(alloc, 65)?;
-    calls.push(deepest_gauge(alloc)?)?;
     let mut registry = root(alloc, "root", &[("k", "v")])?;
-    let answers = registry.run(alloc, calls)?;
+    let answers = registry.run(alloc, calls_to_the_deepest(alloc)?)?;
     assert!(rt; answers.len() == 66 && are_accepted_but(&answers, 64, 11, "a"));
     let document = document_of(alloc, &registry)?;
     assert!(rt; has_the_deepest_gauge(document.as_str()));
