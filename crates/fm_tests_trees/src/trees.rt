@@ -54,16 +54,29 @@ fn is_below(below: &Subsystem, name: &str, namespace: &str, labels: &[(&str, &st
         && are_labels(below.constant_labels(), labels)
 }
 
+// Fails where a subsystem does not have this name, this namespace and these labels. It is made where it is not there.
+fn expect_below(
+    alloc: Global,
+    registry: &mut Registry,
+    name: &str,
+    namespace: &str,
+    labels: &[(&str, &str)],
+) -> Result<(), Fail> {
+    let text = String::from_str(alloc, name)?;
+    if is_below(registry.subsystem(alloc, text)?, name, namespace, labels) {
+        Ok(())
+    } else {
+        Err(Fail::new("another name, namespace or label"))
+    }
+}
+
 #[test]
 fn what_subsystems_say(rt: HostRuntime) -> Result<(), Fail> {
     let alloc = rt.alloc();
     let mut registry = root(alloc, "myapp", &[("env", "dev"), ("region", "us-west")])?;
     registry.run(alloc, calls_for_a_cache(alloc)?)?;
-    let name = String::from_str(alloc, "cache")?;
-    let cache = registry.subsystem(alloc, name)?;
     let labels = [("env", "prod"), ("region", "us-west"), ("type", "redis")];
-    assert!(rt; is_below(cache, "cache", "myapp_cache", &labels));
-    Ok(())
+    expect_below(alloc, &mut registry, "cache", "myapp_cache", &labels)
 }
 
 // A call that makes a subsystem with one key twice, and one that finds it there.
@@ -80,10 +93,7 @@ fn keys_given_twice(rt: HostRuntime) -> Result<(), Fail> {
     let alloc = rt.alloc();
     let mut registry = Registry::default();
     registry.run(alloc, calls_with_keys(alloc)?)?;
-    let name = String::from_str(alloc, "a")?;
-    let below = registry.subsystem(alloc, name)?;
-    assert!(rt; is_below(below, "a", "a", &[("k", "2"), ("z", "0")]));
-    Ok(())
+    expect_below(alloc, &mut registry, "a", "a", &[("k", "2"), ("z", "0")])
 }
 
 static INVALID_NAMES: [&str; 8] = ["", "_", "My", "1a", "a__b", "a_", "a-b", "é"];
