@@ -1,4 +1,5 @@
-//! Tests of whole documents: constant metrics, expositions and their parts, writers that stop.
+//! Tests of whole documents: constant metrics, labels by name and value, families by texts and by pairs, metrics that are registered
+//! by texts, expositions and their parts, and writers that stop.
 #![tactic(auto)]
 
 #[cfg(test)]
@@ -8,6 +9,12 @@ mod documents;
 #[cfg(test)]
 mod expositions;
 #[cfg(test)]
+mod own_labels;
+#[cfg(test)]
+mod pairs;
+#[cfg(test)]
 mod tallies;
+#[cfg(test)]
+mod texts;
 #[cfg(test)]
 mod writers;

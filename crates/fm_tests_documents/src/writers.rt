@@ -4,7 +4,8 @@ ghost use Rattle.fm_registry.specs.HasBook.{HasBook};
 use fastmetrics::format::text::{EncodeError, encode};
 use fastmetrics::metrics::counter::ConstCounter;
 use fastmetrics::registry::Registry;
-use fm_test_support::support::{Stopping, text_of};
+use fm_test_support::support::{Stopping, expect_text, text_of};
+use fm_test_support::trees::{register, register_with};
 use std::alloc::Global;
 use std::io::ErrorKind;
 use std::test::Fail;
@@ -47,59 +48,60 @@ fn stops_at(alloc: Global, registry: &Registry, room: usize) -> bool
 #[test]
 fn every_place_to_stop(rt: HostRuntime) -> Result<(), Fail> {
     let alloc = rt.alloc();
+    let counter = Box::new(alloc, ConstCounter::new(10100u64))?;
     let mut registry = Registry::default();
-    let name = String::from_str(alloc, "jobs")?;
-    let help = String::from_str(alloc, "Jobs done")?;
-    registry.register(
-        alloc,
-        name,
-        help,
-        Box::new(alloc, ConstCounter::new(10100u64))?,
-    )?;
+    register_with(alloc, &mut registry, "jobs", "Jobs done", None, counter)?;
     for room in 0..65 {
         assert!(rt; stops_at(alloc, &registry, room), "after {room}");
     }
-    assert_eq!(rt; stopped_at(alloc, &registry, 65, 1, None), (Ok(()), true));
+    assert!(rt; stopped_at(alloc, &registry, 65, 1, None) == (Ok(()), true));
     Ok(())
 }
 
-// What a writer of ten bytes takes, and what comes after a beginning.
-fn around(
+// Fails where a writer that stops after ten bytes ends the writing with another error, or has other bytes.
+fn expect_ten_bytes(
     alloc: Global,
     registry: &Registry,
     end: Option<ErrorKind>,
-) -> Result<(String, EncodeError, String), Fail>
+    want: EncodeError,
+) -> Result<(), Fail>
     requires { HasBook registry.now }
 {
     let mut stopping = Stopping::new(alloc, 10, 1000, end);
-    let Err(error) = encode(alloc, &mut stopping, registry) else {
-        return Err(Fail::new("written"));
-    };
+    let answer = encode(alloc, &mut stopping, registry);
+    if answer == Err(want) && stopping.bytes.as_slice() == b"# TYPE c c".as_slice() {
+        Ok(())
+    } else {
+        Err(Fail::new("another error, or other bytes"))
+    }
+}
+
+// Fails where encoding after a beginning writes anything but the document after it.
+fn expect_after_beginning(alloc: Global, registry: &Registry) -> Result<(), Fail>
+    requires { HasBook registry.now }
+{
     let mut used = b"before\n".to_vec(alloc)?;
     encode(alloc, &mut used, registry)?;
-    let Stopping { bytes, .. } = stopping;
-    Ok((text_of(bytes)?, error, text_of(used)?))
+    let text = text_of(used)?;
+    expect_text(
+        text.as_str(),
+        "before\n# TYPE c counter\n# HELP c H\nc_total 1\n# EOF\n",
+    )
 }
 
 #[test]
 fn ten_bytes_and_used_writers(rt: HostRuntime) -> Result<(), Fail> {
     let alloc = rt.alloc();
+    let counter = Box::new(alloc, ConstCounter::new(1u64))?;
     let mut registry = Registry::default();
-    let name = String::from_str(alloc, "c")?;
-    let help = String::from_str(alloc, "H")?;
-    registry.register(alloc, name, help, Box::new(alloc, ConstCounter::new(1u64))?)?;
+    register(alloc, &mut registry, "c", counter)?;
     for (end, refusal, number) in [
         (Some(ErrorKind::Other), EncodeError::Write, 14),
         (None, EncodeError::WriteZero, 15),
     ] {
-        let (bytes, error, used) = around(alloc, &registry, end)?;
-        assert_eq!(rt; bytes.as_str(), "# TYPE c c");
-        assert_eq!(rt; error, refusal);
-        assert_eq!(rt; error.number(), number);
-        assert_eq!(rt;
-            used.as_str(),
-            "before\n# TYPE c counter\n# HELP c H\nc_total 1\n# EOF\n"
-        );
+        assert!(rt; refusal.number() == number);
+        expect_ten_bytes(alloc, &registry, end, refusal)?;
+        expect_after_beginning(alloc, &registry)?;
     }
     Ok(())
 }

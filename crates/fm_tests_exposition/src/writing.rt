@@ -111,42 +111,69 @@ fn counter_with_own(alloc: Global) -> Result<Exposition, EncodeError> {
     family(alloc, total(alloc, common, own)?)
 }
 
+// Whether an exposition is written as these bytes.
+fn is_written(alloc: Global, exposition: Exposition, want: &[u8]) -> Result<bool, EncodeError> {
+    let mut bytes: Vec<u8> = Vec::new(alloc);
+    encode_exposition(alloc, &mut bytes, &exposition)?;
+    Ok(bytes.as_slice() == want)
+}
+
 #[test]
 fn writes_documents(rt: HostRuntime) -> Result<(), Fail> {
     let alloc = rt.alloc();
-    let mut bytes: Vec<u8> = Vec::new(alloc);
-    encode_exposition(alloc, &mut bytes, &make::exposition(Vec::new(alloc)))?;
-    assert!(rt; bytes.as_slice() == b"# EOF\n".as_slice());
-    bytes.clear();
-    encode_exposition(alloc, &mut bytes, &counter(alloc)?)?;
-    assert!(rt; bytes.as_slice() == DOCUMENT);
-    bytes.clear();
-    encode_exposition(alloc, &mut bytes, &counter_with_own(alloc)?)?;
-    assert!(rt; bytes.as_slice() == DOCUMENT);
-    let mut slow = Stopping::new(alloc, 1000, 1, true);
-    encode_exposition(alloc, &mut slow, &counter(alloc)?)?;
+    assert!(rt;
+        is_written(
+            alloc,
+            make::exposition(Vec::new(alloc)),
+            b"# EOF\n".as_slice()
+        )?
+    );
+    assert!(rt; is_written(alloc, counter(alloc)?, DOCUMENT)?);
+    assert!(rt; is_written(alloc, counter_with_own(alloc)?, DOCUMENT)?);
+    Ok(())
+}
+
+#[test]
+fn writes_byte_by_byte(rt: HostRuntime) -> Result<(), Fail> {
+    let counter = counter(rt.alloc())?;
+    let mut slow = Stopping::new(rt.alloc(), 1000, 1, true);
+    encode_exposition(rt.alloc(), &mut slow, &counter)?;
     assert!(rt; slow.bytes.as_slice() == DOCUMENT);
     Ok(())
+}
+
+// Whether a writer that stops after ten bytes, of which it takes at most seven a call, ends the writing there by this refusal.
+fn is_stopped(
+    alloc: Global,
+    exposition: Exposition,
+    is_failing: bool,
+    refusal: EncodeError,
+) -> bool {
+    let mut writer = Stopping::new(alloc, 10, 7, is_failing);
+    encode_exposition(alloc, &mut writer, &exposition) == Err(refusal)
+        && writer.bytes.as_slice() == b"# TYPE c c".as_slice()
 }
 
 #[test]
 fn stops_at_the_writers_end(rt: HostRuntime) -> Result<(), Fail> {
     let alloc = rt.alloc();
     for (is_failing, refusal) in [(true, EncodeError::Write), (false, EncodeError::WriteZero)] {
-        let mut writer = Stopping::new(alloc, 10, 7, is_failing);
-        let result = encode_exposition(alloc, &mut writer, &counter(alloc)?);
-        assert!(rt; result == Err(refusal));
-        assert!(rt; writer.bytes.as_slice() == b"# TYPE c c".as_slice());
+        assert!(rt; is_stopped(alloc, counter(alloc)?, is_failing, refusal));
     }
     Ok(())
+}
+
+// Whether an exposition is equal to that of one sample whose labels are common ones.
+fn is_counter(alloc: Global, exposition: Exposition) -> Result<bool, EncodeError> {
+    Ok(counter(alloc)? == exposition)
 }
 
 #[test]
 fn compares_by_parts(rt: HostRuntime) -> Result<(), Fail> {
     let alloc = rt.alloc();
-    assert!(rt; counter(alloc)? == counter(alloc)?);
-    assert!(rt; counter(alloc)? == counter_with_own(alloc)?);
-    assert!(rt; counter(alloc)? != make::exposition(Vec::new(alloc)));
+    assert!(rt; is_counter(alloc, counter(alloc)?)?);
+    assert!(rt; is_counter(alloc, counter_with_own(alloc)?)?);
+    assert!(rt; !is_counter(alloc, make::exposition(Vec::new(alloc)))?);
     assert!(rt; Value::Whole(1) != Value::Millis(1));
     Ok(())
 }
@@ -219,7 +246,6 @@ fn two_growths(rt: HostRuntime) -> Result<(), Fail> {
     let exposition = family(alloc, totals(alloc, common, 1000)?)?;
     let mut writer = Counting { bytes: 0, lines: 0 };
     encode_exposition(alloc, &mut writer, &exposition)?;
-    assert!(rt; writer.lines == 1003);
-    assert!(rt; writer.bytes == 18_937);
+    assert!(rt; writer.lines == 1003 && writer.bytes == 18_937);
     Ok(())
 }

@@ -10,8 +10,8 @@ use fastmetrics::registry::Registry;
 use fm_test_support::members::OneMember;
 use fm_test_support::parts::{HalfAndTrue, Perhaps, Unvisited, Visited, Word};
 use fm_test_support::support::{expect_document, expect_lines};
-use fm_test_support::trees::labels;
-use std::alloc::Global;
+use fm_test_support::trees::{labels, register};
+use std::alloc::{AllocError, Global};
 use std::borrow::CowStr;
 use std::collections::{BTreeMap, LinkedList, VecDeque};
 use std::sync::Arc;
@@ -19,9 +19,28 @@ use std::sync::atomic::{AtomicU64, Ordering};
 use std::test::Fail;
 use std::time::Duration;
 
+// A label set of two labels as a map.
+fn in_a_map(alloc: Global) -> Result<BTreeMap<String, u64>, AllocError> {
+    let mut map = BTreeMap::new(alloc);
+    for (name, value) in [("b", 2), ("a", 1)] {
+        map.insert(String::from_str(alloc, name)?, value)?;
+    }
+    Ok(map)
+}
+
+// Fails where this is not the line of a gauge with such a map and this timestamp.
+fn expect_stamped(alloc: Global, time: Option<Duration>, want: &str) -> Result<(), Fail> {
+    let metric = OneMember {
+        metric_type: MetricType::Gauge,
+        time,
+        labels: in_a_map(alloc)?,
+        point: ConstGauge::new(5i64),
+    };
+    expect_lines(alloc, Box::new(alloc, metric)?, want)
+}
+
 #[test]
 fn maps_with_timestamps(rt: HostRuntime) -> Result<(), Fail> {
-    let alloc = rt.alloc();
     for (time, want) in [
         (None, "t{a=\"1\",b=\"2\"} 5\n# EOF\n"),
         (
@@ -33,58 +52,77 @@ fn maps_with_timestamps(rt: HostRuntime) -> Result<(), Fail> {
             "t{a=\"1\",b=\"2\"} 5 18446744073709551615.999\n# EOF\n",
         ),
     ] {
-        let mut labels = BTreeMap::new(alloc);
-        labels.insert(String::from_str(alloc, "b")?, 2u64)?;
-        labels.insert(String::from_str(alloc, "a")?, 1u64)?;
-        let metric = OneMember {
-            metric_type: MetricType::Gauge,
-            time,
-            labels,
-            point: ConstGauge::new(5i64),
-        };
-        expect_lines(alloc, Box::new(alloc, metric)?, want)?;
+        expect_stamped(rt.alloc(), time, want)?;
     }
     Ok(())
 }
 
-// A label set as a list, a deque and a linked list of its two labels.
-fn in_order(
-    alloc: Global,
-) -> Result<
-    (
-        Vec<(String, u64)>,
-        VecDeque<(String, u64)>,
-        LinkedList<(String, u64)>,
-    ),
-    Fail,
-> {
+// A label set of two labels as a list.
+fn in_a_list(alloc: Global) -> Result<Vec<(String, u64)>, AllocError> {
     let mut list = Vec::new(alloc);
-    let mut deque = VecDeque::new(alloc);
-    let mut linked = LinkedList::new(alloc);
     for (name, value) in [("b", 2), ("a", 1)] {
         list.push((String::from_str(alloc, name)?, value))?;
+    }
+    Ok(list)
+}
+
+// The same as a deque.
+fn in_a_deque(alloc: Global) -> Result<VecDeque<(String, u64)>, AllocError> {
+    let mut deque = VecDeque::new(alloc);
+    for (name, value) in [("b", 2), ("a", 1)] {
         deque.push_back((String::from_str(alloc, name)?, value))?;
+    }
+    Ok(deque)
+}
+
+// The same as a linked list.
+fn in_a_linked_list(alloc: Global) -> Result<LinkedList<(String, u64)>, AllocError> {
+    let mut linked = LinkedList::new(alloc);
+    for (name, value) in [("b", 2), ("a", 1)] {
         linked.push_back((String::from_str(alloc, name)?, value))?;
     }
-    Ok((list, deque, linked))
+    Ok(linked)
+}
+
+// Types of label sets: three with the same two labels, and two without any.
+#[derive(Clone, Copy)]
+enum Container {
+    List,
+    Deque,
+    Linked,
+    Nothing,
+    EmptyArray,
+}
+
+// An array without labels.
+fn no_labels() -> [(String, u64); 0] {
+    []
+}
+
+// A gauge with such a label set.
+fn contained(alloc: Global, labels: Container) -> Result<Box<dyn EncodeMetric>, AllocError> {
+    let five = ConstGauge::new(5i64);
+    Ok(match labels {
+        Container::List => Box::new(alloc, OneMember::gauge(in_a_list(alloc)?, five))?,
+        Container::Deque => Box::new(alloc, OneMember::gauge(in_a_deque(alloc)?, five))?,
+        Container::Linked => Box::new(alloc, OneMember::gauge(in_a_linked_list(alloc)?, five))?,
+        Container::Nothing => Box::new(alloc, OneMember::gauge((), five))?,
+        Container::EmptyArray => Box::new(alloc, OneMember::gauge(no_labels(), five))?,
+    })
 }
 
 #[test]
 fn containers(rt: HostRuntime) -> Result<(), Fail> {
-    let alloc = rt.alloc();
-    let (list, deque, linked) = in_order(alloc)?;
-    let want = "t{b=\"2\",a=\"1\"} 5\n# EOF\n";
-    let metric = Box::new(alloc, OneMember::gauge(list, ConstGauge::new(5i64)))?;
-    expect_lines(alloc, metric, want)?;
-    let metric = Box::new(alloc, OneMember::gauge(deque, ConstGauge::new(5i64)))?;
-    expect_lines(alloc, metric, want)?;
-    let metric = Box::new(alloc, OneMember::gauge(linked, ConstGauge::new(5i64)))?;
-    expect_lines(alloc, metric, want)?;
-    let metric = Box::new(alloc, OneMember::gauge((), ConstGauge::new(5i64)))?;
-    expect_lines(alloc, metric, "t 5\n# EOF\n")?;
-    let none: [(String, u64); 0] = [];
-    let metric = Box::new(alloc, OneMember::gauge(none, ConstGauge::new(5i64)))?;
-    expect_lines(alloc, metric, "t 5\n# EOF\n")
+    for (labels, want) in [
+        (Container::List, "t{b=\"2\",a=\"1\"} 5\n# EOF\n"),
+        (Container::Deque, "t{b=\"2\",a=\"1\"} 5\n# EOF\n"),
+        (Container::Linked, "t{b=\"2\",a=\"1\"} 5\n# EOF\n"),
+        (Container::Nothing, "t 5\n# EOF\n"),
+        (Container::EmptyArray, "t 5\n# EOF\n"),
+    ] {
+        expect_lines(rt.alloc(), contained(rt.alloc(), labels)?, want)?;
+    }
+    Ok(())
 }
 
 #[test]
@@ -108,14 +146,26 @@ fn skipped_labels(rt: HostRuntime) -> Result<(), Fail> {
         let metric = Box::new(alloc, OneMember::gauge(labels, ConstGauge::new(5i64)))?;
         expect_lines(alloc, metric, want)?;
     }
+    Ok(())
+}
+
+#[test]
+fn skipped_labels_in_another_option(rt: HostRuntime) -> Result<(), Fail> {
+    let alloc = rt.alloc();
     let nested: [(Word, Option<Option<i32>>); 1] = [(Word("k"), Some(None))];
     let metric = Box::new(alloc, OneMember::gauge(nested, ConstGauge::new(5i64)))?;
     expect_lines(alloc, metric, "t 5\n# EOF\n")
 }
 
+// Fails where this is not the line of a gauge with this value of its label.
+fn expect_value(alloc: Global, value: &str, want: &str) -> Result<(), Fail> {
+    let labels = vec![in alloc; (Word("v"), String::from_str(alloc, value)?)]?;
+    let metric = Box::new(alloc, OneMember::gauge(labels, ConstGauge::new(5i64)))?;
+    expect_lines(alloc, metric, want)
+}
+
 #[test]
 fn hostile_values(rt: HostRuntime) -> Result<(), Fail> {
-    let alloc = rt.alloc();
     for (value, want) in [
         ("\"", "t{v=\"\\\"\"} 5\n# EOF\n"),
         ("\\", "t{v=\"\\\\\"} 5\n# EOF\n"),
@@ -132,9 +182,7 @@ fn hostile_values(rt: HostRuntime) -> Result<(), Fail> {
         ("\r\t", "t{v=\"\r\t\"} 5\n# EOF\n"),
         ("", "t{v=\"\"} 5\n# EOF\n"),
     ] {
-        let labels = vec![in alloc; (Word("v"), String::from_str(alloc, value)?)]?;
-        let metric = Box::new(alloc, OneMember::gauge(labels, ConstGauge::new(5i64)))?;
-        expect_lines(alloc, metric, want)?;
+        expect_value(rt.alloc(), value, want)?;
     }
     Ok(())
 }
@@ -217,9 +265,8 @@ fn sets_are_visited_once_a_point(rt: HostRuntime) -> Result<(), Fail> {
         metric,
         "# TYPE t counter\n# HELP t H\nt_total 7\nt_created 1.005\n# EOF\n",
     )?;
-    assert_eq!(rt;
-        visits.load(Ordering::SeqCst),
-        2,
+    assert!(rt;
+        visits.load(Ordering::SeqCst) == 2,
         "once in each of two encodings"
     );
     Ok(())
@@ -271,38 +318,38 @@ fn lent_and_owned_texts(rt: HostRuntime) -> Result<(), Fail> {
     )
 }
 
-// Why a metric under the constant label `le` is refused.
-fn refusal_under_le(alloc: Global, metric: Box<dyn EncodeMetric>) -> Result<EncodeError, Fail> {
-    let labels = labels(alloc, &[("le", "1")])?;
-    let mut registry = Registry::builder().with_const_labels(labels)?.build()?;
-    let (name, help) = (String::from_str(alloc, "t")?, String::from_str(alloc, "H")?);
-    registry.register(alloc, name, help, metric)?;
+// Fails where a metric under the constant label `le` is not refused by this error, or where a refusal writes something.
+fn expect_refused_under_le(
+    alloc: Global,
+    metric: Box<dyn EncodeMetric>,
+    want: EncodeError,
+) -> Result<(), Fail> {
+    let le = labels(alloc, &[("le", "1")])?;
+    let mut registry = Registry::builder().with_const_labels(le)?.build()?;
+    register(alloc, &mut registry, "t", metric)?;
     let mut bytes = Vec::new(alloc);
     match encode(alloc, &mut bytes, &registry) {
-        Err(error) if bytes.is_empty() => Ok(error),
-        _ => Err(Fail::new("it was not refused, or wrote something")),
+        Err(error) if error == want && bytes.is_empty() => Ok(()),
+        _ => Err(Fail::new("it was not refused so, or wrote something")),
     }
+}
+
+#[test]
+fn duplicate_under_a_constant_label(rt: HostRuntime) -> Result<(), Fail> {
+    let alloc = rt.alloc();
+    let labels = [(Word("le"), 2)];
+    let metric = Box::new(alloc, OneMember::gauge(labels, ConstGauge::new(5i64)))?;
+    expect_refused_under_le(alloc, metric, EncodeError::DuplicateLabel)
 }
 
 #[test]
 fn reserved_before_duplicate(rt: HostRuntime) -> Result<(), Fail> {
     let alloc = rt.alloc();
-    let labels = [(Word("le"), 2)];
-    let metric = Box::new(alloc, OneMember::gauge(labels, ConstGauge::new(5i64)))?;
-    assert_eq!(rt;
-        refusal_under_le(alloc, metric)?,
-        EncodeError::DuplicateLabel
-    );
-    let snapshot = HistogramSnapshot::new(alloc, [Fixed::ONE].iter().copied())?;
     let metric = OneMember {
         metric_type: MetricType::Histogram,
         time: None,
         labels: [(Word("le"), 2)],
-        point: snapshot,
+        point: HistogramSnapshot::new(alloc, [Fixed::ONE].iter().copied())?,
     };
-    assert_eq!(rt;
-        refusal_under_le(alloc, Box::new(alloc, metric)?)?,
-        EncodeError::ReservedLabel
-    );
-    Ok(())
+    expect_refused_under_le(alloc, Box::new(alloc, metric)?, EncodeError::ReservedLabel)
 }

@@ -2,7 +2,9 @@
 ghost use Rattle.std.specs.Prelude.{◌≡◌, [], ◌∷◌, None, ◌⊎◌};
 ghost use Rattle.fm_encoder.specs.Points.{CounterPoint};
 
-use fastmetrics::encoder::{EncodeCounterValue, EncodeError, EncodePoint, PointEncoder};
+use fastmetrics::encoder::{
+    EncodeCounterValue, EncodeError, EncodeMetric, EncodePoint, PointEncoder,
+};
 use fastmetrics::metrics::counter::ConstCounter;
 use fastmetrics::metrics::gauge::ConstGauge;
 use fastmetrics::raw::MetricType;
@@ -11,6 +13,7 @@ use fm_test_support::parts::{
     Faulty, NameAlone, Silent, Twice, TwoNames, TwoValues, UnknownOf, ValueFirst, Word,
 };
 use fm_test_support::support::{expect_document, expect_refusal};
+use std::alloc::{AllocError, Global};
 use std::test::Fail;
 
 #[test]
@@ -28,56 +31,115 @@ fn names_that_do_not_fit(rt: HostRuntime) -> Result<(), Fail> {
         let metric = Box::new(alloc, OneMember::gauge(labels, ConstGauge::new(5i64)))?;
         expect_refusal(alloc, metric, error)?;
     }
+    Ok(())
+}
+
+#[test]
+fn names_twice_before_names_that_do_not_fit(rt: HostRuntime) -> Result<(), Fail> {
     let twice_first = [(Word("a"), 1), (Word("a"), 2), (Word("1a"), 3)];
-    let metric = Box::new(alloc, OneMember::gauge(twice_first, ConstGauge::new(5i64)))?;
-    expect_refusal(alloc, metric, EncodeError::DuplicateLabel)
+    let metric = OneMember::gauge(twice_first, ConstGauge::new(5i64));
+    expect_refusal(
+        rt.alloc(),
+        Box::new(rt.alloc(), metric)?,
+        EncodeError::DuplicateLabel,
+    )
+}
+
+// Labels whose parts come in another order, or are missing. Each has a name.
+#[derive(Clone, Copy)]
+enum Disorder {
+    ValueBefore(&'static str),
+    ThenName(&'static str),
+    WithoutValue(&'static str),
+    ValueAgain(&'static str),
+}
+
+// A gauge with such a label. Where a second name comes, the first is `a`.
+fn out_of_order(alloc: Global, label: Disorder) -> Result<Box<dyn EncodeMetric>, AllocError> {
+    let five = ConstGauge::new(5i64);
+    Ok(match label {
+        Disorder::ValueBefore(name) => {
+            Box::new(alloc, OneMember::gauge([ValueFirst(name)], five))?
+        }
+        Disorder::ThenName(second) => {
+            Box::new(alloc, OneMember::gauge([TwoNames("a", second)], five))?
+        }
+        Disorder::WithoutValue(name) => {
+            Box::new(alloc, OneMember::gauge([NameAlone(name)], five))?
+        }
+        Disorder::ValueAgain(name) => {
+            Box::new(alloc, OneMember::gauge([TwoValues(name)], five))?
+        }
+    })
 }
 
 #[test]
 fn labels_out_of_order(rt: HostRuntime) -> Result<(), Fail> {
-    let alloc = rt.alloc();
-    for name in ["a", "1a"] {
-        let metric = Box::new(
-            alloc,
-            OneMember::gauge([ValueFirst(name)], ConstGauge::new(5i64)),
-        )?;
-        expect_refusal(alloc, metric, EncodeError::MalformedLabel)?;
+    for (label, error) in [
+        (Disorder::ValueBefore("a"), EncodeError::MalformedLabel),
+        (Disorder::ValueBefore("1a"), EncodeError::MalformedLabel),
+        (Disorder::ThenName("a"), EncodeError::MalformedLabel),
+        (Disorder::ThenName("b"), EncodeError::MalformedLabel),
+        (Disorder::ThenName("1a"), EncodeError::MalformedLabel),
+        (Disorder::WithoutValue("a"), EncodeError::MalformedLabel),
+        (Disorder::ValueAgain("a"), EncodeError::MalformedLabel),
+        (Disorder::WithoutValue("1a"), EncodeError::InvalidLabelName),
+    ] {
+        expect_refusal(rt.alloc(), out_of_order(rt.alloc(), label)?, error)?;
     }
-    for second in ["a", "b", "1a"] {
-        let metric = Box::new(
-            alloc,
-            OneMember::gauge([TwoNames("a", second)], ConstGauge::new(5i64)),
-        )?;
-        expect_refusal(alloc, metric, EncodeError::MalformedLabel)?;
+    Ok(())
+}
+
+// A metric of this type without labels.
+fn one_of<P>(metric_type: MetricType, point: P) -> OneMember<(), P> {
+    OneMember {
+        metric_type,
+        time: None,
+        labels: (),
+        point,
     }
-    let metric = Box::new(
-        alloc,
-        OneMember::gauge([NameAlone("a")], ConstGauge::new(5i64)),
-    )?;
-    expect_refusal(alloc, metric, EncodeError::MalformedLabel)?;
-    let metric = Box::new(
-        alloc,
-        OneMember::gauge([TwoValues("a")], ConstGauge::new(5i64)),
-    )?;
-    expect_refusal(alloc, metric, EncodeError::MalformedLabel)?;
-    let metric = Box::new(
-        alloc,
-        OneMember::gauge([NameAlone("1a")], ConstGauge::new(5i64)),
-    )?;
-    expect_refusal(alloc, metric, EncodeError::InvalidLabelName)
+}
+
+// Metrics whose points write no number, or two.
+#[derive(Clone, Copy)]
+enum Miscounted {
+    SilentGauge,
+    GaugeTwice,
+    SilentCounter,
+    CounterTwice,
+    SilentUnknown,
+    UnknownTwice,
+}
+
+// Such a metric.
+fn boxed_miscounted(
+    alloc: Global,
+    metric: Miscounted,
+) -> Result<Box<dyn EncodeMetric>, AllocError> {
+    let unknown = MetricType::Unknown;
+    Ok(match metric {
+        Miscounted::SilentGauge => Box::new(alloc, ConstGauge::new(Silent))?,
+        Miscounted::GaugeTwice => Box::new(alloc, ConstGauge::new(Twice))?,
+        Miscounted::SilentCounter => Box::new(alloc, ConstCounter::new(Silent))?,
+        Miscounted::CounterTwice => Box::new(alloc, ConstCounter::new(Twice))?,
+        Miscounted::SilentUnknown => Box::new(alloc, one_of(unknown, UnknownOf(Silent)))?,
+        Miscounted::UnknownTwice => Box::new(alloc, one_of(unknown, UnknownOf(Twice)))?,
+    })
 }
 
 #[test]
 fn values_of_points(rt: HostRuntime) -> Result<(), Fail> {
-    let alloc = rt.alloc();
-    let metric = Box::new(alloc, ConstGauge::new(Silent))?;
-    expect_refusal(alloc, metric, EncodeError::MissingValue)?;
-    let metric = Box::new(alloc, ConstGauge::new(Twice))?;
-    expect_refusal(alloc, metric, EncodeError::ValueTwice)?;
-    let metric = Box::new(alloc, ConstCounter::new(Silent))?;
-    expect_refusal(alloc, metric, EncodeError::MissingValue)?;
-    let metric = Box::new(alloc, ConstCounter::new(Twice))?;
-    expect_refusal(alloc, metric, EncodeError::ValueTwice)
+    for (metric, error) in [
+        (Miscounted::SilentGauge, EncodeError::MissingValue),
+        (Miscounted::GaugeTwice, EncodeError::ValueTwice),
+        (Miscounted::SilentCounter, EncodeError::MissingValue),
+        (Miscounted::CounterTwice, EncodeError::ValueTwice),
+        (Miscounted::SilentUnknown, EncodeError::MissingValue),
+        (Miscounted::UnknownTwice, EncodeError::ValueTwice),
+    ] {
+        expect_refusal(rt.alloc(), boxed_miscounted(rt.alloc(), metric)?, error)?;
+    }
+    Ok(())
 }
 
 #[test]
@@ -95,73 +157,103 @@ fn unknown_metrics(rt: HostRuntime) -> Result<(), Fail> {
         None,
         Box::new(alloc, metric)?,
         "# TYPE u unknown\n# HELP u H\nu{a=\"1\"} -5\n# EOF\n",
-    )?;
-    let metric = OneMember {
-        metric_type: MetricType::Unknown,
-        time: None,
-        labels: (),
-        point: UnknownOf(Silent),
-    };
-    expect_refusal(alloc, Box::new(alloc, metric)?, EncodeError::MissingValue)?;
-    let metric = OneMember {
-        metric_type: MetricType::Unknown,
-        time: None,
-        labels: (),
-        point: UnknownOf(Twice),
-    };
-    expect_refusal(alloc, Box::new(alloc, metric)?, EncodeError::ValueTwice)
+    )
+}
+
+// Metrics with one fault or two: the type, the label's name `1a`, and a point that writes no number.
+#[derive(Clone, Copy)]
+enum Misfit {
+    OtherPoint,
+    OtherPointAndName,
+    NameAndSilence,
+    // The metric has this type and the point of a gauge, and labels that are reserved there.
+    OtherType(MetricType),
+}
+
+// Such a metric.
+fn boxed_misfit(alloc: Global, metric: Misfit) -> Result<Box<dyn EncodeMetric>, AllocError> {
+    let name = [(Word("1a"), 1)];
+    let (counter, gauge) = (ConstCounter::new(5u64), ConstGauge::new(5i64));
+    Ok(match metric {
+        Misfit::OtherPoint => Box::new(alloc, OneMember::gauge((), counter))?,
+        Misfit::OtherPointAndName => Box::new(alloc, OneMember::gauge(name, counter))?,
+        Misfit::NameAndSilence => {
+            Box::new(alloc, OneMember::gauge(name, ConstGauge::new(Silent)))?
+        }
+        Misfit::OtherType(metric_type) => Box::new(
+            alloc,
+            OneMember {
+                metric_type,
+                time: None,
+                labels: [(Word("le"), 1), (Word("quantile"), 2)],
+                point: gauge,
+            },
+        )?,
+    })
 }
 
 #[test]
 fn order_of_tests(rt: HostRuntime) -> Result<(), Fail> {
-    let alloc = rt.alloc();
-    let counter = OneMember::gauge((), ConstCounter::new(5u64));
-    expect_refusal(alloc, Box::new(alloc, counter)?, EncodeError::KindMismatch)?;
-    let type_first = OneMember::gauge([(Word("1a"), 1)], ConstCounter::new(5u64));
-    expect_refusal(
-        alloc,
-        Box::new(alloc, type_first)?,
-        EncodeError::KindMismatch,
-    )?;
-    let labels_first = OneMember::gauge([(Word("1a"), 1)], ConstGauge::new(Silent));
-    expect_refusal(
-        alloc,
-        Box::new(alloc, labels_first)?,
-        EncodeError::InvalidLabelName,
-    )?;
-    for metric_type in [
-        MetricType::Histogram,
-        MetricType::GaugeHistogram,
-        MetricType::Summary,
+    let mismatch = EncodeError::KindMismatch;
+    for (metric, error) in [
+        (Misfit::OtherPoint, mismatch),
+        (Misfit::OtherPointAndName, mismatch),
+        (Misfit::NameAndSilence, EncodeError::InvalidLabelName),
+        (Misfit::OtherType(MetricType::Histogram), mismatch),
+        (Misfit::OtherType(MetricType::GaugeHistogram), mismatch),
+        (Misfit::OtherType(MetricType::Summary), mismatch),
     ] {
-        let metric = OneMember {
-            metric_type,
-            time: None,
-            labels: [(Word("le"), 1), (Word("quantile"), 2)],
-            point: ConstGauge::new(5i64),
-        };
-        expect_refusal(alloc, Box::new(alloc, metric)?, EncodeError::KindMismatch)?;
+        expect_refusal(rt.alloc(), boxed_misfit(rt.alloc(), metric)?, error)?;
+    }
+    Ok(())
+}
+
+// Where a metric returns an error of its own.
+#[derive(Clone, Copy)]
+enum Where {
+    InLabel,
+    InLabels,
+    InPoint,
+    InValue,
+}
+
+// A gauge that returns this error there.
+fn boxed_faulty(
+    alloc: Global,
+    own: EncodeError,
+    at: Where,
+) -> Result<Box<dyn EncodeMetric>, AllocError> {
+    let five = ConstGauge::new(5i64);
+    Ok(match at {
+        Where::InLabel => Box::new(alloc, OneMember::gauge([Faulty(own)], five))?,
+        Where::InLabels => Box::new(alloc, OneMember::gauge(Faulty(own), five))?,
+        Where::InPoint => Box::new(alloc, OneMember::gauge((), Faulty(own)))?,
+        Where::InValue => Box::new(alloc, ConstGauge::new(Faulty(own)))?,
+    })
+}
+
+// Fails where a gauge that returns this error is not refused so, wherever it returns it.
+fn expect_fault(alloc: Global, own: EncodeError, error: EncodeError) -> Result<(), Fail> {
+    for at in [
+        Where::InLabel,
+        Where::InLabels,
+        Where::InPoint,
+        Where::InValue,
+    ] {
+        expect_refusal(alloc, boxed_faulty(alloc, own, at)?, error)?;
     }
     Ok(())
 }
 
 #[test]
 fn errors_of_parts(rt: HostRuntime) -> Result<(), Fail> {
-    let alloc = rt.alloc();
     for (own, error) in [
         (EncodeError::Write, EncodeError::MetricFault),
         (EncodeError::DuplicateLabel, EncodeError::MetricFault),
         (EncodeError::MetricFault, EncodeError::MetricFault),
         (EncodeError::Memory, EncodeError::Memory),
     ] {
-        let label = OneMember::gauge([Faulty(own)], ConstGauge::new(5i64));
-        expect_refusal(alloc, Box::new(alloc, label)?, error)?;
-        let labels = OneMember::gauge(Faulty(own), ConstGauge::new(5i64));
-        expect_refusal(alloc, Box::new(alloc, labels)?, error)?;
-        let point = OneMember::gauge((), Faulty(own));
-        expect_refusal(alloc, Box::new(alloc, point)?, error)?;
-        let value = ConstGauge::new(Faulty(own));
-        expect_refusal(alloc, Box::new(alloc, value)?, error)?;
+        expect_fault(rt.alloc(), own, error)?;
     }
     Ok(())
 }
@@ -180,23 +272,32 @@ impl<V: EncodeCounterValue> EncodePoint for FaultyExemplar<V> {
     }
 }
 
-// A metric with one counter's point.
-fn one_counter<P>(point: P) -> OneMember<(), P> {
-    OneMember {
-        metric_type: MetricType::Counter,
-        time: None,
-        labels: (),
-        point,
-    }
+// What a counter writes before its exemplar.
+#[derive(Clone, Copy)]
+enum Before {
+    NoNumber,
+    TwoNumbers,
+    OneNumber,
+}
+
+// A counter that writes this, and has such an exemplar.
+fn before_exemplar(alloc: Global, number: Before) -> Result<Box<dyn EncodeMetric>, AllocError> {
+    let counter = MetricType::Counter;
+    Ok(match number {
+        Before::NoNumber => Box::new(alloc, one_of(counter, FaultyExemplar(Silent)))?,
+        Before::TwoNumbers => Box::new(alloc, one_of(counter, FaultyExemplar(Twice)))?,
+        Before::OneNumber => Box::new(alloc, one_of(counter, FaultyExemplar(5u64)))?,
+    })
 }
 
 #[test]
 fn numbers_before_exemplars(rt: HostRuntime) -> Result<(), Fail> {
-    let alloc = rt.alloc();
-    let metric = Box::new(alloc, one_counter(FaultyExemplar(Silent)))?;
-    expect_refusal(alloc, metric, EncodeError::MissingValue)?;
-    let metric = Box::new(alloc, one_counter(FaultyExemplar(Twice)))?;
-    expect_refusal(alloc, metric, EncodeError::ValueTwice)?;
-    let metric = Box::new(alloc, one_counter(FaultyExemplar(5u64)))?;
-    expect_refusal(alloc, metric, EncodeError::MetricFault)
+    for (number, error) in [
+        (Before::NoNumber, EncodeError::MissingValue),
+        (Before::TwoNumbers, EncodeError::ValueTwice),
+        (Before::OneNumber, EncodeError::MetricFault),
+    ] {
+        expect_refusal(rt.alloc(), before_exemplar(rt.alloc(), number)?, error)?;
+    }
+    Ok(())
 }

@@ -2,10 +2,11 @@
 ghost use Rattle.std.specs.Prelude.{◌≡◌, ◌<◌};
 
 use fm_bucket::{
-    BUCKET_LABEL, Bound, Bucket, BucketError, DEFAULT_BUCKETS, Probe, Steps, default_buckets,
-    exponential_buckets, exponential_buckets_range, find_bucket, linear_buckets,
+    BUCKET_LABEL, Bound, Bucket, BucketError, DEFAULT_BUCKETS, ExponentialBuckets, Probe, Steps,
+    default_buckets, exponential_buckets, exponential_buckets_range, find_bucket, linear_buckets,
 };
 use fm_raw::{Fixed, FixedBuffer, MetricError};
+use std::alloc::{AllocError, Global};
 use std::marker::Brand;
 use std::sync::ledger::{Blank, Ledger};
 use std::test::Fail;
@@ -16,16 +17,27 @@ fn fixed(millionths: i64) -> Fixed {
     Fixed::from_millionths(millionths)
 }
 
+// Whether these are the bounds, in millionths, of so many steps of one width.
+fn are_linear(alloc: Global, start: i64, width: i64, want: &[i64]) -> Result<bool, AllocError> {
+    let Ok(bounds) = linear_buckets(fixed(start), fixed(width), want.len()) else {
+        return Ok(false);
+    };
+    let bounds = bounds.map(Fixed::millionths).collect::<Vec<i64>>(alloc)?;
+    Ok(bounds.as_slice() == want)
+}
+
 #[test]
 fn steps_of_one_width(rt: HostRuntime) -> Result<(), Fail> {
-    let Ok(bounds) = linear_buckets(fixed(-ONE), fixed(ONE / 2), 4) else {
-        return Err(Fail::new("refused"));
-    };
-    let bounds = bounds
-        .map(Fixed::millionths)
-        .collect::<Vec<i64>>(rt.alloc())?;
-    assert_eq!(rt; bounds.as_slice(), [-ONE, -ONE / 2, 0, ONE / 2].as_slice());
+    let halves = [-ONE, -ONE / 2, 0, ONE / 2];
+    assert!(rt; are_linear(rt.alloc(), -ONE, ONE / 2, &halves)?);
+    let whole = [0, ONE, 2 * ONE, 3 * ONE, 4 * ONE];
+    assert!(rt; are_linear(rt.alloc(), 0, ONE, &whole)?);
     assert!(rt; linear_buckets(fixed(i64::MAX), fixed(1), 1).is_ok());
+    Ok(())
+}
+
+#[test]
+fn refused_steps_of_one_width(rt: HostRuntime) {
     for (start, width, count, error) in [
         (i64::MAX, 0, 0, BucketError::NonPositiveWidth),
         (i64::MAX, 1, 0, BucketError::ZeroCount),
@@ -33,25 +45,34 @@ fn steps_of_one_width(rt: HostRuntime) -> Result<(), Fail> {
         (i64::MIN, i64::MAX, 4, BucketError::Overflow),
         (0, 1, usize::MAX, BucketError::Overflow),
     ] {
-        assert_eq!(rt;
-            linear_buckets(fixed(start), fixed(width), count).err(),
-            Some(error)
-        );
+        assert!(rt; linear_buckets(fixed(start), fixed(width), count).err() == Some(error));
     }
-    Ok(())
+}
+
+// Whether there are these bounds, in millionths, and they are the wanted ones.
+fn are_bounds(
+    alloc: Global,
+    bounds: Result<ExponentialBuckets, BucketError>,
+    want: &[i64],
+) -> Result<bool, AllocError> {
+    let Ok(bounds) = bounds else {
+        return Ok(false);
+    };
+    let bounds = bounds.map(Fixed::millionths).collect::<Vec<i64>>(alloc)?;
+    Ok(bounds.as_slice() == want)
 }
 
 #[test]
 fn steps_of_one_factor(rt: HostRuntime) -> Result<(), Fail> {
-    let Ok(bounds) = exponential_buckets(fixed(ONE), 3, 3) else {
-        return Err(Fail::new("refused"));
-    };
-    let bounds = bounds
-        .map(Fixed::millionths)
-        .collect::<Vec<i64>>(rt.alloc())?;
-    assert_eq!(rt; bounds.as_slice(), [ONE, 3 * ONE, 9 * ONE].as_slice());
+    let bounds = exponential_buckets(fixed(ONE), 3, 3);
+    assert!(rt; are_bounds(rt.alloc(), bounds, &[ONE, 3 * ONE, 9 * ONE])?);
     assert!(rt; exponential_buckets(fixed(1), 2, 63).is_ok());
     assert!(rt; exponential_buckets(fixed(1), u64::MAX, 1).is_ok());
+    Ok(())
+}
+
+#[test]
+fn refused_steps_of_one_factor(rt: HostRuntime) {
     for (start, factor, count, error) in [
         (0, 1, 0, BucketError::NonPositiveStart),
         (1, 1, 0, BucketError::FactorTooSmall),
@@ -59,98 +80,93 @@ fn steps_of_one_factor(rt: HostRuntime) -> Result<(), Fail> {
         (1, 2, 64, BucketError::Overflow),
         (1, 2, usize::MAX, BucketError::Overflow),
     ] {
-        assert_eq!(rt;
-            exponential_buckets(fixed(start), factor, count).err(),
-            Some(error)
-        );
+        assert!(rt; exponential_buckets(fixed(start), factor, count).err() == Some(error));
     }
-    Ok(())
+}
+
+// The last of these bounds, in millionths.
+fn last_of(bounds: Result<ExponentialBuckets, BucketError>) -> Option<i64> {
+    match bounds {
+        Ok(bounds) => bounds.last().map(Fixed::millionths),
+        Err(_) => None,
+    }
 }
 
 #[test]
-fn steps_between(rt: HostRuntime) -> Result<(), Fail> {
+fn steps_between(rt: HostRuntime) {
     for (min, max, count, last) in [
-        (5, 5000, 4, Some(5000)),
-        (7, 1, 1, Some(7)),
-        (7, 7, 9, Some(7)),
-        (1, i64::MAX, 2, Some(i64::MAX)),
-        (3, 11, 2, None),
-        (1, 26, 4, None),
-        (4, 2, 2, None),
-        (1, -1, 2, None),
+        (5, 5000, 4, 5000),
+        (7, 1, 1, 7),
+        (7, 7, 9, 7),
+        (1, i64::MAX, 2, i64::MAX),
     ] {
-        match exponential_buckets_range(fixed(min), fixed(max), count) {
-            Ok(bounds) => assert_eq!(rt; bounds.last().map(Fixed::millionths), last),
-            Err(error) => {
-                assert!(rt; last.is_none());
-                assert_eq!(rt; error, BucketError::NoWholeFactor);
-            }
-        }
+        let bounds = exponential_buckets_range(fixed(min), fixed(max), count);
+        assert!(rt; last_of(bounds) == Some(last), "{last}");
     }
-    let zero = exponential_buckets_range(Fixed::ONE, Fixed::ONE, 0).err();
-    assert_eq!(rt; zero, Some(BucketError::ZeroCount));
-    let start = exponential_buckets_range(Fixed::ZERO, Fixed::ONE, 0).err();
-    assert_eq!(rt; start, Some(BucketError::NonPositiveStart));
-    Ok(())
 }
 
 #[test]
-fn whole_steps(rt: HostRuntime) -> Result<(), Fail> {
-    let alloc = rt.alloc();
-    let Ok(bounds) = linear_buckets(Fixed::ZERO, Fixed::ONE, 5) else {
-        return Err(Fail::new("refused"));
-    };
-    let bounds = bounds.map(Fixed::millionths).collect::<Vec<i64>>(alloc)?;
-    assert_eq!(rt;
-        bounds.as_slice(),
-        [0, ONE, 2 * ONE, 3 * ONE, 4 * ONE].as_slice()
-    );
-    let Ok(bounds) = exponential_buckets_range(Fixed::ONE, fixed(19683 * ONE), 10) else {
-        return Err(Fail::new("refused"));
-    };
-    let bounds = bounds.map(Fixed::millionths).collect::<Vec<i64>>(alloc)?;
-    assert_eq!(rt;
-        bounds.as_slice(),
-        [
-            1_000_000,
-            3_000_000,
-            9_000_000,
-            27_000_000,
-            81_000_000,
-            243_000_000,
-            729_000_000,
-            2_187_000_000,
-            6_561_000_000,
-            19_683_000_000,
-        ]
-        .as_slice()
-    );
-    let Ok(mut bounds) = exponential_buckets_range(Fixed::ONE, fixed(4 * ONE), 1) else {
-        return Err(Fail::new("refused"));
-    };
-    assert_eq!(rt; (bounds.next(), bounds.next()), (Some(Fixed::ONE), None));
-    let error = exponential_buckets_range(Fixed::ONE, fixed(5 * ONE), 3).err();
-    assert_eq!(rt; error, Some(BucketError::NoWholeFactor));
-    Ok(())
+fn refused_steps_between(rt: HostRuntime) {
+    for (min, max, count, error) in [
+        (3, 11, 2, BucketError::NoWholeFactor),
+        (1, 26, 4, BucketError::NoWholeFactor),
+        (4, 2, 2, BucketError::NoWholeFactor),
+        (1, -1, 2, BucketError::NoWholeFactor),
+        (ONE, 5 * ONE, 3, BucketError::NoWholeFactor),
+        (ONE, ONE, 0, BucketError::ZeroCount),
+        (0, ONE, 0, BucketError::NonPositiveStart),
+    ] {
+        let bounds = exponential_buckets_range(fixed(min), fixed(max), count);
+        assert!(rt; bounds.err() == Some(error), "{max}");
+    }
 }
 
 #[test]
-fn bounds_and_counts(rt: HostRuntime) -> Result<(), Fail> {
-    let mut buffer = FixedBuffer::new();
+fn whole_steps_between(rt: HostRuntime) -> Result<(), Fail> {
+    let powers = [
+        1_000_000,
+        3_000_000,
+        9_000_000,
+        27_000_000,
+        81_000_000,
+        243_000_000,
+        729_000_000,
+        2_187_000_000,
+        6_561_000_000,
+        19_683_000_000,
+    ];
+    let bounds = exponential_buckets_range(Fixed::ONE, fixed(19683 * ONE), 10);
+    assert!(rt; are_bounds(rt.alloc(), bounds, &powers)?);
+    let bounds = exponential_buckets_range(Fixed::ONE, fixed(4 * ONE), 1);
+    assert!(rt; are_bounds(rt.alloc(), bounds, &[ONE])?);
+    Ok(())
+}
+
+// Whether a bound is formatted so.
+fn has_text(bound: Bound, text: &str) -> bool {
+    bound.format(&mut FixedBuffer::new()) == text
+}
+
+#[test]
+fn bounds(rt: HostRuntime) {
     let [first, .., last] = DEFAULT_BUCKETS;
-    assert_eq!(rt; default_buckets(), DEFAULT_BUCKETS);
-    assert_eq!(rt; Bound::Finite(first).format(&mut buffer), "0.005");
-    assert_eq!(rt; Bound::Finite(last).format(&mut buffer), "10.0");
-    assert_eq!(rt; Bound::Inf.format(&mut buffer), "+Inf");
-    assert!(rt; Bound::Finite(fixed(i64::MAX)) < Bound::Inf && BUCKET_LABEL == "le");
+    assert!(rt; default_buckets() == DEFAULT_BUCKETS && BUCKET_LABEL == "le");
+    assert!(rt; has_text(Bound::Finite(first), "0.005"));
+    assert!(rt; has_text(Bound::Finite(last), "10.0"));
+    assert!(rt; has_text(Bound::Inf, "+Inf"));
+    assert!(rt; Bound::Finite(fixed(i64::MAX)) < Bound::Inf);
+}
+
+#[test]
+fn counts(rt: HostRuntime) {
     let mut bucket = Bucket::new(Bound::Inf, u64::MAX - 1);
-    assert_eq!(rt; bucket.inc(), Ok(()));
-    assert_eq!(rt; bucket.inc(), Err(MetricError::CountFull));
-    assert_eq!(rt;
-        (bucket.count(), bucket.upper_bound()),
-        (u64::MAX, Bound::Inf)
-    );
-    Ok(())
+    assert!(rt; bucket.inc() == Ok(()) && bucket.inc() == Err(MetricError::CountFull));
+    assert!(rt; bucket.count() == u64::MAX && bucket.upper_bound() == Bound::Inf);
+}
+
+// Whether an error has this number and this text.
+fn is_error(alloc: Global, error: BucketError, number: u8, text: &str) -> Result<bool, AllocError> {
+    Ok(error.number() == number && error.to_string(alloc)?.as_str() == text)
 }
 
 #[test]
@@ -163,8 +179,7 @@ fn refusals_of_bounds(rt: HostRuntime) -> Result<(), Fail> {
         (BucketError::FactorTooSmall, 5, "FactorTooSmall"),
         (BucketError::NoWholeFactor, 6, "NoWholeFactor"),
     ] {
-        assert_eq!(rt; error.number(), number);
-        assert_eq!(rt; error.to_string(rt.alloc())?.as_str(), text);
+        assert!(rt; is_error(rt.alloc(), error, number, text)?, "{text}");
     }
     Ok(())
 }
@@ -209,8 +224,7 @@ fn asks_as_often_as_there_are_digits(rt: HostRuntime) -> Result<(), Fail> {
     for (n, most) in [(0, 0), (11, 4), (255, 8)] {
         for first in 0..256usize {
             let (place, asked) = search::<Brand>(n, first, Blank::new(1));
-            assert_eq!(rt; place, first.min(n));
-            assert!(rt; asked <= most, "{asked} of {n}");
+            assert!(rt; place == first.min(n) && asked <= most, "{asked} of {n}");
         }
     }
     Ok(())

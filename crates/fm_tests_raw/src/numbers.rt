@@ -9,6 +9,19 @@ use std::alloc::{AllocError, Global};
 use std::hash::{DefaultHasher, Hash, Hasher};
 use std::test::Fail;
 
+// Whether a number is written as this text, by a buffer and after a text that is there.
+fn is_written(
+    alloc: Global,
+    buffer: &mut FixedBuffer,
+    number: Fixed,
+    text: &str,
+) -> Result<bool, AllocError> {
+    let mut out = String::from_str(alloc, "x ")?;
+    let is_whole = number.write_text(&mut out).is_ok();
+    let is_after = out.as_str().strip_prefix("x ") == Some(text);
+    Ok(is_whole && is_after && buffer.format(FixedSum::from(number)) == text)
+}
+
 #[test]
 fn texts_of_numbers(rt: HostRuntime) -> Result<(), Fail> {
     let mut buffer = FixedBuffer::new();
@@ -23,59 +36,94 @@ fn texts_of_numbers(rt: HostRuntime) -> Result<(), Fail> {
         (1_000_100, "1.0001"),
     ] {
         let number = Fixed::from_millionths(millionths);
-        assert_eq!(rt; buffer.format(FixedSum::from(number)), text);
-        let mut out = String::from_str(rt.alloc(), "x ")?;
-        assert!(rt; number.write_text(&mut out).is_ok());
-        assert_eq!(rt; out.as_str().strip_prefix("x "), Some(text));
+        assert!(rt;
+            is_written(rt.alloc(), &mut buffer, number, text)?,
+            "{text}"
+        );
     }
-    let least = FixedSum::from_millionths(i128::MIN);
-    assert_eq!(rt;
-        buffer.format(least),
-        "-170141183460469231731687303715884.105728"
-    );
-    assert_eq!(rt; buffer.format_millis(1005), "1.005");
-    assert_eq!(rt; buffer.format_millis(0), "0.000");
-    assert_eq!(rt;
-        FixedBuffer::default().format_millis(18_446_744_073_709_551_615_999),
-        "18446744073709551615.999"
-    );
     Ok(())
 }
 
 #[test]
+fn texts_of_sums_and_times(rt: HostRuntime) {
+    let mut buffer = FixedBuffer::new();
+    let least = FixedSum::from_millionths(i128::MIN);
+    let text = "-170141183460469231731687303715884.105728";
+    assert!(rt; buffer.format(least) == text);
+    assert!(rt; buffer.format_millis(1005) == "1.005");
+    assert!(rt; buffer.format_millis(0) == "0.000");
+    let text = "18446744073709551615.999";
+    assert!(rt; FixedBuffer::default().format_millis(18_446_744_073_709_551_615_999) == text);
+}
+
+#[test]
 fn whole_numbers(rt: HostRuntime) {
-    assert_eq!(rt;
-        Fixed::from_whole(9_223_372_036_854),
-        Some(Fixed::from_millionths(9_223_372_036_854_000_000))
-    );
-    assert!(rt; Fixed::from_whole(9_223_372_036_855).is_none());
-    assert!(rt; Fixed::from_whole(-9_223_372_036_855).is_none());
-    assert_eq!(rt;
-        FixedSum::from_whole(-9_223_372_036_855),
-        Some(FixedSum::from_millionths(-9_223_372_036_855_000_000))
-    );
-    assert!(rt; FixedSum::from_whole(i128::MAX).is_none());
+    for (whole, millionths) in [
+        (9_223_372_036_854, Some(9_223_372_036_854_000_000)),
+        (9_223_372_036_855, None),
+        (-9_223_372_036_855, None),
+    ] {
+        assert!(rt;
+            Fixed::from_whole(whole).map(Fixed::millionths) == millionths,
+            "{whole}"
+        );
+    }
     assert!(rt; Fixed::from_millionths(-2) < Fixed::ZERO);
+}
+
+#[test]
+fn whole_sums(rt: HostRuntime) {
+    let sum = FixedSum::from_millionths(-9_223_372_036_855_000_000);
+    assert!(rt; FixedSum::from_whole(-9_223_372_036_855) == Some(sum));
+    assert!(rt; FixedSum::from_whole(i128::MAX).is_none());
     assert!(rt; FixedSum::from_millionths(-2) < FixedSum::ZERO);
 }
 
 #[test]
-fn names(rt: HostRuntime) {
-    for name in ["http_requests_total", "a", "a1_2b"] {
-        assert!(rt; is_snake_case(name), "{name}");
+fn names_in_snake_case(rt: HostRuntime) {
+    for (name, is_one) in [
+        ("http_requests_total", true),
+        ("a", true),
+        ("a1_2b", true),
+        ("", false),
+        ("_a", false),
+        ("a_", false),
+        ("a__b", false),
+        ("1a", false),
+        ("aB", false),
+        ("a-b", false),
+        ("a:b", false),
+    ] {
+        assert!(rt; is_snake_case(name) == is_one, "{name}");
     }
-    for name in ["", "_a", "a_", "a__b", "1a", "aB", "a-b", "a:b"] {
-        assert!(rt; !is_snake_case(name), "{name}");
+}
+
+#[test]
+fn texts_for_units(rt: HostRuntime) {
+    for (text, is_one) in [
+        ("seconds2", true),
+        ("", false),
+        ("a_b", false),
+        ("Seconds", false),
+        ("m/s", false),
+    ] {
+        assert!(rt; is_unit_text(text) == is_one, "{text}");
     }
-    assert!(rt; is_unit_text("seconds2"));
-    for text in ["", "a_b", "Seconds", "m/s"] {
-        assert!(rt; !is_unit_text(text), "{text}");
-    }
-    for name in ["_", "A9", "le", "a__b"] {
-        assert!(rt; is_label_name(name), "{name}");
-    }
-    for name in ["", "9a", "a-b", "a.b"] {
-        assert!(rt; !is_label_name(name), "{name}");
+}
+
+#[test]
+fn names_of_labels(rt: HostRuntime) {
+    for (name, is_one) in [
+        ("_", true),
+        ("A9", true),
+        ("le", true),
+        ("a__b", true),
+        ("", false),
+        ("9a", false),
+        ("a-b", false),
+        ("a.b", false),
+    ] {
+        assert!(rt; is_label_name(name) == is_one, "{name}");
     }
 }
 
@@ -96,29 +144,59 @@ fn metadata_of(
     Ok(Metadata::new(name, help, metric_type, unit))
 }
 
+// Whether two metadata are the same, and are equal and have one hash.
+fn are_same(first: &Metadata, second: &Metadata) -> bool {
+    first.is_same_as(second) && first == second && hash_of(first) == hash_of(second)
+}
+
 #[test]
 fn metadata_without_help(rt: HostRuntime) -> Result<(), Fail> {
-    let alloc = rt.alloc();
-    let first = metadata_of(alloc, "one", MetricType::Gauge, Some(Unit::Bytes))?;
-    let second = metadata_of(alloc, "two", MetricType::Gauge, Some(Unit::Bytes))?;
+    let first = metadata_of(rt.alloc(), "one", MetricType::Gauge, Some(Unit::Bytes))?;
+    let second = metadata_of(rt.alloc(), "two", MetricType::Gauge, Some(Unit::Bytes))?;
+    assert!(rt; are_same(&first, &second));
+    Ok(())
+}
+
+// Metadata with a unit of a user's own, which has the text of another.
+fn with_own_unit(alloc: Global) -> Result<Metadata, AllocError> {
     let bytes = Unit::from(String::from_str(alloc, "bytes")?);
-    assert_eq!(rt; bytes.as_str(), Unit::Bytes.as_str());
-    let third = metadata_of(alloc, "one", MetricType::Gauge, Some(bytes))?;
-    let fourth = metadata_of(alloc, "one", MetricType::Counter, Some(Unit::Bytes))?;
-    assert!(rt; first.is_same_as(&second) && first == second);
-    assert_eq!(rt; hash_of(&first), hash_of(&second));
-    assert!(rt; !first.is_same_as(&third) && !first.is_same_as(&fourth));
-    let copy = third.clone()?;
-    assert!(rt; copy.is_same_as(&third));
-    assert_eq!(rt; copy.help(), "one");
-    assert_eq!(rt; copy.name(), "size");
-    assert_eq!(rt; copy.metric_type(), MetricType::Gauge);
-    assert!(rt; copy.unit().is_some());
+    metadata_of(alloc, "one", MetricType::Gauge, Some(bytes))
+}
+
+// Whether metadata are those with their own unit.
+fn has_its_parts(metadata: &Metadata) -> bool {
+    metadata.help() == "one"
+        && metadata.name() == "size"
+        && metadata.metric_type() == MetricType::Gauge
+        && metadata.unit().map(Unit::as_str) == Some(Unit::Bytes.as_str())
+}
+
+#[test]
+fn metadata_of_another_unit(rt: HostRuntime) -> Result<(), Fail> {
+    let first = metadata_of(rt.alloc(), "one", MetricType::Gauge, Some(Unit::Bytes))?;
+    let third = with_own_unit(rt.alloc())?;
+    assert!(rt; !first.is_same_as(&third));
     Ok(())
 }
 
 #[test]
-fn texts_of_units_and_errors(rt: HostRuntime) -> Result<(), Fail> {
+fn metadata_of_another_type(rt: HostRuntime) -> Result<(), Fail> {
+    let first = metadata_of(rt.alloc(), "one", MetricType::Gauge, Some(Unit::Bytes))?;
+    let fourth = metadata_of(rt.alloc(), "one", MetricType::Counter, Some(Unit::Bytes))?;
+    assert!(rt; !first.is_same_as(&fourth));
+    Ok(())
+}
+
+#[test]
+fn metadata_again(rt: HostRuntime) -> Result<(), Fail> {
+    let third = with_own_unit(rt.alloc())?;
+    let copy = third.clone()?;
+    assert!(rt; copy.is_same_as(&third) && has_its_parts(&copy));
+    Ok(())
+}
+
+#[test]
+fn texts_of_units(rt: HostRuntime) {
     for (unit, text) in [
         (Unit::Seconds, "seconds"),
         (Unit::Joules, "joules"),
@@ -130,8 +208,22 @@ fn texts_of_units_and_errors(rt: HostRuntime) -> Result<(), Fail> {
         (Unit::Celsius, "celsius"),
         (Unit::Bytes, "bytes"),
     ] {
-        assert_eq!(rt; unit.as_str(), text);
+        assert!(rt; unit.as_str() == text, "{text}");
     }
+}
+
+// Whether an error has this number and this text.
+fn has_number_and_text(
+    alloc: Global,
+    error: MetricError,
+    number: u8,
+    text: &str,
+) -> Result<bool, AllocError> {
+    Ok(error.number() == number && error.to_string(alloc)?.as_str() == text)
+}
+
+#[test]
+fn texts_of_errors(rt: HostRuntime) -> Result<(), Fail> {
     for (error, number, text) in [
         (MetricError::Memory, 1, "Memory"),
         (MetricError::CountFull, 2, "CountFull"),
@@ -141,8 +233,10 @@ fn texts_of_units_and_errors(rt: HostRuntime) -> Result<(), Fail> {
         (MetricError::NegativeIncrement, 6, "NegativeIncrement"),
         (MetricError::LessThanBefore, 7, "LessThanBefore"),
     ] {
-        assert_eq!(rt; error.number(), number);
-        assert_eq!(rt; error.to_string(rt.alloc())?.as_str(), text);
+        assert!(rt;
+            has_number_and_text(rt.alloc(), error, number, text)?,
+            "{text}"
+        );
     }
     Ok(())
 }
@@ -165,14 +259,18 @@ fn type_and_timestamp<M: TypedMetric>(_: &M) -> (MetricType, bool) {
 }
 
 #[test]
+fn least_numbers(rt: HostRuntime) {
+    assert!(rt; zero_and_one::<i32>() == (0, 1));
+    assert!(rt; zero_and_one::<i64>() == (0, 1));
+    assert!(rt; zero_and_one::<isize>() == (0, 1));
+    assert!(rt; zero_and_one::<u32>() == (0, 1));
+    assert!(rt; zero_and_one::<u64>() == (0, 1));
+    assert!(rt; zero_and_one::<usize>() == (0, 1));
+}
+
+#[test]
 fn numbers_and_types(rt: HostRuntime) {
-    assert_eq!(rt; zero_and_one::<i32>(), (0, 1));
-    assert_eq!(rt; zero_and_one::<i64>(), (0, 1));
-    assert_eq!(rt; zero_and_one::<isize>(), (0, 1));
-    assert_eq!(rt; zero_and_one::<u32>(), (0, 1));
-    assert_eq!(rt; zero_and_one::<u64>(), (0, 1));
-    assert_eq!(rt; zero_and_one::<usize>(), (0, 1));
     let (zero, one) = zero_and_one::<Fixed>();
-    assert_eq!(rt; (zero.millionths(), one.millionths()), (0, 1_000_000));
-    assert_eq!(rt; type_and_timestamp(&Level), (MetricType::Gauge, false));
+    assert!(rt; zero.millionths() == 0 && one.millionths() == 1_000_000);
+    assert!(rt; type_and_timestamp(&Level) == (MetricType::Gauge, false));
 }

@@ -1,6 +1,6 @@
 //! What a registry's metrics write is read as what was collected.
 use fastmetrics::encoder::{EncodeMetric, LabeledExemplar, StaticStr};
-use fastmetrics::format::text::{collect, encode, read};
+use fastmetrics::format::text::{collect, read};
 use fastmetrics::metrics::counter::{ConstCounter, Counter};
 use fastmetrics::metrics::family::{DefaultFactory, Family};
 use fastmetrics::metrics::gauge::{ConstGauge, Gauge};
@@ -11,11 +11,12 @@ use fastmetrics::metrics::state_set::{ConstStateSet, StateSet};
 use fastmetrics::metrics::summary::Quantile;
 use fastmetrics::metrics::unknown::Unknown;
 use fastmetrics::raw::bucket::{Bound, Bucket};
-use fastmetrics::raw::{Fixed, FixedSum, TryDefault, Unit};
+use fastmetrics::raw::{Fixed, FixedSum, MetricType, TryDefault, Unit};
 use fastmetrics::registry::{Registry, RegistryCall};
 use fm_test_support::jobs::Job;
 use fm_test_support::members::OneMember;
 use fm_test_support::replies::Outcome;
+use fm_test_support::support::document_of;
 use fm_test_support::trees::{labels, subsystem_at, texts};
 use own_points::{Answered, Durations, Latencies};
 use std::alloc::{AllocError, Global};
@@ -47,12 +48,14 @@ fn metric_at(
 // Makes the calls, and compares what is read of the registry's document with what is collected. It has this number of families.
 fn is_read_back(alloc: Global, calls: Vec<RegistryCall>, families: usize) -> Result<bool, Fail> {
     let mut registry = Registry::default();
-    for answer in registry.run(alloc, calls)? {
-        answer?;
+    if registry
+        .run(alloc, calls)?
+        .iter()
+        .any(|answer| answer.is_err())
+    {
+        return Err(Fail::new("a call was refused"));
     }
-    let mut bytes: Vec<u8> = Vec::new(alloc);
-    encode(alloc, &mut bytes, &registry)?;
-    let text = String::from_utf8(bytes)?;
+    let text = document_of(alloc, &registry)?;
     let exposition = read(alloc, &text)?;
     Ok(exposition == collect(alloc, &registry)? && exposition.families().len() == families)
 }
@@ -66,42 +69,84 @@ fn observed(alloc: Global) -> Result<HistogramSnapshot, Fail> {
     Ok(all)
 }
 
+// A gauge with a timestamp.
+fn stamped() -> OneMember<Outcome, ConstGauge<i64>> {
+    OneMember {
+        metric_type: MetricType::Gauge,
+        time: Some(Duration::from_millis(1005)),
+        labels: Outcome { error: Some(true) },
+        point: ConstGauge::new(i64::MIN),
+    }
+}
+
+// The types of metrics without a handle.
+#[derive(Clone, Copy)]
+enum Constant {
+    Counter,
+    Gauge,
+    Unknown,
+    Info,
+    States,
+    Histogram,
+    Stamped,
+}
+
+// A metric of this type.
+fn boxed_constant(alloc: Global, each: Constant) -> Result<Box<dyn EncodeMetric>, Fail> {
+    let created = Duration::from_millis(1005);
+    let version = [(StaticStr("version"), StaticStr("1.2 \"b\""))];
+    Ok(match each {
+        Constant::Counter => Box::new(alloc, ConstCounter::with_created(7u32, created))?,
+        Constant::Gauge => Box::new(alloc, ConstGauge::new(Fixed::from_millionths(-1)))?,
+        Constant::Unknown => Box::new(alloc, Unknown::new(-5i64))?,
+        Constant::Info => Box::new(alloc, Info::new(version))?,
+        Constant::States => Box::new(alloc, ConstStateSet::new(alloc, Job::Running)?)?,
+        Constant::Histogram => Box::new(alloc, observed(alloc)?)?,
+        Constant::Stamped => Box::new(alloc, stamped())?,
+    })
+}
+
+// The unit of a metric of this type.
+fn unit_of(each: Constant) -> Option<Unit> {
+    match each {
+        Constant::Gauge => Some(Unit::Bytes),
+        Constant::Histogram => Some(Unit::Seconds),
+        _ => None,
+    }
+}
+
 // Calls that register a metric without a handle of each type, at the root and in a subsystem whose label has to be
 // escaped.
 fn constant_calls(alloc: Global) -> Result<Vec<RegistryCall>, Fail> {
     let mut calls = Vec::new(alloc);
     calls.push(subsystem_at(alloc, &[], "db", &[("k", "a\"b\\c\nd")])?)?;
-    let counter = ConstCounter::with_created(7u32, Duration::from_millis(1005));
-    let counter = Box::new(alloc, counter)?;
-    calls.push(metric_at(alloc, &["db"], "queries", None, counter)?)?;
-    let gauge = Box::new(alloc, ConstGauge::new(Fixed::from_millionths(-1)))?;
-    calls.push(metric_at(alloc, &["db"], "size", Some(Unit::Bytes), gauge)?)?;
-    let unknown = Box::new(alloc, Unknown::new(-5i64))?;
-    calls.push(metric_at(alloc, &["db"], "level", None, unknown)?)?;
-    let info = Info::new([(StaticStr("version"), StaticStr("1.2 \"b\""))]);
-    let info = Box::new(alloc, info)?;
-    calls.push(metric_at(alloc, &["db"], "build", None, info)?)?;
-    let job = Box::new(alloc, ConstStateSet::new(alloc, Job::Running)?)?;
-    calls.push(metric_at(alloc, &[], "job", None, job)?)?;
-    let histogram = Box::new(alloc, observed(alloc)?)?;
-    let unit = Some(Unit::Seconds);
-    calls.push(metric_at(alloc, &["db"], "time", unit, histogram)?)?;
-    let mut stamped = OneMember::gauge(Outcome { error: Some(true) }, ConstGauge::new(i64::MIN));
-    stamped.time = Some(Duration::from_millis(1005));
-    calls.push(metric_at(alloc, &[], "stamped", None, Box::new(alloc, stamped)?)?)?;
+    for (path, name, each) in [
+        (["db"].as_slice(), "queries", Constant::Counter),
+        (&["db"], "size", Constant::Gauge),
+        (&["db"], "level", Constant::Unknown),
+        (&["db"], "build", Constant::Info),
+        (&[], "job", Constant::States),
+        (&["db"], "time", Constant::Histogram),
+        (&[], "stamped", Constant::Stamped),
+    ] {
+        let metric = boxed_constant(alloc, each)?;
+        calls.push(metric_at(alloc, path, name, unit_of(each), metric)?)?;
+    }
     Ok(calls)
 }
 
 #[test]
 fn metrics_without_handles(rt: HostRuntime) -> Result<(), Fail> {
     let alloc = rt.alloc();
-    let calls = constant_calls(alloc)?;
-    assert!(rt; is_read_back(alloc, calls, 7)?);
+    assert!(rt; is_read_back(alloc, constant_calls(alloc)?, 7)?);
     Ok(())
 }
 
+// The labels of an exemplar.
+type Pairs = Vec<(String, String)>;
+
 // An exemplar with a label that has to be escaped, and a time.
-fn trace(alloc: Global) -> Result<LabeledExemplar<Vec<(String, String)>>, AllocError> {
+fn trace(alloc: Global) -> Result<LabeledExemplar<Pairs>, AllocError> {
     Ok(LabeledExemplar {
         labels: labels(alloc, &[("trace_id", "a\"b")])?,
         value: Fixed::from_millionths(-1),
@@ -109,15 +154,17 @@ fn trace(alloc: Global) -> Result<LabeledExemplar<Vec<(String, String)>>, AllocE
     })
 }
 
-// Calls that register what has an exemplar, a summary, and a gauge histogram.
-fn point_calls(alloc: Global) -> Result<Vec<RegistryCall>, Fail> {
-    let mut calls = Vec::new(alloc);
-    let answered = Answered {
+// A counter with an exemplar.
+fn answered(alloc: Global) -> Result<Answered<Pairs>, Fail> {
+    Ok(Answered {
         requests: 1,
         trace: trace(alloc)?,
-    };
-    calls.push(metric_at(alloc, &[], "answered", None, Box::new(alloc, answered)?)?)?;
-    let durations = Durations {
+    })
+}
+
+// A histogram with an exemplar.
+fn durations(alloc: Global) -> Result<Durations<Pairs>, Fail> {
+    Ok(Durations {
         buckets: [
             Bucket::new(Bound::Finite(Fixed::ONE), 2),
             Bucket::new(Bound::Inf, 1),
@@ -125,38 +172,95 @@ fn point_calls(alloc: Global) -> Result<Vec<RegistryCall>, Fail> {
         trace: trace(alloc)?,
         requests: 3,
         seconds: FixedSum::from_millionths(2_500_000),
-    };
-    calls.push(metric_at(alloc, &[], "durations", None, Box::new(alloc, durations)?)?)?;
+    })
+}
+
+// A summary.
+fn latencies(alloc: Global) -> Result<Latencies, Fail> {
     let median = Quantile::new(Fixed::from_millionths(500_000), Fixed::ONE);
-    let latencies = Latencies {
+    Ok(Latencies {
         quantiles: vec![in alloc; median]?,
         requests: 3,
         seconds: FixedSum::from_millionths(2_500_000),
-    };
-    calls.push(metric_at(alloc, &[], "latencies", None, Box::new(alloc, latencies)?)?)?;
+    })
+}
+
+// A gauge histogram that has observed a negative value.
+fn sizes(alloc: Global) -> Result<GaugeHistogramSnapshot, Fail> {
     let mut sizes = GaugeHistogramSnapshot::new(alloc, [Fixed::ZERO].iter().copied())?;
     sizes.observe(Fixed::from_millionths(-1))?;
-    calls.push(metric_at(alloc, &[], "sizes", None, Box::new(alloc, sizes)?)?)?;
+    Ok(sizes)
+}
+
+// The types of metrics with points of a user's own, and a gauge histogram.
+#[derive(Clone, Copy)]
+enum Own {
+    Answered,
+    Durations,
+    Latencies,
+    Sizes,
+}
+
+// A metric of this type.
+fn boxed_own(alloc: Global, each: Own) -> Result<Box<dyn EncodeMetric>, Fail> {
+    Ok(match each {
+        Own::Answered => Box::new(alloc, answered(alloc)?)?,
+        Own::Durations => Box::new(alloc, durations(alloc)?)?,
+        Own::Latencies => Box::new(alloc, latencies(alloc)?)?,
+        Own::Sizes => Box::new(alloc, sizes(alloc)?)?,
+    })
+}
+
+// Calls that register what has an exemplar, a summary, and a gauge histogram.
+fn point_calls(alloc: Global) -> Result<Vec<RegistryCall>, Fail> {
+    let mut calls = Vec::new(alloc);
+    for (name, each) in [
+        ("answered", Own::Answered),
+        ("durations", Own::Durations),
+        ("latencies", Own::Latencies),
+        ("sizes", Own::Sizes),
+    ] {
+        let metric = boxed_own(alloc, each)?;
+        calls.push(metric_at(alloc, &[], name, None, metric)?)?;
+    }
     Ok(calls)
 }
 
 #[test]
 fn points_of_a_users_own(rt: HostRuntime) -> Result<(), Fail> {
     let alloc = rt.alloc();
-    let calls = point_calls(alloc)?;
-    assert!(rt; is_read_back(alloc, calls, 4)?);
+    assert!(rt; is_read_back(alloc, point_calls(alloc)?, 4)?);
     Ok(())
+}
+
+// The types of handles without a lock.
+#[derive(Clone, Copy)]
+enum Handle {
+    Counter,
+    Gauge,
+    States,
+}
+
+// A handle of this type.
+fn boxed_handle(alloc: Global, each: Handle) -> Result<Box<dyn EncodeMetric>, Fail> {
+    Ok(match each {
+        Handle::Counter => { Box::new(alloc, Counter::<u64>::with_created(alloc, Duration::MAX)?)? }
+        Handle::Gauge => Box::new(alloc, Gauge::<i64>::new(alloc, -5)?)?,
+        Handle::States => Box::new(alloc, StateSet::new(alloc, Job::Failed)?)?,
+    })
 }
 
 // Calls that register a handle of each type without a lock.
 fn handle_calls(alloc: Global) -> Result<Vec<RegistryCall>, Fail> {
     let mut calls = Vec::new(alloc);
-    let counter = Box::new(alloc, Counter::<u64>::with_created(alloc, Duration::MAX)?)?;
-    calls.push(metric_at(alloc, &[], "bytes", None, counter)?)?;
-    let gauge = Box::new(alloc, Gauge::<i64>::new(alloc, -5)?)?;
-    calls.push(metric_at(alloc, &[], "level", None, gauge)?)?;
-    let job = Box::new(alloc, StateSet::new(alloc, Job::Failed)?)?;
-    calls.push(metric_at(alloc, &[], "job", None, job)?)?;
+    for (name, each) in [
+        ("bytes", Handle::Counter),
+        ("level", Handle::Gauge),
+        ("job", Handle::States),
+    ] {
+        let metric = boxed_handle(alloc, each)?;
+        calls.push(metric_at(alloc, &[], name, None, metric)?)?;
+    }
     Ok(calls)
 }
 
@@ -181,17 +285,26 @@ fn histograms<H: Wait + Clone + Drop>(
     Ok(histograms)
 }
 
+// These calls, and one that registers a metric at the root.
+fn and_registers(
+    alloc: Global,
+    mut calls: Vec<RegistryCall>,
+    name: &str,
+    metric: Box<dyn EncodeMetric>,
+) -> Result<Vec<RegistryCall>, Fail> {
+    calls.push(metric_at(alloc, &[], name, None, metric)?)?;
+    Ok(calls)
+}
+
 #[test]
 fn handles_and_families(rt: HostRuntime) -> Result<(), Fail> {
     let alloc = rt.alloc();
-    let mut calls = handle_calls(alloc)?;
     let counters = Box::new(alloc, counters(rt, alloc)?)?;
-    calls.push(metric_at(alloc, &[], "requests", None, counters)?)?;
+    let calls = and_registers(alloc, handle_calls(alloc)?, "requests", counters)?;
     let histograms = Box::new(alloc, histograms(rt, alloc)?)?;
-    calls.push(metric_at(alloc, &[], "times", None, histograms)?)?;
+    let calls = and_registers(alloc, calls, "times", histograms)?;
     let histogram = Histogram::with_created(rt, alloc, [].iter().copied(), Duration::ZERO)?;
-    let histogram = Box::new(alloc, histogram)?;
-    calls.push(metric_at(alloc, &[], "one", None, histogram)?)?;
+    let calls = and_registers(alloc, calls, "one", Box::new(alloc, histogram)?)?;
     assert!(rt; is_read_back(alloc, calls, 6)?);
     Ok(())
 }

@@ -1,6 +1,6 @@
 //! Texts that are no documents, and the lines at which they are refused.
 use fastmetrics::format::text::{ReadError, read};
-use std::alloc::Global;
+use std::alloc::{AllocError, Global};
 use std::test::Fail;
 
 const TREE: &str = "# TYPE myapp_requests counter
@@ -15,12 +15,15 @@ myapp_database_mysql_queries_total{env=\"prod\",engine=\"innodb\"} 7
 # EOF
 ";
 
-// The line at which a text is refused, or None if it is read or memory runs out.
-fn refused_line(alloc: Global, text: &str) -> Option<usize> {
-    match read(alloc, text) {
-        Err(ReadError::NotADocument { line }) => Some(line),
-        _ => None,
-    }
+// Whether a text is refused at this line.
+fn is_refused_at(alloc: Global, text: &str, line: usize) -> bool {
+    read(alloc, text).err() == Some(ReadError::NotADocument { line })
+}
+
+// Whether a document with this beginning is refused at its third line, which is this one.
+fn is_refused_sample(alloc: Global, beginning: &str, sample: &str) -> Result<bool, AllocError> {
+    let text = format!(in alloc; "{beginning}{sample}\n# EOF\n")?;
+    Ok(is_refused_at(alloc, text.as_str(), 3))
 }
 
 #[test]
@@ -76,7 +79,7 @@ fn ends_and_heads(rt: HostRuntime) -> Result<(), Fail> {
         ("# TYPE g gauge\n# HELP g H\n# a comment\n# EOF\n", 3),
         ("# TYPE g gauge\n# HELP g H\ng 1\n# EOF\n\n", 5),
     ] {
-        assert_eq!(rt; refused_line(alloc, text), Some(line));
+        assert!(rt; is_refused_at(alloc, text, line), "{text}");
     }
     Ok(())
 }
@@ -131,10 +134,8 @@ fn samples(rt: HostRuntime) -> Result<(), Fail> {
         "g 1 18446744073709551616.000",
         "g 1 # {} 1.0",
     ] {
-        let mut text = String::from_str(alloc, "# TYPE g gauge\n# HELP g H\n")?;
-        text.push_str(sample)?;
-        text.push_str("\n# EOF\n")?;
-        assert_eq!(rt; refused_line(alloc, &text), Some(3));
+        let is_refused = is_refused_sample(alloc, "# TYPE g gauge\n# HELP g H\n", sample)?;
+        assert!(rt; is_refused, "{sample}");
     }
     Ok(())
 }
@@ -156,10 +157,8 @@ fn counters(rt: HostRuntime) -> Result<(), Fail> {
         "c_total 1 # {} 9223372036854.775808",
         "c_total 1 # {a=\"1\",a=\"1\"} 1.0",
     ] {
-        let mut text = String::from_str(alloc, "# TYPE c counter\n# HELP c H\n")?;
-        text.push_str(sample)?;
-        text.push_str("\n# EOF\n")?;
-        assert_eq!(rt; refused_line(alloc, &text), Some(3));
+        let is_refused = is_refused_sample(alloc, "# TYPE c counter\n# HELP c H\n", sample)?;
+        assert!(rt; is_refused, "{sample}");
     }
     Ok(())
 }
@@ -178,7 +177,7 @@ fn with_exemplar(alloc: Global, letters: usize) -> Result<String, Fail> {
 fn exemplar_lengths(rt: HostRuntime) -> Result<(), Fail> {
     let alloc = rt.alloc();
     assert!(rt; read(alloc, &with_exemplar(alloc, 127)?).is_ok());
-    assert_eq!(rt; refused_line(alloc, &with_exemplar(alloc, 128)?), Some(3));
+    assert!(rt; is_refused_at(alloc, &with_exemplar(alloc, 128)?, 3));
     Ok(())
 }
 
@@ -188,7 +187,7 @@ fn cut_documents(rt: HostRuntime) -> Result<(), Fail> {
     let mut line: usize = 1;
     for (place, byte) in TREE.bytes().enumerate() {
         if let Some(front) = TREE.get(..place) {
-            assert_eq!(rt; refused_line(alloc, front), Some(line));
+            assert!(rt; is_refused_at(alloc, front, line), "{line}");
         }
         if byte == b'\n' {
             line = line.saturating_add(1);

@@ -20,11 +20,8 @@ fn one_of_two<K: TallyKey>(alloc: Global, blank: Blank) -> Result<u64, TallyErro
 
 #[test]
 fn a_share_is_missing(rt: HostRuntime) -> Result<(), Fail> {
-    assert_eq!(rt;
-        one_of_two::<Brand>(rt.alloc(), Blank::new(3)),
-        Err(TallyError::MissingShares)
-    );
-    assert_eq!(rt; TallyError::MissingShares.number(), 3);
+    assert!(rt; one_of_two::<Brand>(rt.alloc(), Blank::new(3)) == Err(TallyError::MissingShares));
+    assert!(rt; TallyError::MissingShares.number() == 3);
     Ok(())
 }
 
@@ -40,6 +37,6 @@ fn none<K: TallyKey>(alloc: Global, blank: Blank) -> Result<u64, TallyError>
 
 #[test]
 fn a_tally_of_none(rt: HostRuntime) -> Result<(), Fail> {
-    assert_eq!(rt; none::<Brand>(rt.alloc(), Blank::new(1)), Ok(0));
+    assert!(rt; none::<Brand>(rt.alloc(), Blank::new(1)) == Ok(0));
     Ok(())
 }

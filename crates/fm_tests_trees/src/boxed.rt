@@ -4,7 +4,7 @@ ghost use Rattle.fm_registry.specs.HasBook.{HasBook};
 
 use fastmetrics::registry::{Registry, RegistryCall};
 use fm_test_support::trees;
-use fm_test_support::trees::{gauge, labels, metric_at};
+use fm_test_support::trees::{gauge, labels, metric_at, subsystem_at};
 use std::alloc::{AllocError, Global};
 use std::test::Fail;
 
@@ -29,6 +29,22 @@ pub(crate) fn gauge_at(
     value: i64,
 ) -> Result<RegistryCall, AllocError> {
     metric_at(alloc, path, name, gauge(alloc, value)?)
+}
+
+/// A path, a name there, and the value of a gauge, or None for a subsystem.
+pub(crate) type At<'a> = (&'a [&'a str], &'a str, Option<i64>);
+
+/// The calls that make these subsystems without labels, and register these gauges.
+pub(crate) fn calls_at(alloc: Global, rows: &[At]) -> Result<Vec<RegistryCall>, AllocError> {
+    let mut calls = Vec::new(alloc);
+    for (path, name, value) in rows {
+        let call = match value {
+            Some(value) => gauge_at(alloc, path, name, *value)?,
+            None => subsystem_at(alloc, path, name, &[])?,
+        };
+        calls.push(call)?;
+    }
+    Ok(calls)
 }
 
 /// Six calls with gauges of the values 1, 1 and 2.

@@ -2,7 +2,7 @@
 ghost use Rattle.std.specs.Prelude.{IfOk};
 ghost use Rattle.fm_registry.specs.HasBook.{HasBook};
 
-use crate::boxed::{gauge_at, root, six_calls};
+use crate::boxed::{calls_at, root, six_calls};
 use fastmetrics::registry::{Registry, RegistryCall, RegistryError};
 use fm_test_support::support::expect_document_of;
 use fm_test_support::trees::{
@@ -11,22 +11,26 @@ use fm_test_support::trees::{
 use std::alloc::{AllocError, Global};
 use std::test::Fail;
 
+/// Whether at each of these indices is the refusal with this number, which names this text.
+pub(crate) fn all_refused(
+    answers: &[Result<(), RegistryError>],
+    refusals: &[(usize, u8, &str)],
+) -> bool {
+    refusals.iter().all(|(index, number, text)| refuses(answers, *index, *number, text))
+}
+
 #[test]
 fn six_calls_as_a_list(rt: HostRuntime) -> Result<(), Fail> {
     let alloc = rt.alloc();
     let mut registry = root(alloc, "myapp", &[])?;
-    let calls = six_calls(alloc)?;
-    let answers = registry.run(alloc, calls)?;
+    let answers = registry.run(alloc, six_calls(alloc)?)?;
+    assert!(rt; have_numbers(&answers, &[10, 0, 0, 8, 0, 4]));
+    assert!(rt; all_refused(&answers, &[(0, 10, "db"), (3, 8, "1x"), (5, 4, "up")]));
     expect_document_of(
         alloc,
         &registry,
         "# TYPE myapp_db_up gauge\n# HELP myapp_db_up H\nmyapp_db_up 1\n# EOF\n",
-    )?;
-    assert!(rt; have_numbers(&answers, &[10, 0, 0, 8, 0, 4]));
-    assert!(rt; refuses(&answers, 0, 10, "db"));
-    assert!(rt; refuses(&answers, 3, 8, "1x"));
-    assert!(rt; refuses(&answers, 5, 4, "up"));
-    Ok(())
+    )
 }
 
 // A root with the subsystem `db` and a gauge in it, by single calls.
@@ -68,30 +72,29 @@ fn a_gauge_registered_again(rt: HostRuntime) -> Result<(), Fail> {
 
 // Calls at paths that are there, and at others that are not.
 fn calls_at_depth(alloc: Global) -> Result<Vec<RegistryCall>, AllocError> {
-    let mut calls = Vec::new(alloc);
-    calls.push(subsystem_at(alloc, &[], "a", &[])?)?;
-    calls.push(subsystem_at(alloc, &["a"], "b", &[])?)?;
-    calls.push(subsystem_at(alloc, &["a", "c"], "d", &[])?)?;
-    calls.push(gauge_at(alloc, &["a", "b", "d"], "Bad", 1)?)?;
-    calls.push(gauge_at(alloc, &["b", "a"], "up", 1)?)?;
-    calls.push(gauge_at(alloc, &["a", "b"], "up", 1)?)?;
-    Ok(calls)
+    calls_at(
+        alloc,
+        &[
+            (&[], "a", None),
+            (&["a"], "b", None),
+            (&["a", "c"], "d", None),
+            (&["a", "b", "d"], "Bad", Some(1)),
+            (&["b", "a"], "up", Some(1)),
+            (&["a", "b"], "up", Some(1)),
+        ],
+    )
 }
 
 #[test]
 fn first_missing_name(rt: HostRuntime) -> Result<(), Fail> {
     let alloc = rt.alloc();
     let mut registry = Registry::default();
-    let calls = calls_at_depth(alloc)?;
-    let answers = registry.run(alloc, calls)?;
+    let answers = registry.run(alloc, calls_at_depth(alloc)?)?;
+    assert!(rt; have_numbers(&answers, &[0, 0, 10, 10, 10, 0]));
+    assert!(rt; all_refused(&answers, &[(2, 10, "c"), (3, 10, "d"), (4, 10, "b")]));
     expect_document_of(
         alloc,
         &registry,
         "# TYPE a_b_up gauge\n# HELP a_b_up H\na_b_up 1\n# EOF\n",
-    )?;
-    assert!(rt; have_numbers(&answers, &[0, 0, 10, 10, 10, 0]));
-    for (index, missing) in [(2, "c"), (3, "d"), (4, "b")] {
-        assert!(rt; refuses(&answers, index, 10, missing), "{missing}");
-    }
-    Ok(())
+    )
 }

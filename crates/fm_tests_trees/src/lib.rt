@@ -1,10 +1,12 @@
-//! Tests of trees of registries: namespaces and labels, what roots refuse, depth, calls one by one and as a list, and the order of
-//! a document.
+//! Tests of trees of registries: namespaces and labels, what roots refuse, depth, calls one by one and as a list, the order of
+//! a document, which names clash, and what a refused name leaves.
 #![tactic(auto)]
 
 #[cfg(test)]
 mod boxed;
 #[cfg(test)]
 mod calls;
+#[cfg(test)]
+mod names;
 #[cfg(test)]
 mod trees;

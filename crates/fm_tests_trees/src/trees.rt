@@ -1,11 +1,11 @@
 //! Trees of registries: namespaces and labels, what roots refuse, depth, and the order of a document.
 
-use crate::boxed::{gauge_at, root};
-use fastmetrics::registry::{Registry, RegistryCall, RegistryError};
+use crate::boxed::{calls_at, gauge_at, root};
+use fastmetrics::registry::{Registry, RegistryCall, RegistryError, Subsystem};
 use fm_test_support::support::{document_of, expect_document_of};
 use fm_test_support::trees::{
-    are_labels, build_below, expect_refused, gauge, have_numbers, labels, refuses, register_below,
-    subsystem_at,
+    are_accepted_but, are_labels, build_below, expect_refused, gauge, have_numbers, labels,
+    path_down, refuses, register_below, subsystem_at,
 };
 use std::alloc::{AllocError, Global};
 use std::test::Fail;
@@ -34,21 +34,49 @@ fn labels_of_a_subsystem(rt: HostRuntime) -> Result<(), Fail> {
     )
 }
 
+// Whether a registry has this namespace and these labels.
+fn is_at(registry: &Registry, namespace: Option<&str>, labels: &[(&str, &str)]) -> bool {
+    registry.namespace() == namespace && are_labels(registry.constant_labels(), labels)
+}
+
 #[test]
-fn what_registries_say(rt: HostRuntime) -> Result<(), Fail> {
+fn what_roots_say(rt: HostRuntime) -> Result<(), Fail> {
+    let labels = [("env", "dev"), ("region", "us-west")];
+    let registry = root(rt.alloc(), "myapp", &labels)?;
+    assert!(rt; is_at(&registry, Some("myapp"), &labels));
+    Ok(())
+}
+
+// Whether a subsystem has this name, this namespace and these labels.
+fn is_below(below: &Subsystem, name: &str, namespace: &str, labels: &[(&str, &str)]) -> bool {
+    below.name() == name
+        && below.namespace() == Some(namespace)
+        && are_labels(below.constant_labels(), labels)
+}
+
+// Fails where a subsystem does not have this name, this namespace and these labels. It is made where it is not there.
+fn expect_below(
+    alloc: Global,
+    registry: &mut Registry,
+    name: &str,
+    namespace: &str,
+    labels: &[(&str, &str)],
+) -> Result<(), Fail> {
+    let text = String::from_str(alloc, name)?;
+    if is_below(registry.subsystem(alloc, text)?, name, namespace, labels) {
+        Ok(())
+    } else {
+        Err(Fail::new("another name, namespace or label"))
+    }
+}
+
+#[test]
+fn what_subsystems_say(rt: HostRuntime) -> Result<(), Fail> {
     let alloc = rt.alloc();
     let mut registry = root(alloc, "myapp", &[("env", "dev"), ("region", "us-west")])?;
-    let at_root = [("env", "dev"), ("region", "us-west")];
-    assert_eq!(rt; registry.namespace(), Some("myapp"));
-    assert!(rt; are_labels(registry.constant_labels(), &at_root));
     registry.run(alloc, calls_for_a_cache(alloc)?)?;
-    let name = String::from_str(alloc, "cache")?;
-    let cache = registry.subsystem(alloc, name)?;
-    let at_cache = [("env", "prod"), ("region", "us-west"), ("type", "redis")];
-    assert_eq!(rt; cache.name(), "cache");
-    assert_eq!(rt; cache.namespace(), Some("myapp_cache"));
-    assert!(rt; are_labels(cache.constant_labels(), &at_cache));
-    Ok(())
+    let labels = [("env", "prod"), ("region", "us-west"), ("type", "redis")];
+    expect_below(alloc, &mut registry, "cache", "myapp_cache", &labels)
 }
 
 // A call that makes a subsystem with one key twice, and one that finds it there.
@@ -65,62 +93,68 @@ fn keys_given_twice(rt: HostRuntime) -> Result<(), Fail> {
     let alloc = rt.alloc();
     let mut registry = Registry::default();
     registry.run(alloc, calls_with_keys(alloc)?)?;
-    let name = String::from_str(alloc, "a")?;
-    let below = registry.subsystem(alloc, name)?;
-    assert_eq!(rt; below.namespace(), Some("a"));
-    assert!(rt; are_labels(below.constant_labels(), &[("k", "2"), ("z", "0")]));
+    expect_below(alloc, &mut registry, "a", "a", &[("k", "2"), ("z", "0")])
+}
+
+static INVALID_NAMES: [&str; 8] = ["", "_", "My", "1a", "a__b", "a_", "a-b", "é"];
+
+// What beginning a root with this namespace returns.
+fn begun_with_namespace(alloc: Global, text: &str) -> Result<(), RegistryError> {
+    let namespace = String::from_str(alloc, text)?;
+    let _begun = Registry::builder().with_namespace(namespace)?;
     Ok(())
 }
 
 #[test]
 fn namespaces_of_roots(rt: HostRuntime) -> Result<(), Fail> {
-    let alloc = rt.alloc();
-    for text in ["", "_", "My", "1a", "a__b", "a_", "a-b", "é"] {
-        let namespace = String::from_str(alloc, text)?;
-        let answer = Registry::builder().with_namespace(namespace).err();
-        let namespace = String::from_str(alloc, text)?;
-        assert_eq!(rt;
-            answer,
-            Some(RegistryError::InvalidNamespace { namespace }),
-            "{text}"
-        );
+    for text in INVALID_NAMES {
+        expect_refused(begun_with_namespace(rt.alloc(), text), 6, text)?;
     }
-    let first = String::from_str(alloc, "first")?;
-    let second = String::from_str(alloc, "second")?;
+    Ok(())
+}
+
+#[test]
+fn last_namespace_of_a_root(rt: HostRuntime) -> Result<(), Fail> {
+    let first = String::from_str(rt.alloc(), "first")?;
+    let second = String::from_str(rt.alloc(), "second")?;
     let registry = Registry::builder()
         .with_namespace(first)?
         .with_namespace(second)?
         .build()?;
-    assert_eq!(rt; registry.namespace(), Some("second"));
+    assert!(rt; is_at(&registry, Some("second"), &[]));
+    Ok(())
+}
+
+// What beginning a root with these labels returns.
+fn begun_with_labels(alloc: Global, pairs: &[(&str, &str)]) -> Result<(), RegistryError> {
+    let _begun = Registry::builder().with_const_labels(labels(alloc, pairs)?)?;
     Ok(())
 }
 
 #[test]
 fn labels_of_roots(rt: HostRuntime) -> Result<(), Fail> {
-    let alloc = rt.alloc();
-    let twice = labels(alloc, &[("env", "a"), ("env", "b"), ("1x", "c")])?;
-    let answer = Registry::builder().with_const_labels(twice).err();
-    let name = String::from_str(alloc, "env")?;
-    assert_eq!(rt; answer, Some(RegistryError::DuplicateLabel { name }));
-    let invalid = labels(alloc, &[("env", "a"), ("1x", "b"), ("env", "c")])?;
-    let answer = Registry::builder().with_const_labels(invalid).err();
-    let name = String::from_str(alloc, "1x")?;
-    assert_eq!(rt; answer, Some(RegistryError::InvalidLabelName { name }));
-    let first = labels(alloc, &[("a", "1"), ("b", "2")])?;
-    let second = labels(alloc, &[("c", "3")])?;
+    let twice = [("env", "a"), ("env", "b"), ("1x", "c")];
+    expect_refused(begun_with_labels(rt.alloc(), &twice), 9, "env")?;
+    let invalid = [("env", "a"), ("1x", "b"), ("env", "c")];
+    expect_refused(begun_with_labels(rt.alloc(), &invalid), 8, "1x")
+}
+
+#[test]
+fn last_labels_of_a_root(rt: HostRuntime) -> Result<(), Fail> {
+    let first = labels(rt.alloc(), &[("a", "1"), ("b", "2")])?;
+    let second = labels(rt.alloc(), &[("c", "3")])?;
     let registry = Registry::builder()
         .with_const_labels(first)?
         .with_const_labels(second)?
         .build()?;
-    assert_eq!(rt; registry.namespace(), None);
-    assert!(rt; are_labels(registry.constant_labels(), &[("c", "3")]));
+    assert!(rt; is_at(&registry, None, &[("c", "3")]));
     Ok(())
 }
 
 #[test]
 fn names_of_subsystems(rt: HostRuntime) -> Result<(), Fail> {
     let alloc = rt.alloc();
-    for text in ["", "_", "My", "1a", "a__b", "a_", "a-b", "é"] {
+    for text in INVALID_NAMES {
         let mut registry = Registry::default();
         let answer = build_below(alloc, &mut registry, text, &[("1x", "v")]);
         expect_refused(answer, 7, text)?;
@@ -130,17 +164,20 @@ fn names_of_subsystems(rt: HostRuntime) -> Result<(), Fail> {
 
 // Calls that register here and below in turn.
 fn calls_in_turn(alloc: Global) -> Result<Vec<RegistryCall>, AllocError> {
-    let mut calls = Vec::new(alloc);
-    calls.push(subsystem_at(alloc, &[], "x", &[])?)?;
-    calls.push(gauge_at(alloc, &["x"], "g", 1)?)?;
-    calls.push(gauge_at(alloc, &[], "c", 2)?)?;
-    calls.push(subsystem_at(alloc, &[], "b", &[])?)?;
-    calls.push(gauge_at(alloc, &["b"], "g", 3)?)?;
-    calls.push(gauge_at(alloc, &[], "a", 4)?)?;
-    calls.push(subsystem_at(alloc, &["x"], "z", &[])?)?;
-    calls.push(gauge_at(alloc, &["x", "z"], "g", 5)?)?;
-    calls.push(gauge_at(alloc, &["x"], "a", 6)?)?;
-    Ok(calls)
+    calls_at(
+        alloc,
+        &[
+            (&[], "x", None),
+            (&["x"], "g", Some(1)),
+            (&[], "c", Some(2)),
+            (&[], "b", None),
+            (&["b"], "g", Some(3)),
+            (&[], "a", Some(4)),
+            (&["x"], "z", None),
+            (&["x", "z"], "g", Some(5)),
+            (&["x"], "a", Some(6)),
+        ],
+    )
 }
 
 #[test]
@@ -148,15 +185,14 @@ fn order_of_a_document(rt: HostRuntime) -> Result<(), Fail> {
     let alloc = rt.alloc();
     let mut registry = Registry::default();
     let answers = registry.run(alloc, calls_in_turn(alloc)?)?;
+    assert!(rt; have_numbers(&answers, &[0, 0, 0, 0, 0, 0, 0, 0, 0]));
     expect_document_of(
         alloc,
         &registry,
         "# TYPE c gauge\n# HELP c H\nc 2\n# TYPE a gauge\n# HELP a H\na 4\n\
          # TYPE x_g gauge\n# HELP x_g H\nx_g 1\n# TYPE x_a gauge\n# HELP x_a H\nx_a 6\n\
          # TYPE x_z_g gauge\n# HELP x_z_g H\nx_z_g 5\n# TYPE b_g gauge\n# HELP b_g H\nb_g 3\n# EOF\n",
-    )?;
-    assert!(rt; have_numbers(&answers, &[0, 0, 0, 0, 0, 0, 0, 0, 0]));
-    Ok(())
+    )
 }
 
 #[test]
@@ -172,21 +208,12 @@ fn lent_and_lent_again(rt: HostRuntime) -> Result<(), Fail> {
     )
 }
 
-// The path that goes down this number of times.
-fn path_down(alloc: Global, depth: usize) -> Result<Vec<String>, AllocError> {
-    let mut path = Vec::new(alloc);
-    for _ in 0..depth {
-        path.push(String::from_str(alloc, "a")?)?;
-    }
-    Ok(path)
-}
-
-// The calls that make this number of subsystems one in another.
+// The calls that make so many subsystems one in another.
 fn one_in_another(alloc: Global, count: usize) -> Result<Vec<RegistryCall>, AllocError> {
     let mut calls = Vec::new(alloc);
     for depth in 0..count {
         calls.push(RegistryCall::Subsystem {
-            path: path_down(alloc, depth)?,
+            path: path_down(alloc, "a", depth)?,
             name: String::from_str(alloc, "a")?,
             labels: Vec::new(alloc),
         })?;
@@ -197,7 +224,7 @@ fn one_in_another(alloc: Global, count: usize) -> Result<Vec<RegistryCall>, Allo
 // The call that registers a gauge 64 registries below.
 fn deepest_gauge(alloc: Global) -> Result<RegistryCall, AllocError> {
     Ok(RegistryCall::Register {
-        path: path_down(alloc, 64)?,
+        path: path_down(alloc, "a", 64)?,
         name: String::from_str(alloc, "g")?,
         help: String::from_str(alloc, "H")?,
         unit: None,
@@ -205,20 +232,28 @@ fn deepest_gauge(alloc: Global) -> Result<RegistryCall, AllocError> {
     })
 }
 
+// The calls that make 65 subsystems one in another, of which the last is refused, and register that gauge.
+fn calls_to_the_deepest(alloc: Global) -> Result<Vec<RegistryCall>, AllocError> {
+    let mut calls = one_in_another(alloc, 65)?;
+    calls.push(deepest_gauge(alloc)?)?;
+    Ok(calls)
+}
+
+// Whether a document has only the deepest gauge.
+fn has_the_deepest_gauge(document: &str) -> bool {
+    document.starts_with("# TYPE root_a_a_a_a")
+        && document.ends_with("_a_a_a_g{k=\"v\"} 5\n# EOF\n")
+        && document.matches("_a").count() == 3 * 64
+}
+
 #[test]
 fn deepest_registries(rt: HostRuntime) -> Result<(), Fail> {
     let alloc = rt.alloc();
     let mut registry = root(alloc, "root", &[("k", "v")])?;
-    let mut calls = one_in_another(alloc, 65)?;
-    calls.push(deepest_gauge(alloc)?)?;
-    let answers = registry.run(alloc, calls)?;
-    let accepted = answers.iter().filter(|answer| answer.is_ok()).count();
-    assert_eq!(rt; (accepted, answers.len()), (65, 66));
-    assert!(rt; refuses(&answers, 64, 11, "a"));
+    let answers = registry.run(alloc, calls_to_the_deepest(alloc)?)?;
+    assert!(rt; answers.len() == 66 && are_accepted_but(&answers, 64, 11, "a"));
     let document = document_of(alloc, &registry)?;
-    assert!(rt; document.as_str().starts_with("# TYPE root_a_a_a_a"));
-    assert!(rt; document.as_str().ends_with("_a_a_a_g{k=\"v\"} 5\n# EOF\n"));
-    assert_eq!(rt; document.as_str().matches("_a").count(), 3 * 64);
+    assert!(rt; has_the_deepest_gauge(document.as_str()));
     Ok(())
 }
 
@@ -227,7 +262,7 @@ fn invalid_calls_at_depth(alloc: Global) -> Result<Vec<RegistryCall>, AllocError
     let mut calls = one_in_another(alloc, 64)?;
     for name in ["1a", "b"] {
         calls.push(RegistryCall::Subsystem {
-            path: path_down(alloc, 64)?,
+            path: path_down(alloc, "a", 64)?,
             name: String::from_str(alloc, name)?,
             labels: labels(alloc, &[("1x", "v")])?,
         })?;
@@ -240,8 +275,7 @@ fn names_before_depth_before_labels(rt: HostRuntime) -> Result<(), Fail> {
     let alloc = rt.alloc();
     let mut registry = Registry::default();
     let answers = registry.run(alloc, invalid_calls_at_depth(alloc)?)?;
-    assert!(rt; refuses(&answers, 64, 7, "1a"));
-    assert!(rt; refuses(&answers, 65, 11, "b"));
+    assert!(rt; refuses(&answers, 64, 7, "1a") && refuses(&answers, 65, 11, "b"));
     Ok(())
 }
 
@@ -249,11 +283,7 @@ fn names_before_depth_before_labels(rt: HostRuntime) -> Result<(), Fail> {
 fn first_of_two_invalid_labels(rt: HostRuntime) -> Result<(), Fail> {
     let alloc = rt.alloc();
     let pairs = [("a", "1"), ("1x", "2"), ("2x", "3")];
-    let answer = Registry::builder()
-        .with_const_labels(labels(alloc, &pairs)?)
-        .err();
-    let name = String::from_str(alloc, "1x")?;
-    assert_eq!(rt; answer, Some(RegistryError::InvalidLabelName { name }));
+    expect_refused(begun_with_labels(alloc, &pairs), 8, "1x")?;
     let mut registry = Registry::default();
     let answer = build_below(alloc, &mut registry, "x", &pairs);
     expect_refused(answer, 8, "1x")

@@ -9,7 +9,7 @@ use fastmetrics::raw::MetricType;
 use fastmetrics::registry::{Registry, RegistryCall};
 use fm_test_support::members::OneMember;
 use fm_test_support::parts::Word;
-use fm_test_support::trees::{labels, subsystem_at, texts};
+use fm_test_support::trees::{labels, register_with, subsystem_at, texts};
 use std::alloc::{AllocError, Global};
 use std::io::{self, ErrorKind, Write};
 use std::test::Fail;
@@ -196,8 +196,9 @@ fn filled(alloc: Global, mut registry: Registry, calls: Vec<RegistryCall>) -> Re
     requires { HasBook registry }
     ensures { IfOk result HasBook }
 {
-    for answer in registry.run(alloc, calls)? {
-        answer?;
+    let answers = registry.run(alloc, calls)?;
+    if answers.iter().any(|answer| answer.is_err()) {
+        return Err(Fail::new("a call was refused"));
     }
     Ok(registry)
 }
@@ -206,70 +207,89 @@ fn filled(alloc: Global, mut registry: Registry, calls: Vec<RegistryCall>) -> Re
 fn every_end_of_a_short_document(rt: HostRuntime) -> Result<(), Fail> {
     let alloc = rt.alloc();
     let counter = Box::new(alloc, ConstCounter::new(10100u64))?;
-    let mut calls = Vec::new(alloc);
-    calls.push(metric_call(
-        alloc,
-        &[],
-        "jobs",
-        "Jobs done",
-        counter as Box<dyn EncodeMetric>,
-    )?)?;
-    let registry = filled(alloc, Registry::default(), calls)?;
-    assert_eq!(rt; JOBS.len(), 65);
-    assert_eq!(rt; first_fault(alloc, &registry, JOBS), None);
+    let mut registry = Registry::default();
+    register_with(alloc, &mut registry, "jobs", "Jobs done", None, counter)?;
+    assert!(rt; JOBS.len() == 65);
+    assert!(rt; first_fault(alloc, &registry, JOBS).is_none());
     Ok(())
 }
 
-// The counters of an application: its requests, one of them by method and status, and the queries of its database.
-fn application_calls(alloc: Global) -> Result<Vec<RegistryCall>, AllocError> {
-    let requests = Box::new(alloc, ConstCounter::new(1u64))?;
+// The counters of an application.
+#[derive(Clone, Copy)]
+enum Counted {
+    Requests,
+    ByKind,
+    Queries,
+}
+
+// One of these counters: the requests, those of a method and a status, and the queries of the database.
+fn boxed_counter(alloc: Global, counted: Counted) -> Result<Box<dyn EncodeMetric>, AllocError> {
     let by_kind = OneMember {
         metric_type: MetricType::Counter,
         time: None,
         labels: [(Word("method"), Word("Get")), (Word("status"), Word("200"))],
         point: ConstCounter::new(1u64),
     };
-    let by_kind = Box::new(alloc, by_kind)?;
-    let queries = Box::new(alloc, ConstCounter::new(7u64))?;
+    Ok(match counted {
+        Counted::Requests => Box::new(alloc, ConstCounter::new(1u64))?,
+        Counted::ByKind => Box::new(alloc, by_kind)?,
+        Counted::Queries => Box::new(alloc, ConstCounter::new(7u64))?,
+    })
+}
+
+// The call that registers one of them.
+fn counter_call(
+    alloc: Global,
+    path: &[&str],
+    name: &str,
+    help: &str,
+    counted: Counted,
+) -> Result<RegistryCall, AllocError> {
+    metric_call(alloc, path, name, help, boxed_counter(alloc, counted)?)
+}
+
+// The calls that register all of them, at the root and in a subsystem of a subsystem.
+fn application_calls(alloc: Global) -> Result<Vec<RegistryCall>, AllocError> {
     let mut calls: Vec<RegistryCall> = Vec::new(alloc);
-    let help = "Total requests processed";
-    calls.push(metric_call(
-        alloc,
-        &[],
-        "requests",
-        help,
-        requests as Box<dyn EncodeMetric>,
-    )?)?;
-    let help = "Total HTTP requests";
-    calls.push(metric_call(
-        alloc,
-        &[],
-        "http_requests",
-        help,
-        by_kind as Box<dyn EncodeMetric>,
-    )?)?;
     calls.push(subsystem_at(alloc, &[], "database", &[])?)?;
     calls.push(subsystem_at(alloc, &["database"], "mysql", &[("engine", "innodb")])?)?;
-    let path = ["database", "mysql"];
-    let help = "Total MySQL queries";
-    calls.push(metric_call(
-        alloc,
-        &path,
-        "queries",
-        help,
-        queries as Box<dyn EncodeMetric>,
-    )?)?;
+    for (path, name, help, counted) in [
+        (
+            [].as_slice(),
+            "requests",
+            "Total requests processed",
+            Counted::Requests,
+        ),
+        (&[], "http_requests", "Total HTTP requests", Counted::ByKind),
+        (
+            &["database", "mysql"],
+            "queries",
+            "Total MySQL queries",
+            Counted::Queries,
+        ),
+    ] {
+        calls.push(counter_call(alloc, path, name, help, counted)?)?;
+    }
     Ok(calls)
+}
+
+// The root of an application.
+fn application(alloc: Global) -> Result<Registry, Fail>
+    ensures { IfOk result HasBook }
+{
+    let env = labels(alloc, &[("env", "prod")])?;
+    let namespace = String::from_str(alloc, "myapp")?;
+    let root = Registry::builder()
+        .with_namespace(namespace)?
+        .with_const_labels(env)?
+        .build()?;
+    filled(alloc, root, application_calls(alloc)?)
 }
 
 #[test]
 fn every_end_of_a_tree(rt: HostRuntime) -> Result<(), Fail> {
     let alloc = rt.alloc();
-    let root = Registry::builder()
-        .with_namespace(String::from_str(alloc, "myapp")?)?
-        .with_const_labels(labels(alloc, &[("env", "prod")])?)?
-        .build()?;
-    let registry = filled(alloc, root, application_calls(alloc)?)?;
-    assert_eq!(rt; first_fault(alloc, &registry, APPLICATION), None);
+    let registry = application(alloc)?;
+    assert!(rt; first_fault(alloc, &registry, APPLICATION).is_none());
     Ok(())
 }

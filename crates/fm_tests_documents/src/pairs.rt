@@ -4,7 +4,7 @@ use fastmetrics::encoder::StaticStr;
 use fastmetrics::metrics::family::{PairFamily, with_pairs};
 use fastmetrics::metrics::gauge::Gauge;
 use fastmetrics::raw::TryDefault;
-use fm_test_support::support::lines_of;
+use fm_test_support::support::expect_lines;
 use std::test::Fail;
 
 #[test]
@@ -14,11 +14,11 @@ fn members_by_numbers(rt: HostRuntime) -> Result<(), Fail> {
     for (status, before) in [(200, 0), (404, 0), (200, 1)] {
         let labels = [(StaticStr("status"), status), (StaticStr("shard"), 7)];
         let level = with_pairs(&levels, &labels, |level| level.inc())?;
-        assert_eq!(rt; level, before);
+        assert!(rt; level == before);
     }
-    assert_eq!(rt;
-        lines_of(alloc, Box::new(alloc, levels)?)?.as_str(),
-        "t{status=\"200\",shard=\"7\"} 2\nt{status=\"404\",shard=\"7\"} 1\n# EOF\n"
-    );
-    Ok(())
+    expect_lines(
+        alloc,
+        Box::new(alloc, levels)?,
+        "t{status=\"200\",shard=\"7\"} 2\nt{status=\"404\",shard=\"7\"} 1\n# EOF\n",
+    )
 }

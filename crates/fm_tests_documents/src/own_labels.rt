@@ -2,7 +2,7 @@
 
 use fastmetrics::metrics::gauge::ConstGauge;
 use fastmetrics::metrics::labeled::Labeled;
-use fm_test_support::support::lines_of;
+use fm_test_support::support::expect_lines;
 use own_metric::request::{Method, Request};
 use std::test::Fail;
 
@@ -18,9 +18,9 @@ fn labels_of_a_struct(rt: HostRuntime) -> Result<(), Fail> {
         labels,
         point: ConstGauge::<u64>::new(2),
     };
-    assert_eq!(rt;
-        lines_of(alloc, Box::new(alloc, metric)?)?.as_str(),
-        "t{method=\"PUT\",status=\"404\",failed=\"true\"} 2\n# EOF\n"
-    );
-    Ok(())
+    expect_lines(
+        alloc,
+        Box::new(alloc, metric)?,
+        "t{method=\"PUT\",status=\"404\",failed=\"true\"} 2\n# EOF\n",
+    )
 }

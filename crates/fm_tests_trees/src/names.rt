@@ -2,12 +2,14 @@
 ghost use Rattle.std.specs.Prelude.{IfOk};
 ghost use Rattle.fm_registry.specs.HasBook.{HasBook};
 
+use crate::boxed::{calls_at, gauge_at};
+use crate::calls::all_refused;
 use fastmetrics::metrics::counter::ConstCounter;
 use fastmetrics::raw::Unit;
 use fastmetrics::registry::{Registry, RegistryCall, RegistryError};
 use fm_test_support::support::expect_document_of;
 use fm_test_support::trees::{
-    build_below, expect_refused, gauge, have_numbers, metric_at, refuses, register, register_below,
+    build_below, expect_refused, gauge, have_numbers, refuses, register, register_below,
     register_with, subsystem_at, texts,
 };
 use std::alloc::{AllocError, Global};
@@ -24,21 +26,32 @@ fn gauge_in(alloc: Global, name: &str, unit: Unit) -> Result<RegistryCall, Alloc
     })
 }
 
-// The call that registers a gauge with this value at the end of a path.
-fn gauge_at(
-    alloc: Global,
-    path: &[&str],
-    name: &str,
-    value: i64,
-) -> Result<RegistryCall, AllocError> {
-    metric_at(alloc, path, name, gauge(alloc, value)?)
+// What a call at the root makes: a subsystem, or a gauge with one of three units or none.
+#[derive(Clone, Copy)]
+enum Made {
+    Child(&'static str),
+    Gauge(&'static str),
+    InBytes(&'static str),
+    InSeconds(&'static str),
+    // The unit is a user's own, with the text `seconds`.
+    InOwnSeconds(&'static str),
 }
 
-// The call that registers a gauge at the root.
-fn gauge_call(alloc: Global, name: &str) -> Result<RegistryCall, AllocError> {
-    gauge_at(alloc, &[], name, 1)
+// The call at the root that makes this.
+fn call_for(alloc: Global, made: Made) -> Result<RegistryCall, AllocError> {
+    match made {
+        Made::Child(name) => subsystem_at(alloc, &[], name, &[]),
+        Made::Gauge(name) => gauge_at(alloc, &[], name, 1),
+        Made::InBytes(name) => gauge_in(alloc, name, Unit::Bytes),
+        Made::InSeconds(name) => gauge_in(alloc, name, Unit::Seconds),
+        Made::InOwnSeconds(name) => {
+            let own = Unit::from(String::from_str(alloc, "seconds")?);
+            gauge_in(alloc, name, own)
+        }
+    }
 }
 
+<<<<<<< HEAD:crates/fm_tests_names/src/names.rt
 // The call that makes a subsystem of the root.
 fn child_call(alloc: Global, name: &str) -> Result<RegistryCall, AllocError> {
     subsystem_at(alloc, &[], name, &[])
@@ -50,44 +63,64 @@ fn second_answer(
     first: RegistryCall,
     then: RegistryCall,
 ) -> Result<Result<(), RegistryError>, Fail> {
+=======
+// The calls at the root that make these.
+fn calls_for(alloc: Global, all: &[Made]) -> Result<Vec<RegistryCall>, AllocError> {
+>>>>>>> 1f58115291ba2b968c5eb65ceb5a1c97d25ef8d8:crates/fm_tests_trees/src/names.rt
     let mut calls = Vec::new(alloc);
-    calls.push(first)?;
-    calls.push(then)?;
+    for made in all {
+        calls.push(call_for(alloc, *made)?)?;
+    }
+    Ok(calls)
+}
+
+// Whether of two calls the first is accepted, and the second is the refusal with this number, which names this text, or is accepted
+// where the number is 0.
+fn is_second(answers: &[Result<(), RegistryError>], number: u8, text: &str) -> bool {
+    have_numbers(answers, &[0, number]) && (number == 0 || refuses(answers, 1, number, text))
+}
+
+// Fails where of two calls at an empty root the first is refused, or the second is not the refusal with this number, which
+// names this text. The number 0 stands for a second call that is accepted.
+fn expect_second(alloc: Global, both: [Made; 2], number: u8, text: &str) -> Result<(), Fail> {
     let mut registry = Registry::default();
-    let mut answers = registry.run(alloc, calls)?;
-    let second = answers.pop();
-    match (answers.pop(), second) {
-        (Some(Ok(())), Some(second)) => Ok(second),
-        _ => Err(Fail::new("the first of two calls was refused")),
+    let answers = registry.run(alloc, calls_for(alloc, &both)?)?;
+    if is_second(&answers, number, text) {
+        Ok(())
+    } else {
+        Err(Fail::new("another answer to the second of two calls"))
     }
 }
 
 #[test]
 fn metrics_and_subsystems(rt: HostRuntime) -> Result<(), Fail> {
-    let alloc = rt.alloc();
-    let answer = second_answer(alloc, gauge_call(alloc, "a_b")?, child_call(alloc, "a")?)?;
-    expect_refused(answer, 12, "a")?;
-    let answer = second_answer(alloc, child_call(alloc, "a")?, gauge_call(alloc, "a_b")?)?;
-    expect_refused(answer, 12, "a_b")?;
-    let answer = second_answer(alloc, gauge_call(alloc, "a")?, child_call(alloc, "a")?)?;
-    answer?;
-    let answer = second_answer(alloc, gauge_call(alloc, "ab")?, child_call(alloc, "a")?)?;
-    answer?;
+    for (both, number, text) in [
+        ([Made::Gauge("a_b"), Made::Child("a")], 12, "a"),
+        ([Made::Child("a"), Made::Gauge("a_b")], 12, "a_b"),
+        ([Made::Gauge("a"), Made::Child("a")], 0, ""),
+        ([Made::Gauge("ab"), Made::Child("a")], 0, ""),
+    ] {
+        expect_second(rt.alloc(), both, number, text)?;
+    }
     Ok(())
 }
 
 #[test]
-fn subsystems_beside_one_another(rt: HostRuntime) -> Result<(), Fail> {
-    let alloc = rt.alloc();
-    let answer = second_answer(alloc, child_call(alloc, "a")?, child_call(alloc, "a_b")?)?;
-    expect_refused(answer, 12, "a_b")?;
-    let answer = second_answer(alloc, child_call(alloc, "a_b")?, child_call(alloc, "a")?)?;
-    expect_refused(answer, 12, "a")?;
-    let answer = second_answer(alloc, child_call(alloc, "a")?, child_call(alloc, "a")?)?;
-    answer?;
+fn names_of_one_kind(rt: HostRuntime) -> Result<(), Fail> {
+    for (both, number, text) in [
+        ([Made::Child("a"), Made::Child("a_b")], 12, "a_b"),
+        ([Made::Child("a_b"), Made::Child("a")], 12, "a"),
+        ([Made::Child("a"), Made::Child("a")], 0, ""),
+        ([Made::InBytes("g"), Made::Gauge("g_bytes")], 12, "g_bytes"),
+        ([Made::InSeconds("g"), Made::InOwnSeconds("g")], 12, "g"),
+        ([Made::Gauge("g"), Made::Gauge("g")], 4, "g"),
+    ] {
+        expect_second(rt.alloc(), both, number, text)?;
+    }
     Ok(())
 }
 
+<<<<<<< HEAD:crates/fm_tests_names/src/names.rt
 #[test]
 fn metrics_beside_one_another(rt: HostRuntime) -> Result<(), Fail> {
     let alloc = rt.alloc();
@@ -103,32 +136,35 @@ fn metrics_beside_one_another(rt: HostRuntime) -> Result<(), Fail> {
 }
 
 // A subsystem, a gauge whose name is below it, one whose name doesn't, and a subsystem above that.
+=======
+// A subsystem, a gauge whose name lies below it, one whose name doesn't, and a subsystem above that.
+>>>>>>> 1f58115291ba2b968c5eb65ceb5a1c97d25ef8d8:crates/fm_tests_trees/src/names.rt
 fn calls_with_taken_names(alloc: Global) -> Result<Vec<RegistryCall>, AllocError> {
-    let mut calls = Vec::new(alloc);
-    calls.push(child_call(alloc, "db")?)?;
-    calls.push(gauge_call(alloc, "db_up")?)?;
-    calls.push(gauge_call(alloc, "up_now")?)?;
-    calls.push(child_call(alloc, "up")?)?;
-    calls.push(gauge_at(alloc, &["up"], "now", 2)?)?;
-    calls.push(gauge_at(alloc, &["db"], "up", 3)?)?;
-    Ok(calls)
+    calls_at(
+        alloc,
+        &[
+            (&[], "db", None),
+            (&[], "db_up", Some(1)),
+            (&[], "up_now", Some(1)),
+            (&[], "up", None),
+            (&["up"], "now", Some(2)),
+            (&["db"], "up", Some(3)),
+        ],
+    )
 }
 
 #[test]
 fn taken_names_in_a_run(rt: HostRuntime) -> Result<(), Fail> {
     let alloc = rt.alloc();
     let mut registry = Registry::default();
-    let calls = calls_with_taken_names(alloc)?;
-    let answers = registry.run(alloc, calls)?;
+    let answers = registry.run(alloc, calls_with_taken_names(alloc)?)?;
+    assert!(rt; have_numbers(&answers, &[0, 12, 0, 12, 10, 0]));
+    assert!(rt; all_refused(&answers, &[(1, 12, "db_up"), (3, 12, "up")]));
     expect_document_of(
         alloc,
         &registry,
         "# TYPE up_now gauge\n# HELP up_now H\nup_now 1\n# TYPE db_up gauge\n# HELP db_up H\ndb_up 3\n# EOF\n",
-    )?;
-    assert!(rt; have_numbers(&answers, &[0, 12, 0, 12, 10, 0]));
-    assert!(rt; refuses(&answers, 1, 12, "db_up"));
-    assert!(rt; refuses(&answers, 3, 12, "up"));
-    Ok(())
+    )
 }
 
 // A root with the subsystem `db`, and in it the gauge `up`.

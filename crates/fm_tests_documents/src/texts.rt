@@ -1,0 +1,45 @@
+//! Families by texts, and registrations by texts.
+
+use fastmetrics::metrics::counter::{ConstCounter, Counter};
+use fastmetrics::metrics::family::{TextFamily, with_texts};
+use fastmetrics::metrics::gauge::ConstGauge;
+use fastmetrics::raw::{TryDefault, Unit};
+use fastmetrics::registry::{Registry, add, add_with_unit};
+use fm_test_support::support::expect_document_of;
+use fm_test_support::trees::expect_refused;
+use std::test::Fail;
+
+#[test]
+fn members_by_texts(rt: HostRuntime) -> Result<(), Fail> {
+    let alloc = rt.alloc();
+    let requests = TextFamily::<Counter, _>::try_default(rt, alloc)?;
+    for (method, before) in [("GET", 0), ("PUT", 0), ("GET", 1)] {
+        let labels = [("method", method), ("status", "200")];
+        let counted = with_texts(alloc, &requests, &labels, |count| count.inc())?;
+        assert!(rt; counted == before);
+    }
+    let metric = Box::new(alloc, requests)?;
+    let mut registry = Registry::default();
+    add(alloc, &mut registry, "requests", "H", metric)?;
+    expect_document_of(
+        alloc,
+        &registry,
+        "# TYPE requests counter\n# HELP requests H\nrequests_total{method=\"GET\",status=\"200\"} 2\nrequests_total{method=\"PUT\",status=\"200\"} 1\n# EOF\n",
+    )
+}
+
+#[test]
+fn refused_and_accepted_texts(rt: HostRuntime) -> Result<(), Fail> {
+    let alloc = rt.alloc();
+    let mut registry = Registry::default();
+    let counter = Box::new(alloc, ConstCounter::<u64>::new(1))?;
+    expect_refused(add(alloc, &mut registry, "1a", "H", counter), 1, "1a")?;
+    let gauge = Box::new(alloc, ConstGauge::<u64>::new(7))?;
+    let help = "Time that it is up";
+    add_with_unit(alloc, &mut registry, "up", help, Unit::Seconds, gauge)?;
+    expect_document_of(
+        alloc,
+        &registry,
+        "# TYPE up_seconds gauge\n# HELP up_seconds Time that it is up\n# UNIT up_seconds seconds\nup_seconds 7\n# EOF\n",
+    )
+}
