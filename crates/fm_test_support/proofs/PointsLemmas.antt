@@ -1,4 +1,4 @@
--- Points that are handed over one after the other, whichever they are.
+-- Points that are emitted one after the other, whichever they are.
 use Rattle.std.proofs.Common.{◌≡◌, ◌∙◌, ◌++◌, inl, inr, List, [], ◌∷◌, Result, Ok, sym, ap}
 use Rattle.std.specs.List.{flat_map}
 use Rattle.std.proofs.lemmas.Grind.{flat_map-append}
