@@ -1,4 +1,4 @@
-//! The registry that a whole program shares: a part of the program registers its counter in it, another writes its document.
+//! The registry that a whole program shares: it is set, a counter is registered in it, and its document is written.
 #![tactic(auto)]
 
 ghost use Rattle.fastmetrics.specs.HasBook.{HasBook};
