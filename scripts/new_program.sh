@@ -16,27 +16,35 @@ if [[ -e $folder/crates/$name ]]; then
     exit 1
 fi
 
-# The library's crates with what is proved of them, and their lines of crates.txt.
+# The library's crates with what is proved of them, and their lines of crates.txt. What the folder has already stays.
 copy_library() {
-    local line crate
+    local lines line crate
     mkdir -p "$folder/crates"
-    cp "$top/HANDLES" "$folder/"
-    printf 'out/\n' >"$folder/.gitignore"
-    grep -E '^(fm_|fastmetrics)' "$top/crates.txt" | grep -v '^fm_test' >"$folder/crates.txt"
+    [[ -e $folder/HANDLES ]] || cp "$top/HANDLES" "$folder/"
+    [[ -e $folder/.gitignore ]] || printf 'out/\n' >"$folder/.gitignore"
+    lines=$(grep -E '^(fm_|fastmetrics)' "$top/crates.txt" | grep -v '^fm_test')
+    end_line
+    printf '%s\n' "$lines" >>"$folder/crates.txt"
     while read -r line; do
         crate=${line%%[: ]*}
         cp -a "$top/crates/$crate" "$folder/crates/"
-    done <"$folder/crates.txt"
+    done <<<"$lines"
     [[ -e $folder/.git ]] || git -C "$folder" init -q
 }
 
-[[ -f $folder/crates.txt ]] || copy_library
+# Ends the last line of crates.txt, if it has no end.
+end_line() {
+    [[ ! -s $folder/crates.txt || -z $(tail -c 1 "$folder/crates.txt") ]] || echo >>"$folder/crates.txt"
+}
+
+[[ -d $folder/crates/fastmetrics ]] || copy_library
 mkdir -p "$folder/crates/$name"
 cp -r "$top/crates/first_use/src" "$folder/crates/$name/"
 cp "$top/crates/first_use/stdout" "$folder/crates/$name/"
-[[ -z $(tail -c 1 "$folder/crates.txt") ]] || echo >>"$folder/crates.txt"
+end_line
 grep '^first_use' "$top/crates.txt" | sed "s/^first_use/$name/" >>"$folder/crates.txt"
 
+grep -q Wait "$folder/HANDLES" || echo "$folder/HANDLES doesn't allow Wait, which the program needs" >&2
 cat <<END
 $folder/crates/$name/src/main.rt is a copy of crates/first_use. Next:
 

@@ -10,7 +10,7 @@ lay_out() {
     # The crates, with the work that is kept beside them, and the bench's own, whose files get their true endings.
     for crate in "$top"/crates/*/; do
         name=$(basename "$crate")
-        case $name in fm_tests_* | fm_test_support | expose | first_use | worker_pool) continue ;; esac
+        case $name in fm_tests_* | fm_test_support | expose | first_use | global_use | worker_pool) continue ;; esac
         (cd "$top/crates" && find "$name" -path "$name/out" -prune -o -type f -print) |
             while read -r file; do
                 cmp -s "$top/crates/$file" "$folder/crates/$file" || install -D -m 644 "$top/crates/$file" "$folder/crates/$file"
@@ -20,6 +20,6 @@ lay_out() {
     (cd "$top/bench" && find . -mindepth 2 -name "*.in") | while read -r file; do
         cmp -s "$top/bench/$file" "$folder/crates/${file%.in}" || install -D -m 644 "$top/bench/$file" "$folder/crates/${file%.in}"
     done
-    grep -vE '^(fm_test|expose|first_use|worker_pool)' "$top/crates.txt" | cat - "$top/bench/crates.in" >"$folder/crates.txt"
+    grep -vE '^(fm_test|expose|first_use|global_use|worker_pool)' "$top/crates.txt" | cat - "$top/bench/crates.in" >"$folder/crates.txt"
     [[ -d $folder/.git ]] || git -C "$folder" init -q
 }

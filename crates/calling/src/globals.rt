@@ -2,10 +2,32 @@
 ghost use Rattle.fastmetrics.specs.HasBook.{HasBook};
 
 use crate::documents::body;
+use fastmetrics::encoder::EncodeMetric;
 use fastmetrics::format::text::EncodeError;
-use fastmetrics::registry::{GlobalRegistry, Registry, with_global_registry};
+use fastmetrics::registry::{
+    GlobalRegistry, Registry, RegistryError, with_global_registry, with_global_registry_mut,
+};
 use std::alloc::Global;
 use std::sync::Wait;
+
+/// Registers a metric that `main` boxed, on any thread. It waits for the lock.
+pub fn share<R: Wait>(
+    rt: &R,
+    alloc: Global,
+    global: &GlobalRegistry,
+    name: String,
+    help: String,
+    metric: Box<dyn EncodeMetric>,
+) -> Result<(), RegistryError> {
+    with_global_registry_mut(
+        rt,
+        global,
+        |registry: &mut Registry| -> Result<(), RegistryError>
+            requires { HasBook registry.old }
+            ensures { HasBook registry.new }
+        { registry.register(alloc, name, help, metric) },
+    )
+}
 
 /// The document of the registry that the program shares.
 pub fn shared_body<R: Wait>(

@@ -1,2 +1,3 @@
 pub mod IgnoredLemmas
+pub mod PointsLemmas
 pub mod ReplyLemmas

@@ -9,12 +9,27 @@ use fastmetrics::registry::{
     GlobalRegistry, Registry, SetRegistryError, register, register_global, register_metric,
     register_with_unit, set_global_registry, with_global_registry, with_global_registry_mut,
 };
+use fm_test_support::support::expect_text;
+use std::alloc::Global;
 use std::sync::Wait;
 use std::test::Fail;
 
 // Whether no registry can be set any more.
 fn is_decided<R: Wait>(rt: &R, global: &GlobalRegistry) -> bool {
     set_global_registry(rt, global, Registry::default()) == Err(SetRegistryError)
+}
+
+// Fails where another registry can still be set, or where this one has another document.
+fn expect_decided<R: Wait>(
+    rt: &R,
+    alloc: Global,
+    global: &GlobalRegistry,
+    want: &str,
+) -> Result<(), Fail> {
+    if !is_decided(rt, global) {
+        return Err(Fail::new("another registry can still be set"));
+    }
+    expect_text(document(rt, alloc, global)?.as_str(), want)
 }
 
 #[test]
@@ -30,12 +45,12 @@ fn registering_decides(rt: HostRuntime) -> Result<(), Fail> {
         help,
         Box::new(alloc, ConstGauge::new(7i64))?,
     )?;
-    assert!(rt; is_decided(&rt, &global));
-    assert_eq!(rt;
-        document(&rt, alloc, &global)?.as_str(),
-        "# TYPE g gauge\n# HELP g H\ng 7\n# EOF\n"
-    );
-    Ok(())
+    expect_decided(
+        &rt,
+        alloc,
+        &global,
+        "# TYPE g gauge\n# HELP g H\ng 7\n# EOF\n",
+    )
 }
 
 #[test]
@@ -45,12 +60,12 @@ fn registering_with_a_unit_decides(rt: HostRuntime) -> Result<(), Fail> {
     let (name, help) = (String::from_str(alloc, "g")?, String::from_str(alloc, "H")?);
     let metric: Box<dyn EncodeMetric> = Box::new(alloc, ConstGauge::new(7i64))?;
     register_with_unit(&rt, alloc, &global, name, help, Unit::Bytes, metric)?;
-    assert!(rt; is_decided(&rt, &global));
-    assert_eq!(rt;
-        document(&rt, alloc, &global)?.as_str(),
-        "# TYPE g_bytes gauge\n# HELP g_bytes H\n# UNIT g_bytes bytes\ng_bytes 7\n# EOF\n"
-    );
-    Ok(())
+    expect_decided(
+        &rt,
+        alloc,
+        &global,
+        "# TYPE g_bytes gauge\n# HELP g_bytes H\n# UNIT g_bytes bytes\ng_bytes 7\n# EOF\n",
+    )
 }
 
 #[test]
@@ -60,12 +75,12 @@ fn registering_a_metric_decides(rt: HostRuntime) -> Result<(), Fail> {
     let (name, help) = (String::from_str(alloc, "g")?, String::from_str(alloc, "H")?);
     let metric: Box<dyn EncodeMetric> = Box::new(alloc, ConstGauge::new(7i64))?;
     register_metric(&rt, alloc, &global, name, help, None, metric)?;
-    assert!(rt; is_decided(&rt, &global));
-    assert_eq!(rt;
-        document(&rt, alloc, &global)?.as_str(),
-        "# TYPE g gauge\n# HELP g H\ng 7\n# EOF\n"
-    );
-    Ok(())
+    expect_decided(
+        &rt,
+        alloc,
+        &global,
+        "# TYPE g gauge\n# HELP g H\ng 7\n# EOF\n",
+    )
 }
 
 #[test]
@@ -75,12 +90,12 @@ fn registering_all_of_its_own_decides(rt: HostRuntime) -> Result<(), Fail> {
     let up: Box<dyn EncodeMetric> = Box::new(alloc, ConstGauge::new(1i64))?;
     let down: Box<dyn EncodeMetric> = Box::new(alloc, ConstGauge::new(-1i64))?;
     register_global(&rt, alloc, &global, &UpAndDown::new(up, down))?;
-    assert!(rt; is_decided(&rt, &global));
-    assert_eq!(rt;
-        document(&rt, alloc, &global)?.as_str(),
-        "# TYPE up gauge\n# HELP up H\nup 1\n# TYPE down gauge\n# HELP down H\ndown -1\n# EOF\n"
-    );
-    Ok(())
+    expect_decided(
+        &rt,
+        alloc,
+        &global,
+        "# TYPE up gauge\n# HELP up H\nup 1\n# TYPE down gauge\n# HELP down H\ndown -1\n# EOF\n",
+    )
 }
 
 #[test]
@@ -125,12 +140,12 @@ fn a_second_registry_is_refused(rt: HostRuntime) -> Result<(), Fail> {
     );
     let metric: Box<dyn EncodeMetric> = Box::new(alloc, ConstGauge::new(7i64))?;
     register_global(&rt, alloc, &global, &One::new("g", metric))?;
-    assert!(rt; is_decided(&rt, &global));
-    assert_eq!(rt;
-        document(&rt, alloc, &global)?.as_str(),
-        "# TYPE first_g gauge\n# HELP first_g H\nfirst_g 7\n# EOF\n"
-    );
-    Ok(())
+    expect_decided(
+        &rt,
+        alloc,
+        &global,
+        "# TYPE first_g gauge\n# HELP first_g H\nfirst_g 7\n# EOF\n",
+    )
 }
 
 #[test]

@@ -8,6 +8,7 @@ use fastmetrics::registry::{
     GlobalRegistry, Registry, RegistryError, register, register_global, register_metric,
     with_global_registry_mut,
 };
+use fm_test_support::support::expect_text;
 use std::test::Fail;
 
 #[test]
@@ -36,11 +37,10 @@ fn a_metric_is_registered_once(rt: HostRuntime) -> Result<(), Fail> {
     let metric: Box<dyn EncodeMetric> = Box::new(alloc, ConstGauge::new(3i64))?;
     let again = register_global(&rt, alloc, &global, &One::new("up", metric));
     assert!(rt; matches!(again, Err(RegistryError::AlreadyExists { .. })));
-    assert_eq!(rt;
+    expect_text(
         document(&rt, alloc, &global)?.as_str(),
-        "# TYPE up gauge\n# HELP up H\nup 1\n# EOF\n"
-    );
-    Ok(())
+        "# TYPE up gauge\n# HELP up H\nup 1\n# EOF\n",
+    )
 }
 
 #[test]
@@ -62,10 +62,9 @@ fn metrics_go_on_after_those_of_others(rt: HostRuntime) -> Result<(), Fail> {
             ensures { HasBook registry.new }
         { registry.register(alloc, name, help, metric) },
     )?;
-    assert_eq!(rt;
+    expect_text(
         document(&rt, alloc, &global)?.as_str(),
         "# TYPE g gauge\n# HELP g H\ng 7\n# TYPE up gauge\n# HELP up H\nup 1\n\
-         # TYPE down gauge\n# HELP down H\ndown -1\n# TYPE h gauge\n# HELP h H\nh 8\n# EOF\n"
-    );
-    Ok(())
+         # TYPE down gauge\n# HELP down H\ndown -1\n# TYPE h gauge\n# HELP h H\nh 8\n# EOF\n",
+    )
 }

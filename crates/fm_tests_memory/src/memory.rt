@@ -11,7 +11,9 @@ use fastmetrics::metrics::gauge::ConstGauge;
 use fastmetrics::raw::{Fixed, FixedSum, MetricError, Unit};
 use fastmetrics::registry::{Registry, RegistryCall, RegistryError};
 use fm_test_support::support::{Patience, document_of};
-use fm_test_support::trees::{build_below, gauge, have_numbers, labels, register_below, six_calls};
+use fm_test_support::trees::{
+    build_below, gauge, have_numbers, labels, register_below, register_with, six_calls,
+};
 use std::alloc::{AllocError, Global};
 use std::test::Fail;
 
@@ -79,10 +81,7 @@ fn register_up(
     requires { HasBook registry.old }
     ensures { HasBook registry.new }
 {
-    let (Ok(name), Ok(help)) = (String::from_str(alloc, "up"), String::from_str(alloc, "H")) else {
-        return Err(RegistryError::Memory);
-    };
-    registry.register_metric(alloc, name, help, Some(Unit::Bytes), metric)
+    register_with(alloc, registry, "up", "H", Some(Unit::Bytes), metric)
 }
 
 // A gauge with this value.

@@ -9,6 +9,7 @@ use fastmetrics::format::text::{EncodeError, encode};
 use fastmetrics::raw::MetricError;
 use fastmetrics::registry::{Registry, RegistryError};
 use fm_test_support::support::Patience;
+use fm_test_support::trees::register;
 use std::alloc::{AllocError, Global};
 use std::test::Fail;
 
@@ -55,22 +56,7 @@ fn roomy(alloc: Global) -> Result<Vec<u8>, AllocError> {
     Ok(writer)
 }
 
-// What registering a metric as `m` returns.
-fn register_m(
-    alloc: Global,
-    registry: &mut Registry,
-    metric: Box<dyn EncodeMetric>,
-) -> Result<(), RegistryError>
-    requires { HasBook registry.old }
-    ensures { HasBook registry.new }
-{
-    let (Ok(name), Ok(help)) = (String::from_str(alloc, "m"), String::from_str(alloc, "H")) else {
-        return Err(RegistryError::Memory);
-    };
-    registry.register(alloc, name, help, metric)
-}
-
-// Registers this metric, or the spare one if that finds no memory.
+// Registers this metric as `m`, or the spare one where that finds no memory.
 fn add_m(
     alloc: Global,
     patience: &mut Patience,
@@ -81,9 +67,9 @@ fn add_m(
     requires { HasBook registry.old }
     ensures { HasBook registry.new }
 {
-    if let Err(RegistryError::Memory) = register_m(alloc, registry, metric) {
+    if let Err(RegistryError::Memory) = register(alloc, registry, "m", metric) {
         patience.bear()?;
-        register_m(alloc, registry, spare)?;
+        register(alloc, registry, "m", spare)?;
     }
     Ok(())
 }

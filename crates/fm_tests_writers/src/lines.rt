@@ -1,25 +1,10 @@
 //! A document of 100,000 sample lines, for which there is memory.
 
-use fastmetrics::encoder::{EncodeError, EncodePoint, PointEncoder};
 use fm_test_support::members::OneMember;
 use fm_test_support::parts::Word;
+use fm_test_support::points::Repeated;
 use fm_test_support::support::document_alone;
 use std::test::Fail;
-
-// A hundred thousand points of one gauge.
-#[derive(Drop)]
-struct ManyPoints;
-
-impl EncodePoint for ManyPoints {
-    ghost points = { λ _ _. Unit {0} };
-
-    fn encode(&self, encoder: &mut PointEncoder) -> Result<(), EncodeError> {
-        for _ in 0..100_000u32 {
-            encoder.encode_gauge(&5i64)?;
-        }
-        Ok(())
-    }
-}
 
 // Whether a document has a hundred thousand lines of samples.
 fn has_all_lines(document: &str) -> bool {
@@ -32,7 +17,7 @@ fn has_all_lines(document: &str) -> bool {
 #[test]
 fn a_hundred_thousand_lines(rt: HostRuntime) -> Result<(), Fail> {
     let alloc = rt.alloc();
-    let gauge = OneMember::gauge([(Word("k"), Word("v"))], ManyPoints);
+    let gauge = OneMember::gauge([(Word("k"), Word("v"))], Repeated(100_000));
     let document = document_alone(alloc, "t", None, Box::new(alloc, gauge)?)?;
     assert!(rt; has_all_lines(document.as_str()));
     Ok(())

@@ -2,9 +2,9 @@
 //! the document, and once for the common labels.
 
 use super::{BEFORE, Patience, add_up, collected, patient_root};
-use fastmetrics::encoder::{EncodeError, EncodePoint, PointEncoder};
-use fastmetrics::format::text::{Exposition, encode_exposition};
+use fastmetrics::format::text::{EncodeError, Exposition, encode_exposition};
 use fm_test_support::members::OneMember;
+use fm_test_support::points::Repeated;
 use std::alloc::{AllocError, Global};
 use std::test::Fail;
 
@@ -15,30 +15,15 @@ const LINE: &[u8] = b"myapp_up_bytes{env=\"prod\"} 5\n";
 
 const END: &[u8] = b"# EOF\n";
 
-// A thousand points of one gauge.
-#[derive(Drop)]
-struct Thousand;
-
-impl EncodePoint for Thousand {
-    ghost points = { λ _ _. Unit {0} };
-
-    fn encode(&self, encoder: &mut PointEncoder) -> Result<(), EncodeError> {
-        for _ in 0..1000u32 {
-            encoder.encode_gauge(&5i64)?;
-        }
-        Ok(())
-    }
-}
-
-fn gauge_of_lines(alloc: Global) -> Result<Box<OneMember<(), Thousand>>, AllocError> {
-    let gauge = Box::new(alloc, OneMember::gauge((), Thousand))?;
+fn gauge_of_lines(alloc: Global) -> Result<Box<OneMember<(), Repeated>>, AllocError> {
+    let gauge = Box::new(alloc, OneMember::gauge((), Repeated(1000)))?;
     Ok(gauge)
 }
 
 fn patient_gauge_of_lines(
     alloc: Global,
     patience: &mut Patience,
-) -> Result<Box<OneMember<(), Thousand>>, Fail> {
+) -> Result<Box<OneMember<(), Repeated>>, Fail> {
     match gauge_of_lines(alloc) {
         Ok(gauge) => Ok(gauge),
         Err(_) => {

@@ -1,35 +1,15 @@
 //! A counter with an exemplar under refused memory.
-ghost use Rattle.std.specs.Prelude.{[], ◌∷◌, ◌≡◌, None};
-ghost use Rattle.fastmetrics.specs.Points.{CounterPoint};
 
 use super::{bear, expect_document};
-use fastmetrics::encoder::{
-    EncodeCounterValue, EncodeError, EncodeExemplar, EncodePoint, LabeledExemplar, PointEncoder,
-};
+use fastmetrics::encoder::LabeledExemplar;
 use fastmetrics::raw::{Fixed, MetricError, MetricType};
 use fm_test_support::members::OneMember;
+use fm_test_support::points::CounterWith;
 use fm_test_support::support::Patience;
 use fm_test_support::trees::labels;
 use std::alloc::{AllocError, Global};
 use std::test::Fail;
 use std::time::Duration;
-
-// A counter's point with an exemplar.
-#[derive(Drop)]
-struct CounterWith<V, E> {
-    total: V,
-    exemplar: E,
-}
-
-impl<V: EncodeCounterValue, E: EncodeExemplar> EncodePoint for CounterWith<V, E> {
-    ghost points = { λ p ps. ps ≡ CounterPoint (V.numbers p.total) (E.exemplars p.exemplar) None ∷ [] };
-
-    ghost may_fault = { λ _. Unit {0} };
-
-    fn encode(&self, encoder: &mut PointEncoder) -> Result<(), EncodeError> {
-        encoder.encode_counter(&self.total, Some(&self.exemplar), None)
-    }
-}
 
 type Traced = OneMember<(), CounterWith<u64, LabeledExemplar<Vec<(String, String)>>>>;
 
