@@ -60,6 +60,8 @@ pub struct PointEncoder {
     refused: Option<EncodeError>,
     // The labels of the buckets of the histogram before.
     bounds: Vec<BoundLabel>,
+    // The labels of a sample that has none of its own.
+    none: LabelText,
 }
 
 impl Model for PointEncoder {
@@ -89,26 +91,26 @@ fn push_to(
     kind: SampleKind,
     common: &LabelText,
     own: &LabelText,
-    value: Value,
+    value: &Value,
     time: Option<u128>,
     exemplar: Option<Exemplar>,
 ) -> Result<(), EncodeError>
     requires labels { AreLabels (common.now.labels ++ own.now.labels) }
     requires shared { AreShared common.now.labels sink.old.shared }
-    requires fits { FitsType metric_type kind (value_of value) (option_map exemplar_of exemplar) }
+    requires fits { FitsType metric_type kind (value_of value.now) (option_map exemplar_of exemplar) }
     requires time { IfSome time AreMillis }
     ensures shared { sink.new.shared ≡ sink.old.shared }
     ensures formed { IsSample metric_type (record {
       kind = kind;
       labels = common.now.labels ++ own.now.labels;
-      value = value_of value;
+      value = value_of value.now;
       time = time;
       exemplar = option_map exemplar_of exemplar;
     }) }
     ensures pushed { OnOk result (sink.new.output ≡ appended name.now sink.old.output (record {
       kind = kind;
       labels = common.now.labels ++ own.now.labels;
-      value = value_of value;
+      value = value_of value.now;
       time = time;
       exemplar = option_map exemplar_of exemplar;
     } ∷ [])) }
@@ -168,6 +170,7 @@ impl PointEncoder {
             sink,
             refused: None,
             bounds: Vec::new(alloc),
+            none: LabelText::new(alloc),
         }
     }
 
@@ -233,16 +236,16 @@ impl PointEncoder {
         &mut self,
         kind: SampleKind,
         own: &LabelText,
-        value: Value,
+        value: &Value,
         exemplar: Option<Exemplar>,
     ) -> Result<(), EncodeError>
         requires accepting { self.old.refused ≡ None }
         requires labels { AreLabels self.old.common → AreFree self.old.setting.metric_type self.old.common → AreLabels (self.old.common ++ own.now.labels) }
-        requires fits { FitsType self.old.setting.metric_type kind (value_of value) (option_map exemplar_of exemplar) }
+        requires fits { FitsType self.old.setting.metric_type kind (value_of value.now) (option_map exemplar_of exemplar) }
         ensures pushed { PushesSample (record {
           kind = kind;
           labels = self.old.common ++ own.now.labels;
-          value = value_of value;
+          value = value_of value.now;
           time = self.old.setting.time;
           exemplar = option_map exemplar_of exemplar;
         }) self.old self.new }
@@ -268,21 +271,34 @@ impl PointEncoder {
     fn push_sample(
         &mut self,
         kind: SampleKind,
-        value: Value,
+        value: &Value,
         exemplar: Option<Exemplar>,
     ) -> Result<(), EncodeError>
         requires accepting { self.old.refused ≡ None }
-        requires fits { FitsType self.old.setting.metric_type kind (value_of value) (option_map exemplar_of exemplar) }
+        requires fits { FitsType self.old.setting.metric_type kind (value_of value.now) (option_map exemplar_of exemplar) }
         ensures pushed { PushesSample (record {
           kind = kind;
           labels = self.old.common ++ [];
-          value = value_of value;
+          value = value_of value.now;
           time = self.old.setting.time;
           exemplar = option_map exemplar_of exemplar;
         }) self.old self.new }
         ensures answered { result ≡ result_of self.new.refused }
     {
-        self.push_labeled(kind, &LabelText::new(self.alloc), value, exemplar)
+        match push_to(
+            &mut self.sink,
+            self.name.as_str(),
+            self.labels.metric_type(),
+            kind,
+            self.labels.text(),
+            &self.none,
+            value,
+            self.time,
+            exemplar,
+        ) {
+            Ok(()) => Ok(()),
+            Err(error) => self.refuse(error),
+        }
     }
 
     pub(crate) fn refused(&self) -> Option<EncodeError>

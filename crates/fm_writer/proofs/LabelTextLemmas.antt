@@ -96,6 +96,11 @@ part_of_name old new sep name s e grown utf8 ends starts =
     let is : between s e new ≡ name = ap (λ (t : Text). between s e t) grown.bytes ∙ ap (λ (n : ℕ). between n e (old ++ (sep ++ (name ++ codes "=\"")))) from ∙ ap (λ (n : ℕ). between (length old + length sep) n (old ++ (sep ++ (name ++ codes "=\"")))) to ∙ between_pieces old sep name (codes "=\"") in
     (record { order = omega arith; within = omega arith; utf8 = subst IsUtf8 (sym is) utf8 }, is)
 
+-- the same behind the separator that it has in a list
+pub part_of_listed_name : (old new : Text) (is_first : Bool) (name : Text) (s e : ℕ) → Grown old new (name_in_list is_first name) → IsUtf8 name → e ≡ length new - 2 → s ≡ e - length name → IsPart new (record { start = s; end = e }) × (part_in new (record { start = s; end = e }) ≡ name)
+part_of_listed_name old new true name = part_of_name old new [] name
+part_of_listed_name old new false name = part_of_name old new (codes "\",") name
+
 -- an item of a list of which all are so
 pub all_at : {X : Type 0} (P : X → Type 0) (xs : List X) (i : ℕ) (d : X) → AllByRecursion P xs → i < length xs → P (get_or xs i d)
 all_at P [] i d all within = absurd (omega arith)
@@ -300,3 +305,8 @@ pub list_closed : (listed : Bool) (text : Text) (ps : List Place) (n v : Option 
 list_closed listed text ps n v is_empty may e kept =
     quoted text ps is_empty e
     (subst (λ (w : Option Part). AreKept true text ps None w) may.2 (subst (λ (w : Option Part). AreKept true text ps w v) may.1 (subst (λ (b : Bool). AreKept b text ps n v) may.0 kept)))
+
+-- a part is in order
+pub part_ordered : (text : Text) (part : Option Part) → IfSome part (IsPart text) → IfSome part (λ p. p.start ≤ p.end)
+part_ordered text None is = tt
+part_ordered text (Some p) is = is.order

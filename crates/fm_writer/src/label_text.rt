@@ -1,5 +1,5 @@
 //! Labels that are kept in one text.
-ghost use Rattle.std.specs.Prelude.{◌≡◌, ◌++◌, ◌≤◌, ◌↔◌, IsTrue, [], ◌∷◌, length, drop, map, Contains, OnOk, OnErr, IfOk, Some, None, IsSome, true, is_some, codes, if◌then◌else◌};
+ghost use Rattle.std.specs.Prelude.{◌≡◌, ◌++◌, ◌≤◌, ◌↔◌, IsTrue, [], ◌∷◌, length, drop, map, Contains, OnOk, OnErr, IfOk, Some, None, IsSome, true, is_some, codes, if◌then◌else◌, IfSome};
 ghost use Rattle.std.specs.Option.{option_map};
 ghost use Rattle.std.specs.List.{AllByRecursion};
 ghost use Rattle.fm_grammar.specs.Spelling.{label_list_text, escaped};
@@ -42,18 +42,27 @@ fn append_part(text: &mut GrowingText, part: &str) -> Result<Part, AllocError>
     })
 }
 
-// Appends the name of a label, and returns where it is. Before it come the quote that ends the previous label and a comma, after it the
-// start of the value.
+// Appends the name of a label, after the quote that ends the previous label and a comma, and then the start of the value.
+fn append_listed_name(text: &mut GrowingText, is_first: bool, name: &str) -> Result<(), AllocError>
+    ensures grown { OnOk result (Grown text.old text.new (name_in_list is_first name.now)) }
+    ensures kept { OnErr result (text.new ≡ text.old) }
+{
+    if is_first {
+        return text.append_three(b"", name.as_bytes(), b"=\"");
+    }
+    text.append_three(b"\",", name.as_bytes(), b"=\"")
+}
+
+// Appends the name of a label like this, and returns where it is.
 fn append_name(text: &mut GrowingText, is_first: bool, name: &str) -> Result<Part, AllocError>
     ensures grown { OnOk result (Grown text.old text.new (name_in_list is_first name.now)) }
     ensures part { IfOk result (λ p. IsPart text.new p × (part_in text.new p ≡ name.now)) }
     ensures kept { OnErr result (text.new ≡ text.old) }
 {
-    let separator: &[u8] = if is_first { b"" } else { b"\"," };
-    text.append_three(separator, name.as_bytes(), b"=\"")?;
+    append_listed_name(text, is_first, name)?;
     let end = text.as_slice().len() - 2;
     Ok(Part {
-        start: end - name.len(),
+        start: end - name.as_bytes().len(),
         end,
     })
 }
@@ -129,11 +138,17 @@ fn push_place(
     name: Option<Part>,
     value: Option<Part>,
 ) -> Result<(), AllocError>
+    requires { IfSome value (λ part. part.start ≤ part.end) }
     ensures pushed { OnOk result (places.new.items ≡ places.old.items ++ whole_place name value) }
     ensures kept { OnErr result (places.new.items ≡ places.old.items) }
 {
     match (name, value) {
         (Some(name), Some(value)) => {
+            // The numbers are not copied as a pair: one load of both would wait for the stores of each.
+            let value = Part {
+                start: value.start,
+                end: value.end.max(value.start),
+            };
             places.push(Place { name, value })?;
             Ok(())
         }

@@ -80,14 +80,14 @@ impl Lines {
         kind: SampleKind,
         common: &LabelText,
         own: &LabelText,
-        value: Value,
+        value: &Value,
         time: Option<u128>,
         exemplar: Option<&Exemplar>,
     ) -> Result<(), AllocError>
         ensures { OnOk result (Grown self.old.text self.new.text (sample_row name.now (record {
           kind = kind;
           labels = common.now.labels ++ own.now.labels;
-          value = value_of value;
+          value = value_of value.now;
           time = time;
           exemplar = option_map exemplar_at exemplar.entry;
         }))) }
@@ -98,7 +98,7 @@ impl Lines {
             kind,
             common,
             own,
-            &value,
+            value,
             time,
             exemplar,
         )

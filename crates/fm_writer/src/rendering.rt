@@ -110,7 +110,6 @@ fn append_exemplar<O: Output>(text: &mut O, exemplar: Option<&Exemplar>) -> Resu
 
 // Appends the text of a value, a timestamp, an exemplar and a line feed.
 #[tactic(auto, using(crate::proofs::GrownLemmas::grown))]
-#[inline(always)]
 fn append_shown<O: Output>(
     text: &mut O,
     value: &str,
@@ -131,7 +130,6 @@ fn append_shown<O: Output>(
 }
 
 // Appends a value, a timestamp, an exemplar and a line feed.
-#[inline(always)]
 fn append_reading<O: Output>(
     text: &mut O,
     value: &Value,

@@ -159,7 +159,7 @@ impl Sink {
         kind: SampleKind,
         common: &LabelText,
         own: &LabelText,
-        value: Value,
+        value: &Value,
         time: Option<u128>,
         exemplar: Option<Exemplar>,
     ) -> Result<(), EncodeError>
@@ -168,7 +168,7 @@ impl Sink {
         ensures pushed { OnOk result (self.new.output ≡ appended name.now self.old.output (record {
           kind = kind;
           labels = common.now.labels ++ own.now.labels;
-          value = value_of value;
+          value = value_of value.now;
           time = time;
           exemplar = option_map exemplar_of exemplar;
         } ∷ [])) }
@@ -177,7 +177,7 @@ impl Sink {
         match &mut self.form {
             Form::Samples(_, false) => Err(EncodeError::Memory),
             Form::Samples(store, true) => match copied(self.alloc, own) {
-                Ok(own) => store.push(kind, own, value, time, exemplar),
+                Ok(own) => store.push(kind, own, *value, time, exemplar),
                 Err(_) => Err(EncodeError::Memory),
             },
             Form::Lines(lines) => {

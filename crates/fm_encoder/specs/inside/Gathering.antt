@@ -1,7 +1,7 @@
 -- What holds of a point encoder's fields between calls: the family's name is in snake case, and well formed are the common labels
 -- and the timestamp that further samples get. No common label has a name that the family's type reserves for labels of its own. The
 -- samples that the sink keeps may share the common labels.
-use Rattle.std.specs.Prelude.{IfSome}
+use Rattle.std.specs.Prelude.{IfSome, ◌≡◌, []}
 use Rattle.std.specs.String.{string_bytes}
 use Rattle.fm_grammar.specs.Names.{IsSnakeCase}
 use Rattle.fm_grammar.specs.WellFormed.{AreLabels, AreMillis}
@@ -15,3 +15,4 @@ pub record IsGathering (e : Inside) : Type 0 where
   pub free : AreFree e.labels.metric_type e.labels.labels
   pub shared : AreShared e.labels.labels e.sink.shared
   pub time : IfSome e.time AreMillis
+  pub none : e.none.labels ≡ []

@@ -155,7 +155,7 @@ impl PointEncoder {
             SampleKind::Bucket,
             self.labels.text(),
             own,
-            Value::Whole(i128::from(values)),
+            &Value::Whole(i128::from(values)),
             self.time,
             exemplar,
         ) {

@@ -30,7 +30,7 @@ impl PointEncoder {
     {
         self.begin_point(MetricType::Unknown)?;
         match unknown_number(value) {
-            Ok(number) => self.push_sample(SampleKind::Plain, number, None),
+            Ok(number) => self.push_sample(SampleKind::Plain, &number, None),
             Err(error) => self.refuse(error),
         }
     }
@@ -42,7 +42,7 @@ impl PointEncoder {
     {
         self.begin_point(MetricType::Gauge)?;
         match gauge_number(value) {
-            Ok(number) => self.push_sample(SampleKind::Plain, number, None),
+            Ok(number) => self.push_sample(SampleKind::Plain, &number, None),
             Err(error) => self.refuse(error),
         }
     }
@@ -87,7 +87,7 @@ impl PointEncoder {
             ∷ created_samples self.old.setting self.old.common (option_map millis created)) self.old self.new }
         ensures answered { result ≡ result_of self.new.refused }
     {
-        self.push_sample(SampleKind::Total, number, exemplar)?;
+        self.push_sample(SampleKind::Total, &number, exemplar)?;
         self.push_created(created)
     }
 
@@ -101,7 +101,7 @@ impl PointEncoder {
         match created {
             Some(time) => self.push_sample(
                 SampleKind::Created,
-                Value::Millis(time.as_millis()),
+                &Value::Millis(time.as_millis()),
                 None,
             ),
             None => Ok(()),

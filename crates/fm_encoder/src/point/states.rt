@@ -81,7 +81,7 @@ impl PointEncoder {
             return self.refuse(EncodeError::Memory);
         }
         let value = Value::Whole(if state.1 { 1 } else { 0 });
-        self.push_labeled(SampleKind::Plain, own, value, None)
+        self.push_labeled(SampleKind::Plain, own, &value, None)
     }
 
     /// Takes an info's point: its labels, which come after the common ones. Errors, in this order: the family has another type
@@ -96,7 +96,7 @@ impl PointEncoder {
             return self.refuse(error);
         }
         match labels_from(self.alloc, all.text(), self.labels.text().len()) {
-            Ok(own) => self.push_labeled(SampleKind::Info, &own, Value::Whole(1), None),
+            Ok(own) => self.push_labeled(SampleKind::Info, &own, &Value::Whole(1), None),
             Err(_) => self.refuse(EncodeError::Memory),
         }
     }

@@ -71,6 +71,6 @@ impl PointEncoder {
             return self.refuse(EncodeError::Memory);
         }
         let value = Value::Fixed(FixedSum::from(quantile.value()));
-        self.push_labeled(SampleKind::Plain, own, value, None)
+        self.push_labeled(SampleKind::Plain, own, &value, None)
     }
 }

@@ -66,7 +66,7 @@ impl PointEncoder {
         ensures pushed { PushesSamples (total_samples self.old.setting self.old.common of_count of_sum count sum) self.old self.new }
         ensures answered { result ≡ result_of self.new.refused }
     {
-        self.push_sample(of_count, count_value(count), None)?;
-        self.push_sample(of_sum, sum_value(sum), None)
+        self.push_sample(of_count, &count_value(count), None)?;
+        self.push_sample(of_sum, &sum_value(sum), None)
     }
 }

@@ -16,4 +16,5 @@ invariant_of-self g c =
       free = subst (λ (t : MetricType). AreFree t labels) (sym read.type_kept) (subst (AreFree type) (sym read.gathered.1) (AreFree-written type [] _ read.gathered.0));
       shared = read.shared;
       time = c.self.invariant.time;
+      none = c.self.invariant.none;
     }
