@@ -32,7 +32,8 @@ fn tested(
     labels: &[(String, String)],
 ) -> Result<LabelText, EncodeError>
     ensures { MatchResult result
-        (λ ls. LabelsClean metric_type [] (handed_again (labels_of labels.now)) × (ls.labels ≡ all_written (handed_again (labels_of labels.now))))
+        (λ ls. LabelsClean metric_type [] (handed_again (labels_of labels.now))
+        × (ls.labels ≡ all_written (handed_again (labels_of labels.now))))
         (λ k. OwnRefusal ⊥ k ⊎ LabelsFault k metric_type [] (handed_again (labels_of labels.now))) }
 {
     let mut encoder = LabelSetEncoder::new(alloc, metric_type);
@@ -67,7 +68,9 @@ impl ConstantLabels {
         metric_type: MetricType,
         labels: &[(String, String)],
     ) -> Result<ConstantLabels, EncodeError>
-        ensures made { IfOk result (λ constants. constants ≡ record { metric_type = metric_type; labels = labels_of labels.now }) }
+        ensures made { IfOk result
+            (λ constants. constants
+            ≡ record { metric_type = metric_type; labels = labels_of labels.now }) }
         ensures memory { IfErr result (λ e. e ≡ EncodeError.Memory) }
     {
         match tested(alloc, metric_type, labels) {
@@ -96,7 +99,8 @@ impl ConstantLabels {
         metric_type: MetricType,
         labels: &[(String, String)],
     ) -> Result<(), EncodeError>
-        ensures begun { OnOk result (self.new ≡ record { metric_type = metric_type; labels = labels_of labels.now }) }
+        ensures begun { OnOk result
+            (self.new ≡ record { metric_type = metric_type; labels = labels_of labels.now }) }
         ensures kept { OnErr result (self.new ≡ self.old) }
         ensures memory { IfErr result (λ e. e ≡ EncodeError.Memory) }
     {
@@ -116,8 +120,10 @@ impl ConstantLabels {
         ensures type_kept { encoder.new.metric_type ≡ encoder.old.metric_type }
         ensures gathered { let all = handed_again self.now.labels ++ LS.labels labels.now in
             MatchResult result
-            (λ _. LabelsClean encoder.old.metric_type [] all × (encoder.new.labels ≡ all_written all))
-            (λ k. OwnRefusal (LS.may_fault labels.now) k ⊎ LabelsFault k encoder.old.metric_type [] all) }
+            (λ _. LabelsClean encoder.old.metric_type [] all
+            × (encoder.new.labels ≡ all_written all))
+            (λ k. OwnRefusal (LS.may_fault labels.now) k
+            ⊎ LabelsFault k encoder.old.metric_type [] all) }
     {
         if let Some(error) = self.refusal {
             return Err(error);

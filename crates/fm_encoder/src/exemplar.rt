@@ -36,7 +36,8 @@ pub trait EncodeExemplar {
 
     /// Passes the exemplar to the encoder.
     fn encode(&self, encoder: &mut ExemplarEncoder) -> Result<(), EncodeError>
-        ensures { HandsExemplars (exemplars self.now) (may_fault self.now) encoder.old encoder.new result };
+        ensures { HandsExemplars (exemplars self.now) (may_fault self.now)
+            encoder.old encoder.new result };
 }
 
 /// No exemplar.
@@ -95,7 +96,10 @@ impl ExemplarEncoder {
         value: Fixed,
         time: Option<Duration>,
     ) -> Result<(), EncodeError>
-        ensures handed { HandsExemplars (record { labels = LS.labels labels.now; value = value; time = option_map millis time } ∷ []) (LS.may_fault labels.now) self.old self.new result }
+        ensures handed { HandsExemplars
+            (record { labels = LS.labels labels.now; value = value; time = option_map millis time }
+            ∷ [])
+            (LS.may_fault labels.now) self.old self.new result }
         ensures answered { result ≡ result_of self.new.refused }
     {
         if let Some(error) = self.refused {
@@ -121,9 +125,12 @@ fn exemplar_from<LS: EncodeLabelSet>(
     value: Fixed,
     time: Option<Duration>,
 ) -> Result<Exemplar, EncodeError>
-    ensures { let handed : HandedExemplar = record { labels = LS.labels labels.now; value = value; time = option_map millis time } in
+    ensures { let handed : HandedExemplar =
+        record { labels = LS.labels labels.now; value = value; time = option_map millis time } in
         MatchResult result
-        (λ x. ExemplarPartsClean handed × (exemplar_of x ≡ written_as handed) × IsExemplar (exemplar_of x))
+        (λ x. ExemplarPartsClean handed
+        × (exemplar_of x ≡ written_as handed)
+        × IsExemplar (exemplar_of x))
         (λ k. OwnRefusal (LS.may_fault labels.now) k ⊎ ExemplarPartsFault k handed) }
 {
     let written = written_labels(alloc, labels)?;
@@ -159,8 +166,10 @@ fn written_labels<LS: EncodeLabelSet>(
     labels: &LS,
 ) -> Result<Vec<(String, String)>, EncodeError>
     ensures { MatchResult result
-        (λ ls. LabelsClean Unknown [] (LS.labels labels.now) × (labels_of ls.items ≡ all_written (LS.labels labels.now)))
-        (λ k. OwnRefusal (LS.may_fault labels.now) k ⊎ LabelsFault k Unknown [] (LS.labels labels.now)) }
+        (λ ls. LabelsClean Unknown [] (LS.labels labels.now)
+        × (labels_of ls.items ≡ all_written (LS.labels labels.now)))
+        (λ k. OwnRefusal (LS.may_fault labels.now) k
+        ⊎ LabelsFault k Unknown [] (LS.labels labels.now)) }
 {
     let mut encoder = LabelSetEncoder::new(alloc, MetricType::Unknown);
     let visited = labels.encode(&mut encoder);
@@ -175,8 +184,11 @@ pub(crate) fn exemplar_given<E: EncodeExemplar>(
     exemplar: &E,
 ) -> Result<Option<Exemplar>, EncodeError>
     ensures { MatchResult result
-        (λ found. ExemplarClean (E.exemplars exemplar.now) × (option_map exemplar_of found ≡ written_exemplar (E.exemplars exemplar.now)) × IfSome found (λ x. IsExemplar (exemplar_of x)))
-        (λ k. OwnRefusal (E.may_fault exemplar.now) k ⊎ ExemplarFault k (E.exemplars exemplar.now)) }
+        (λ found. ExemplarClean (E.exemplars exemplar.now)
+        × (option_map exemplar_of found ≡ written_exemplar (E.exemplars exemplar.now))
+        × IfSome found (λ x. IsExemplar (exemplar_of x)))
+        (λ k. OwnRefusal (E.may_fault exemplar.now) k
+        ⊎ ExemplarFault k (E.exemplars exemplar.now)) }
 {
     let mut encoder = ExemplarEncoder {
         alloc,
@@ -205,8 +217,11 @@ pub(crate) fn exemplar_if_any<E: EncodeExemplar>(
 ) -> Result<Option<Exemplar>, EncodeError>
     ensures { let handed = option_map_or (λ e. E.exemplars e.now) exemplar.entry [] in
         MatchResult result
-        (λ found. ExemplarClean handed × (option_map exemplar_of found ≡ written_exemplar handed) × IfSome found (λ x. IsExemplar (exemplar_of x)))
-        (λ k. OwnRefusal (MatchOption exemplar.entry ⊥ (λ e. E.may_fault e.now)) k ⊎ ExemplarFault k handed) }
+        (λ found. ExemplarClean handed
+        × (option_map exemplar_of found ≡ written_exemplar handed)
+        × IfSome found (λ x. IsExemplar (exemplar_of x)))
+        (λ k. OwnRefusal (MatchOption exemplar.entry ⊥ (λ e. E.may_fault e.now)) k
+        ⊎ ExemplarFault k handed) }
 {
     match exemplar {
         Some(exemplar) => exemplar_given(alloc, exemplar),

@@ -31,8 +31,10 @@ pub(crate) fn labels_behind<LS: EncodeLabelSet>(
 ) -> Result<(), EncodeError>
     ensures type_kept { encoder.new.metric_type ≡ encoder.old.metric_type }
     ensures gathered { MatchResult result
-        (λ _. LabelsClean encoder.old.metric_type before.now.labels (LS.labels labels.now) × (encoder.new.labels ≡ before.now.labels ++ all_written (LS.labels labels.now)))
-        (λ k. OwnRefusal (LS.may_fault labels.now) k ⊎ LabelsFault k encoder.old.metric_type before.now.labels (LS.labels labels.now)) }
+        (λ _. LabelsClean encoder.old.metric_type before.now.labels (LS.labels labels.now)
+        × (encoder.new.labels ≡ before.now.labels ++ all_written (LS.labels labels.now)))
+        (λ k. OwnRefusal (LS.may_fault labels.now) k
+        ⊎ LabelsFault k encoder.old.metric_type before.now.labels (LS.labels labels.now)) }
 {
     if before.len() == 0 {
         encoder.begin(encoder.metric_type());

@@ -26,7 +26,8 @@ impl Model for KnownNames {
 
     ghost Value = { KnownState };
 
-    ghost view = { λ k. record { metric_type = k.metric_type; names = map string_bytes k.names.items } };
+    ghost view = { λ k.
+        record { metric_type = k.metric_type; names = map string_bytes k.names.items } };
 
     ghost invariant = { λ k. AreTested k.metric_type [] (map string_bytes k.names.items) };
 }
@@ -56,7 +57,8 @@ impl KnownNames {
     // Whether the name at this index is known to be this one.
     pub(crate) fn has_at(&self, index: usize, name: &str) -> bool
         ensures known { IsTrue result → slice_get self.now.names index ≡ Some name.now }
-        ensures follows { IsTrue result → MayFollow self.now.metric_type (take index self.now.names) name.now }
+        ensures follows { IsTrue result
+            → MayFollow self.now.metric_type (take index self.now.names) name.now }
     {
         match self.names.get(index) {
             Some(known) => is_name(known, name),
@@ -69,9 +71,12 @@ impl KnownNames {
     #[cold]
     #[tactic(auto, using(crate::proofs::KnownNamesLemmas::tested_first, crate::proofs::KnownNamesLemmas::tested_learnt, crate::proofs::KnownNamesLemmas::learnt_names))]
     pub(crate) fn learn(&mut self, is_known: bool, count: usize, name: &str) -> bool
-        requires { is_known ≡ true → MayFollow self.old.metric_type (take count self.old.names) name.now }
+        requires { is_known ≡ true
+            → MayFollow self.old.metric_type (take count self.old.names) name.now }
         ensures kept { self.new.metric_type ≡ self.old.metric_type }
-        ensures learnt { IsTrue result → (is_known ≡ true) × (self.new.names ≡ take count self.old.names ++ name.now ∷ []) }
+        ensures learnt { IsTrue result
+            → (is_known ≡ true)
+            × (self.new.names ≡ take count self.old.names ++ name.now ∷ []) }
     {
         if !is_known {
             return false;

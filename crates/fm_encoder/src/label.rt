@@ -26,7 +26,8 @@ pub trait EncodeLabelName {
 
     /// Passes the name to the encoder by `encode_label_name`.
     fn encode(&self, encoder: &mut LabelEncoder) -> Result<(), EncodeError>
-        ensures { HandsPieces (pieces self.now) (may_fault self.now) encoder.old encoder.new result };
+        ensures { HandsPieces (pieces self.now) (may_fault self.now)
+            encoder.old encoder.new result };
 }
 
 /// A source of the value of a label.
@@ -42,7 +43,8 @@ pub trait EncodeLabelValue {
 
     /// Passes the value to the encoder by one of its `encode_.._value` calls.
     fn encode(&self, encoder: &mut LabelEncoder) -> Result<(), EncodeError>
-        ensures { HandsPieces (pieces self.now) (may_fault self.now) encoder.old encoder.new result };
+        ensures { HandsPieces (pieces self.now) (may_fault self.now)
+            encoder.old encoder.new result };
 
     /// Whether a label with this value is left out: `false` for most values.
     fn skip_encoding(&self) -> bool
@@ -59,7 +61,8 @@ pub trait EncodeLabel {
 
     /// Passes the label to the encoder.
     fn encode(&self, encoder: &mut LabelEncoder) -> Result<(), EncodeError>
-        ensures { HandsPieces (pieces self.now) (may_fault self.now) encoder.old encoder.new result };
+        ensures { HandsPieces (pieces self.now) (may_fault self.now)
+            encoder.old encoder.new result };
 }
 
 /// Gathers the pieces of one label, which follows the labels before it.
@@ -87,7 +90,8 @@ impl Model for LabelEncoder {
       refused = e.refused;
     } };
 
-    ghost invariant = { λ e. AreKnown e.metric_type e.known e.is_known e.labels.labels e.labels.name };
+    ghost invariant = { λ e.
+        AreKnown e.metric_type e.known e.is_known e.labels.labels e.labels.name };
 }
 
 impl LabelEncoder {
@@ -105,7 +109,8 @@ impl LabelEncoder {
 
     // Removes all labels, as if nothing had been refused, for a family of this type.
     fn begin(&mut self, metric_type: MetricType)
-        ensures { self.new ≡ record { metric_type = metric_type; labels = []; pieces = []; refused = None } }
+        ensures { self.new
+            ≡ record { metric_type = metric_type; labels = []; pieces = []; refused = None } }
     {
         self.metric_type = metric_type;
         self.refused = None;
@@ -185,7 +190,8 @@ impl LabelEncoder {
         requires accepting { self.old.refused ≡ None }
         ensures type_kept { self.new.metric_type ≡ self.old.metric_type }
         ensures pieces { self.new.refused ≡ None → self.new.pieces ≡ [] }
-        ensures labels { self.new.refused ≡ None → self.new.labels ≡ self.old.labels ++ written self.old.pieces }
+        ensures labels { self.new.refused ≡ None
+            → self.new.labels ≡ self.old.labels ++ written self.old.pieces }
         ensures refused { (k : EncodeError) → self.new.refused ≡ Some k → k ≡ EncodeError.Memory }
         ensures answered { result ≡ result_of self.new.refused }
     {
@@ -268,7 +274,8 @@ impl LabelSetEncoder {
     // Replaces its labels by copies of these, as if nothing had been refused. If memory runs out, nothing is known of its labels.
     pub(crate) fn restart(&mut self, before: &LabelText) -> Result<(), AllocError>
         ensures type_kept { self.new.metric_type ≡ self.old.metric_type }
-        ensures restarted { OnOk result (self.new ≡ record self.old { labels = before.now.labels; refused = None }) }
+        ensures restarted { OnOk result
+            (self.new ≡ record self.old { labels = before.now.labels; refused = None }) }
     {
         self.label.restart(before)
     }
@@ -283,7 +290,8 @@ impl LabelSetEncoder {
     /// Takes one more label. Besides the errors of its name and its value: a name without a value is refused as
     /// `MalformedLabel`, and the label's own error becomes `Memory` or `MetricFault`.
     pub fn encode<L: EncodeLabel>(&mut self, label: &L) -> Result<(), EncodeError>
-        ensures handed { HandsLabels (L.pieces label.now ∷ []) (L.may_fault label.now) self.old self.new result }
+        ensures handed { HandsLabels (L.pieces label.now ∷ []) (L.may_fault label.now)
+            self.old self.new result }
         ensures answered { result ≡ result_of self.new.refused }
     {
         let visited = label.encode(&mut self.label);
@@ -294,7 +302,9 @@ impl LabelSetEncoder {
     pub(crate) fn outcome(&self, visited: Result<(), EncodeError>) -> Result<(), EncodeError>
         ensures { MatchResult result
             (λ _. (self.now.refused ≡ None) × (visited ≡ Ok tt))
-            (λ k. (self.now.refused ≡ Some k) ⊎ ((e : EncodeError) × (self.now.refused ≡ None) × (visited ≡ Err e) × (k ≡ own_refusal e))) }
+            (λ k. (self.now.refused ≡ Some k)
+            ⊎ ((e : EncodeError)
+            × (self.now.refused ≡ None) × (visited ≡ Err e) × (k ≡ own_refusal e))) }
     {
         if let Some(error) = self.label.refused {
             return Err(error);

@@ -20,7 +20,8 @@ impl LabelEncoder {
 
     /// Takes the number in decimal as the label's value. It fails as `encode_str_value` does.
     pub fn encode_i8_value(&mut self, value: i8) -> Result<(), EncodeError>
-        ensures handed { HandsPieces (ValuePiece (signed_decimal value) ∷ []) ⊥ self.old self.new result }
+        ensures handed { HandsPieces (ValuePiece (signed_decimal value) ∷ []) ⊥
+            self.old self.new result }
         ensures answered { result ≡ result_of self.new.refused }
     {
         self.encode_integer_value(value)
@@ -28,7 +29,8 @@ impl LabelEncoder {
 
     /// Takes the number in decimal as the label's value. It fails as `encode_str_value` does.
     pub fn encode_i16_value(&mut self, value: i16) -> Result<(), EncodeError>
-        ensures handed { HandsPieces (ValuePiece (signed_decimal value) ∷ []) ⊥ self.old self.new result }
+        ensures handed { HandsPieces (ValuePiece (signed_decimal value) ∷ []) ⊥
+            self.old self.new result }
         ensures answered { result ≡ result_of self.new.refused }
     {
         self.encode_integer_value(value)
@@ -36,7 +38,8 @@ impl LabelEncoder {
 
     /// Takes the number in decimal as the label's value. It fails as `encode_str_value` does.
     pub fn encode_i32_value(&mut self, value: i32) -> Result<(), EncodeError>
-        ensures handed { HandsPieces (ValuePiece (signed_decimal value) ∷ []) ⊥ self.old self.new result }
+        ensures handed { HandsPieces (ValuePiece (signed_decimal value) ∷ []) ⊥
+            self.old self.new result }
         ensures answered { result ≡ result_of self.new.refused }
     {
         self.encode_integer_value(value)
@@ -44,7 +47,8 @@ impl LabelEncoder {
 
     /// Takes the number in decimal as the label's value. It fails as `encode_str_value` does.
     pub fn encode_i64_value(&mut self, value: i64) -> Result<(), EncodeError>
-        ensures handed { HandsPieces (ValuePiece (signed_decimal value) ∷ []) ⊥ self.old self.new result }
+        ensures handed { HandsPieces (ValuePiece (signed_decimal value) ∷ []) ⊥
+            self.old self.new result }
         ensures answered { result ≡ result_of self.new.refused }
     {
         self.encode_integer_value(value)
@@ -52,7 +56,8 @@ impl LabelEncoder {
 
     /// Takes the number in decimal as the label's value. It fails as `encode_str_value` does.
     pub fn encode_i128_value(&mut self, value: i128) -> Result<(), EncodeError>
-        ensures handed { HandsPieces (ValuePiece (signed_decimal value) ∷ []) ⊥ self.old self.new result }
+        ensures handed { HandsPieces (ValuePiece (signed_decimal value) ∷ []) ⊥
+            self.old self.new result }
         ensures answered { result ≡ result_of self.new.refused }
     {
         self.encode_integer_value(value)
@@ -60,7 +65,8 @@ impl LabelEncoder {
 
     /// Takes the number in decimal as the label's value. It fails as `encode_str_value` does.
     pub fn encode_isize_value(&mut self, value: isize) -> Result<(), EncodeError>
-        ensures handed { HandsPieces (ValuePiece (signed_decimal value) ∷ []) ⊥ self.old self.new result }
+        ensures handed { HandsPieces (ValuePiece (signed_decimal value) ∷ []) ⊥
+            self.old self.new result }
         ensures answered { result ≡ result_of self.new.refused }
     {
         self.encode_integer_value(value)

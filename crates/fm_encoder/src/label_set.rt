@@ -18,7 +18,8 @@ pub trait EncodeLabelSet {
 
     /// Passes the labels to the encoder, one after the other.
     fn encode(&self, encoder: &mut LabelSetEncoder) -> Result<(), EncodeError>
-        ensures { HandsLabels (labels self.now) (may_fault self.now) encoder.old encoder.new result };
+        ensures { HandsLabels (labels self.now) (may_fault self.now)
+            encoder.old encoder.new result };
 
     /// Whether it has no labels. If it returns true, the labels are not read.
     fn is_empty(&self) -> bool
@@ -33,7 +34,8 @@ pub(crate) fn encode_all<T: EncodeLabel>(
     labels: &[T],
     encoder: &mut LabelSetEncoder,
 ) -> Result<(), EncodeError>
-    ensures { HandsLabels (map T.pieces labels.now) (Any T.may_fault labels.now) encoder.old encoder.new result }
+    ensures { HandsLabels (map T.pieces labels.now) (Any T.may_fault labels.now)
+        encoder.old encoder.new result }
 {
     for label in labels {
         encoder.encode(label)?;

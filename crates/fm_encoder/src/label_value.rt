@@ -175,7 +175,9 @@ impl<N: EncodeLabelName, V: EncodeLabelValue> EncodeLabel for (N, V) {
 impl LabelEncoder {
     /// Takes the text `true` or `false` as the label's value. It fails as `encode_str_value` does.
     pub fn encode_bool_value(&mut self, value: bool) -> Result<(), EncodeError>
-        ensures handed { HandsPieces (ValuePiece (if value then codes "true" else codes "false") ∷ []) ⊥ self.old self.new result }
+        ensures handed { HandsPieces
+            (ValuePiece (if value then codes "true" else codes "false") ∷ []) ⊥
+            self.old self.new result }
         ensures answered { result ≡ result_of self.new.refused }
     {
         self.encode_str_value(if value { "true" } else { "false" })
@@ -183,7 +185,8 @@ impl LabelEncoder {
 
     /// Takes a number of millionths, written in decimal, as the label's value. It fails as `encode_str_value` does.
     pub fn encode_fixed_value(&mut self, value: Fixed) -> Result<(), EncodeError>
-        ensures handed { HandsPieces (ValuePiece (fixed_text value) ∷ []) ⊥ self.old self.new result }
+        ensures handed { HandsPieces (ValuePiece (fixed_text value) ∷ []) ⊥
+            self.old self.new result }
         ensures answered { result ≡ result_of self.new.refused }
     {
         let mut buffer = FixedBuffer::new();

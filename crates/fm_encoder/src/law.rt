@@ -6,6 +6,8 @@ ghost use Rattle.fm_encoder.specs.Points.{HandedExemplar, Setting, values_in, bu
 
 /// The sample of the bucket at an index shows how many values this bucket and those before it have together.
 pub fn counts_add_up()
-    ensures { (setting : Setting) (common : List Label) (buckets : List Bucket) (slots : List (List HandedExemplar)) (i : ℕ) (sample : Sample)
-        → slice_get (bucket_samples setting common [] buckets slots) i ≡ Some sample → sample.value ≡ Whole (pos (values_in (take (i + 1) buckets))) }
+    ensures { (setting : Setting) (common : List Label) (buckets : List Bucket)
+        (slots : List (List HandedExemplar)) (i : ℕ) (sample : Sample)
+        → slice_get (bucket_samples setting common [] buckets slots) i ≡ Some sample
+        → sample.value ≡ Whole (pos (values_in (take (i + 1) buckets))) }
 {}

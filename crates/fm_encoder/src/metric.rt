@@ -52,7 +52,8 @@ pub trait EncodeMetric: Send + Sync + Drop {
 
     /// Offers the metric's members to the encoder. It may wait if they are under a lock.
     fn encode(&self, encoder: &mut MetricEncoder) -> Result<(), EncodeError>
-        ensures { HandsMembers (offers self.now) (may_fault self.now) encoder.old encoder.new result };
+        ensures { HandsMembers (offers self.now) (may_fault self.now)
+            encoder.old encoder.new result };
 
     /// The metric's type. A registry reads it once, when the metric is registered.
     fn metric_type(&self) -> MetricType
@@ -107,9 +108,13 @@ struct CounterTotal<'a, V, E> {
 }
 
 impl<V: EncodeCounterValue, E: EncodeExemplar> EncodePoint for CounterTotal<'_, V, E> {
-    ghost points = { λ p ps. ps ≡ CounterPoint (V.numbers p.total.now) (option_map_or (λ e. E.exemplars e.now) p.exemplar []) (option_map millis p.created) ∷ [] };
+    ghost points = { λ p ps. ps
+        ≡ CounterPoint (V.numbers p.total.now)
+        (option_map_or (λ e. E.exemplars e.now) p.exemplar [])
+        (option_map millis p.created) ∷ [] };
 
-    ghost may_fault = { λ p. V.may_fault p.total.now ⊎ MatchOption p.exemplar ⊥ (λ e. E.may_fault e.now) };
+    ghost may_fault = { λ p.
+        V.may_fault p.total.now ⊎ MatchOption p.exemplar ⊥ (λ e. E.may_fault e.now) };
 
     fn encode(&self, encoder: &mut PointEncoder) -> Result<(), EncodeError> {
         encoder.encode_counter(self.total, self.exemplar, self.created)
@@ -198,7 +203,8 @@ impl MetricEncoder {
     /// An encoder that appends the lines of families, each of which begins with `begin_family`. Fails with `Memory` if memory
     /// runs out. It is for the collector.
     pub fn for_lines(alloc: Global) -> Result<MetricEncoder, EncodeError>
-        ensures made { IfOk result (λ encoder. (encoder.output ≡ OutputText []) × (encoder.refused ≡ None)) }
+        ensures made { IfOk result
+            (λ encoder. (encoder.output ≡ OutputText []) × (encoder.refused ≡ None)) }
         ensures memory { IfErr result (λ e. e ≡ EncodeError.Memory) }
     {
         let name = String::from_str(alloc, "unnamed")?;
@@ -223,7 +229,8 @@ impl MetricEncoder {
         requires time { IfSome time AreMillis }
         ensures begun { OnOk result (self.new ≡ record {
           context = record {
-            setting = record { name = string_bytes name.old; metric_type = metric_type; time = time };
+            setting =
+                record { name = string_bytes name.old; metric_type = metric_type; time = time };
             constants = labels_of constants.now;
           };
           output = with_lines self.old.output (head_rows (record {
@@ -254,7 +261,10 @@ impl MetricEncoder {
         labels: &LS,
         point: &P,
     ) -> Result<(), EncodeError>
-        ensures handed { HandsMembers (MembersOf (LS.labels labels.now) (P.points point.now)) (LS.may_fault labels.now ⊎ P.may_fault point.now) self.old self.new result }
+        ensures handed { HandsMembers
+            (MembersOf (LS.labels labels.now) (P.points point.now))
+            (LS.may_fault labels.now ⊎ P.may_fault point.now)
+            self.old self.new result }
         ensures answered { result ≡ result_of self.new.refused }
     {
         if let Some(error) = self.points.refused() {
@@ -296,8 +306,11 @@ impl MetricEncoder {
     ) -> Result<(), EncodeError>
         ensures handed { HandsMembers (λ ms. ms ≡ record {
           labels = [];
-          point = CounterPoint (V.numbers total.now) (option_map_or (λ e. E.exemplars e.now) exemplar.entry []) (option_map millis created);
-        } ∷ []) (V.may_fault total.now ⊎ MatchOption exemplar.entry ⊥ (λ e. E.may_fault e.now)) self.old self.new result }
+          point = CounterPoint (V.numbers total.now)
+              (option_map_or (λ e. E.exemplars e.now) exemplar.entry [])
+              (option_map millis created);
+        } ∷ []) (V.may_fault total.now ⊎ MatchOption exemplar.entry ⊥ (λ e. E.may_fault e.now))
+            self.old self.new result }
         ensures answered { result ≡ result_of self.new.refused }
     {
         let point = CounterTotal {
@@ -334,7 +347,9 @@ impl MetricEncoder {
     pub fn outcome(&self, visited: Result<(), EncodeError>) -> Result<(), EncodeError>
         ensures { MatchResult result
             (λ _. (self.now.refused ≡ None) × (visited ≡ Ok tt))
-            (λ k. (self.now.refused ≡ Some k) ⊎ ((e : EncodeError) × (self.now.refused ≡ None) × (visited ≡ Err e) × (k ≡ own_refusal e))) }
+            (λ k. (self.now.refused ≡ Some k)
+            ⊎ ((e : EncodeError)
+            × (self.now.refused ≡ None) × (visited ≡ Err e) × (k ≡ own_refusal e))) }
     {
         if let Some(error) = self.points.refused() {
             return Err(error);

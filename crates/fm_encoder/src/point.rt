@@ -44,7 +44,8 @@ pub trait EncodePoint {
 
     /// Passes the point to the encoder. It may wait if its value is under a lock.
     fn encode(&self, encoder: &mut PointEncoder) -> Result<(), EncodeError>
-        ensures { HandsPoints (points self.now) (may_fault self.now) encoder.old encoder.new result };
+        ensures { HandsPoints (points self.now) (may_fault self.now)
+            encoder.old encoder.new result };
 }
 
 /// Puts the samples of points under one member's labels into a sink.
@@ -71,7 +72,8 @@ impl Model for PointEncoder {
     ghost Value = { GatheredPoints };
 
     ghost view = { λ e. record {
-      setting = record { name = string_bytes e.name; metric_type = e.labels.metric_type; time = e.time };
+      setting =
+          record { name = string_bytes e.name; metric_type = e.labels.metric_type; time = e.time };
       common = e.labels.labels;
       deferred = e.deferred;
       output = e.sink.output;
@@ -97,7 +99,8 @@ fn push_to(
 ) -> Result<(), EncodeError>
     requires labels { AreLabels (common.now.labels ++ own.now.labels) }
     requires shared { AreShared common.now.labels sink.old.shared }
-    requires fits { FitsType metric_type kind (value_of value.now) (option_map exemplar_of exemplar) }
+    requires fits { FitsType metric_type kind
+        (value_of value.now) (option_map exemplar_of exemplar) }
     requires time { IfSome time AreMillis }
     ensures shared { sink.new.shared ≡ sink.old.shared }
     ensures formed { IsSample metric_type (record {
@@ -133,7 +136,8 @@ fn read_labels<LS: EncodeLabelSet>(
     ensures gathered { let all = handed_again constants.now.labels ++ LS.labels labels.now in
         MatchResult result
         (λ _. LabelsClean encoder.old.metric_type [] all × (encoder.new.labels ≡ all_written all))
-        (λ k. OwnRefusal (LS.may_fault labels.now) k ⊎ LabelsFault k encoder.old.metric_type [] all) }
+        (λ k. OwnRefusal (LS.may_fault labels.now) k
+        ⊎ LabelsFault k encoder.old.metric_type [] all) }
 {
     constants.followed_by(encoder, labels)?;
     match sink.share(encoder.text()) {
@@ -186,15 +190,17 @@ impl PointEncoder {
     ) -> Result<(), AllocError>
         requires name { IsSnakeCase (string_bytes name.old) }
         requires time { IfSome time AreMillis }
-        ensures setting { self.new.setting ≡ record { name = string_bytes name.old; metric_type = metric_type; time = time } }
+        ensures setting { self.new.setting
+            ≡ record { name = string_bytes name.old; metric_type = metric_type; time = time } }
         ensures refused { self.new.refused ≡ self.old.refused }
-        ensures output { OnOk result (self.new.output ≡ with_lines self.old.output (head_rows (record {
-          name = string_bytes name.old;
-          metric_type = metric_type;
-          help = help.now;
-          unit = option_copied unit.entry;
-          samples = [];
-        }))) }
+        ensures output { OnOk result
+            (self.new.output ≡ with_lines self.old.output (head_rows (record {
+              name = string_bytes name.old;
+              metric_type = metric_type;
+              help = help.now;
+              unit = option_copied unit.entry;
+              samples = [];
+            }))) }
     {
         mem::swap(&mut self.name, name);
         self.time = time;
@@ -240,8 +246,11 @@ impl PointEncoder {
         exemplar: Option<Exemplar>,
     ) -> Result<(), EncodeError>
         requires accepting { self.old.refused ≡ None }
-        requires labels { AreLabels self.old.common → AreFree self.old.setting.metric_type self.old.common → AreLabels (self.old.common ++ own.now.labels) }
-        requires fits { FitsType self.old.setting.metric_type kind (value_of value.now) (option_map exemplar_of exemplar) }
+        requires labels { AreLabels self.old.common
+            → AreFree self.old.setting.metric_type self.old.common
+            → AreLabels (self.old.common ++ own.now.labels) }
+        requires fits { FitsType self.old.setting.metric_type kind
+            (value_of value.now) (option_map exemplar_of exemplar) }
         ensures pushed { PushesSample (record {
           kind = kind;
           labels = self.old.common ++ own.now.labels;
@@ -275,7 +284,8 @@ impl PointEncoder {
         exemplar: Option<Exemplar>,
     ) -> Result<(), EncodeError>
         requires accepting { self.old.refused ≡ None }
-        requires fits { FitsType self.old.setting.metric_type kind (value_of value.now) (option_map exemplar_of exemplar) }
+        requires fits { FitsType self.old.setting.metric_type kind
+            (value_of value.now) (option_map exemplar_of exemplar) }
         ensures pushed { PushesSample (record {
           kind = kind;
           labels = self.old.common ++ [];
@@ -314,7 +324,10 @@ impl PointEncoder {
         labels: &LS,
     )
         requires { constants.now.metric_type ≡ self.old.setting.metric_type }
-        ensures { BeginsMember (handed_again constants.now.labels ++ LS.labels labels.now) (LS.may_fault labels.now) self.old self.new }
+        ensures { BeginsMember
+            (handed_again constants.now.labels ++ LS.labels labels.now)
+            (LS.may_fault labels.now)
+            self.old self.new }
     {
         match read_labels(&mut self.labels, &mut self.sink, constants, labels) {
             Ok(()) => self.deferred = None,

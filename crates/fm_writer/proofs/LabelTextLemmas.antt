@@ -96,7 +96,7 @@ part_of_name old new sep name s e grown utf8 ends starts =
     let is : between s e new ≡ name = ap (λ (t : Text). between s e t) grown.bytes ∙ ap (λ (n : ℕ). between n e (old ++ (sep ++ (name ++ codes "=\"")))) from ∙ ap (λ (n : ℕ). between (length old + length sep) n (old ++ (sep ++ (name ++ codes "=\"")))) to ∙ between_pieces old sep name (codes "=\"") in
     (record { order = omega arith; within = omega arith; utf8 = subst IsUtf8 (sym is) utf8 }, is)
 
--- the same behind the separator that it has in a list
+-- the same after the separator that it has in a list
 pub part_of_listed_name : (old new : Text) (is_first : Bool) (name : Text) (s e : ℕ) → Grown old new (name_in_list is_first name) → IsUtf8 name → e ≡ length new - 2 → s ≡ e - length name → IsPart new (record { start = s; end = e }) × (part_in new (record { start = s; end = e }) ≡ name)
 part_of_listed_name old new true name = part_of_name old new [] name
 part_of_listed_name old new false name = part_of_name old new (codes "\",") name

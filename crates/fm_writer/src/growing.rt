@@ -48,7 +48,8 @@ fn write_piece(bytes: &mut [u8], at: usize, piece: &[u8]) -> usize
 fn write_three(bytes: &mut [u8], at: usize, first: &[u8], second: &[u8], third: &[u8]) -> usize
     requires { at + length first.now + length second.now + length third.now ≤ length bytes.old }
     ensures end { result ≡ at + length first.now + length second.now + length third.now }
-    ensures written { take result bytes.new ≡ take at bytes.old ++ (first.now ++ (second.now ++ third.now)) }
+    ensures written { take result bytes.new
+        ≡ take at bytes.old ++ (first.now ++ (second.now ++ third.now)) }
 {
     let at = write_piece(bytes, at, first);
     let at = write_piece(bytes, at, second);
@@ -133,7 +134,8 @@ impl GrowingText {
         second: &[u8],
         third: &[u8],
     ) -> Result<(), AllocError>
-        ensures grown { OnOk result (Grown self.old self.new (first.now ++ (second.now ++ third.now))) }
+        ensures grown { OnOk result
+            (Grown self.old self.new (first.now ++ (second.now ++ third.now))) }
         ensures kept { OnErr result (self.new ≡ self.old) }
     {
         let Some(end) = end_of_three(self.end, first.len(), second.len(), third.len()) else {

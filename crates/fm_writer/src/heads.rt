@@ -17,7 +17,8 @@ fn append_type_row<O: Output>(
     name: &str,
     metric_type: MetricType,
 ) -> Result<(), AllocError>
-    ensures { OnOk result (Grows (O.stands_for text.old) (O.stands_for text.new) (ended (type_line name.now metric_type))) }
+    ensures { OnOk result (Grows (O.stands_for text.old) (O.stands_for text.new)
+        (ended (type_line name.now metric_type))) }
 {
     text.put_three(b"# TYPE ", name.as_bytes(), b" ")?;
     text.put_three(metric_type.as_str().as_bytes(), b"\n", b"")
@@ -26,7 +27,8 @@ fn append_type_row<O: Output>(
 // Appends a help line.
 #[tactic(auto, using(crate::proofs::RowLemmas::line), unfolding(fm_grammar::specs::Spelling::help_line))]
 fn append_help_row<O: Output>(text: &mut O, name: &str, help: &str) -> Result<(), AllocError>
-    ensures { OnOk result (Grows (O.stands_for text.old) (O.stands_for text.new) (ended (help_line name.now help.now))) }
+    ensures { OnOk result (Grows (O.stands_for text.old) (O.stands_for text.new)
+        (ended (help_line name.now help.now))) }
 {
     text.put_three(b"# HELP ", name.as_bytes(), b" ")?;
     append_escaped(text, help.as_bytes())?;
@@ -40,7 +42,8 @@ fn append_unit_row<O: Output>(
     name: &str,
     unit: Option<&str>,
 ) -> Result<(), AllocError>
-    ensures { OnOk result (Grows (O.stands_for text.old) (O.stands_for text.new) (unit_row name.now (option_copied unit.entry))) }
+    ensures { OnOk result (Grows (O.stands_for text.old) (O.stands_for text.new)
+        (unit_row name.now (option_copied unit.entry))) }
 {
     match unit {
         Some(unit) => {
@@ -60,13 +63,14 @@ pub(crate) fn append_heads<O: Output>(
     help: &str,
     unit: Option<&str>,
 ) -> Result<(), AllocError>
-    ensures { OnOk result (Grows (O.stands_for text.old) (O.stands_for text.new) (head_rows (record {
-      name = name.now;
-      metric_type = metric_type;
-      help = help.now;
-      unit = option_copied unit.entry;
-      samples = [];
-    }))) }
+    ensures { OnOk result (Grows (O.stands_for text.old) (O.stands_for text.new)
+        (head_rows (record {
+          name = name.now;
+          metric_type = metric_type;
+          help = help.now;
+          unit = option_copied unit.entry;
+          samples = [];
+        }))) }
 {
     append_type_row(text, name, metric_type)?;
     append_help_row(text, name, help)?;

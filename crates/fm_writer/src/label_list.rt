@@ -14,7 +14,8 @@ use std::alloc::AllocError;
 // Appends a label that is kept in another text.
 fn append_placed<O: Output>(text: &mut O, raw: &[u8], place: &Place) -> Result<(), AllocError>
     requires { IsPlace raw.now place.now }
-    ensures { OnOk result (Grows (O.stands_for text.old) (O.stands_for text.new) (label_text (label_in raw.now place.now))) }
+    ensures { OnOk result (Grows (O.stands_for text.old) (O.stands_for text.new)
+        (label_text (label_in raw.now place.now))) }
 {
     append_label(
         text,
@@ -31,7 +32,8 @@ fn append_further_placed<O: Output>(
     place: &Place,
 ) -> Result<(), AllocError>
     requires { IsPlace raw.now place.now }
-    ensures { OnOk result (Grows (O.stands_for text.old) (O.stands_for text.new) (further_label (label_in raw.now place.now))) }
+    ensures { OnOk result (Grows (O.stands_for text.old) (O.stands_for text.new)
+        (further_label (label_in raw.now place.now))) }
 {
     text.put(b",")?;
     append_placed(text, raw, place)
@@ -44,7 +46,8 @@ fn append_further_places<O: Output>(
     places: &[Place],
 ) -> Result<(), AllocError>
     requires { AllByRecursion (IsPlace raw.now) places.now }
-    ensures { OnOk result (Grows (O.stands_for text.old) (O.stands_for text.new) (further_labels (labels_in raw.now places.now))) }
+    ensures { OnOk result (Grows (O.stands_for text.old) (O.stands_for text.new)
+        (further_labels (labels_in raw.now places.now))) }
 {
     for place in places {
         append_further_placed(text, raw, place)?;
@@ -62,7 +65,9 @@ fn append_first_place<O: Output>(
 ) -> Result<(), AllocError>
     requires first { IsPlace raw.now first.now }
     requires others { AllByRecursion (IsPlace raw.now) others.now }
-    ensures { OnOk result (Grows (O.stands_for text.old) (O.stands_for text.new) (label_text (label_in raw.now first.now) ++ further_labels (labels_in raw.now others.now))) }
+    ensures { OnOk result (Grows (O.stands_for text.old) (O.stands_for text.new)
+        (label_text (label_in raw.now first.now)
+        ++ further_labels (labels_in raw.now others.now))) }
 {
     append_placed(text, raw, first)?;
     append_further_places(text, raw, others)
@@ -76,7 +81,8 @@ pub(crate) fn append_placed_list<O: Output>(
     places: &[Place],
 ) -> Result<(), AllocError>
     requires { AllByRecursion (IsPlace raw.now) places.now }
-    ensures { OnOk result (Grows (O.stands_for text.old) (O.stands_for text.new) (label_list_text (labels_in raw.now places.now))) }
+    ensures { OnOk result (Grows (O.stands_for text.old) (O.stands_for text.new)
+        (label_list_text (labels_in raw.now places.now))) }
 {
     match places.split_first() {
         Some((first, others)) => append_first_place(text, raw, first, others),

@@ -165,7 +165,8 @@ fn may_take_name(is_listed: bool, name: Option<Part>, value: Option<Part>) -> bo
 
 // The same after a further value.
 fn may_take_value(is_listed: bool, name: Option<Part>, value: Option<Part>, further: &[u8]) -> bool
-    ensures { IsTrue result → (is_listed ≡ true) × IsSome name × (value ≡ None) × (escaped further.now ≡ further.now) }
+    ensures { IsTrue result
+        → (is_listed ≡ true) × IsSome name × (value ≡ None) × (escaped further.now ≡ further.now) }
 {
     is_listed && name.is_some() && value.is_none() && is_plain(further)
 }
@@ -205,7 +206,8 @@ fn pairs_at<'a>(
 // Appends the labels' list, given the list without the quote at its end, and whether it is empty.
 #[tactic(auto, using(crate::proofs::GrownLemmas::grown))]
 fn append_closed<O: Output>(text: &mut O, list: &[u8], is_empty: bool) -> Result<(), AllocError>
-    ensures { OnOk result (Grows (O.stands_for text.old) (O.stands_for text.new) (list.now ++ (if is_empty then [] else codes "\""))) }
+    ensures { OnOk result (Grows (O.stands_for text.old) (O.stands_for text.new)
+        (list.now ++ (if is_empty then [] else codes "\""))) }
 {
     if is_empty {
         text.put(list)
@@ -304,7 +306,8 @@ impl LabelText {
 
     /// Replaces its labels by copies of these. Fails if memory runs out; then nothing is known of its labels.
     pub fn assign(&mut self, labels: &LabelText) -> Result<(), AllocError>
-        ensures assigned { OnOk result (self.new ≡ record { labels = labels.now.labels; name = None; value = None }) }
+        ensures assigned { OnOk result
+            (self.new ≡ record { labels = labels.now.labels; name = None; value = None }) }
         ensures idle { (self.new.name ≡ None) × (self.new.value ≡ None) }
     {
         self.is_listed = false;
@@ -367,7 +370,8 @@ impl LabelText {
 
     /// Appends the labels with commas between them. Fails if memory runs out.
     pub(crate) fn append_to<O: Output>(&self, text: &mut O) -> Result<(), AllocError>
-        ensures { OnOk result (Grows (O.stands_for text.old) (O.stands_for text.new) (label_list_text self.now.labels)) }
+        ensures { OnOk result (Grows (O.stands_for text.old) (O.stands_for text.new)
+            (label_list_text self.now.labels)) }
     {
         if !may_take_name(self.is_listed, self.name, self.value) {
             return append_placed_list(text, self.text.as_slice(), &self.places);

@@ -25,7 +25,8 @@ pub(crate) trait LabelSource<O: Output> {
     // Appends the labels with commas between them. Fails if memory runs out.
     fn append_to(&self, text: &mut O) -> Result<(), AllocError>
         requires { is_ready self.now }
-        ensures { OnOk result (Grows (O.stands_for text.old) (O.stands_for text.new) (label_list_text (labels self.now))) };
+        ensures { OnOk result (Grows (O.stands_for text.old) (O.stands_for text.new)
+            (label_list_text (labels self.now))) };
 }
 
 impl<O: Output> LabelSource<O> for LabelText {
@@ -50,7 +51,8 @@ pub(crate) struct Rendered<'a, O> {
 impl<O: Output> LabelSource<O> for Rendered<'_, O> {
     ghost labels = { λ source. labels_of source.labels.now };
 
-    ghost is_ready = { λ source. O.stands_for source.text.now (label_list_text (labels_of source.labels.now)) };
+    ghost is_ready = { λ source.
+        O.stands_for source.text.now (label_list_text (labels_of source.labels.now)) };
 
     #[tactic(auto, using(crate::proofs::GrownLemmas::two_blocks))]
     fn len(&self) -> usize {
@@ -78,7 +80,8 @@ impl<O: Output> LabelSource<O> for &[(String, String)] {
 // Appends the value of a label, and the quote after it.
 #[tactic(auto, using(crate::proofs::GrownLemmas::grown))]
 fn append_quoted<O: Output>(text: &mut O, value: &[u8]) -> Result<(), AllocError>
-    ensures { OnOk result (Grows (O.stands_for text.old) (O.stands_for text.new) (escaped value.now ++ codes "\"")) }
+    ensures { OnOk result (Grows (O.stands_for text.old) (O.stands_for text.new)
+        (escaped value.now ++ codes "\"")) }
 {
     if is_plain(value) {
         return text.put_three(value, b"\"", b"");
@@ -96,7 +99,8 @@ fn append_separated<O: Output>(
     name: &[u8],
     value: &[u8],
 ) -> Result<(), AllocError>
-    ensures { OnOk result (Grows (O.stands_for text.old) (O.stands_for text.new) (separator.now ++ label_text (record { name = name.now; value = value.now }))) }
+    ensures { OnOk result (Grows (O.stands_for text.old) (O.stands_for text.new)
+        (separator.now ++ label_text (record { name = name.now; value = value.now }))) }
 {
     text.put_three(separator, name, b"=\"")?;
     append_quoted(text, value)
@@ -108,7 +112,8 @@ pub(crate) fn append_label<O: Output>(
     name: &[u8],
     value: &[u8],
 ) -> Result<(), AllocError>
-    ensures { OnOk result (Grows (O.stands_for text.old) (O.stands_for text.new) (label_text (record { name = name.now; value = value.now }))) }
+    ensures { OnOk result (Grows (O.stands_for text.old) (O.stands_for text.new)
+        (label_text (record { name = name.now; value = value.now }))) }
 {
     append_separated(text, b"", name, value)
 }
@@ -118,7 +123,8 @@ fn append_further_labels<O: Output>(
     text: &mut O,
     labels: &[(String, String)],
 ) -> Result<(), AllocError>
-    ensures { OnOk result (Grows (O.stands_for text.old) (O.stands_for text.new) (further_labels (labels_of labels.now))) }
+    ensures { OnOk result (Grows (O.stands_for text.old) (O.stands_for text.new)
+        (further_labels (labels_of labels.now))) }
 {
     for label in labels {
         append_separated(text, b",", label.0.as_bytes(), label.1.as_bytes())?;
@@ -133,7 +139,9 @@ fn append_first<O: Output>(
     first: &(String, String),
     others: &[(String, String)],
 ) -> Result<(), AllocError>
-    ensures { OnOk result (Grows (O.stands_for text.old) (O.stands_for text.new) (label_text (label_of first.now) ++ further_labels (labels_of others.now))) }
+    ensures { OnOk result (Grows (O.stands_for text.old) (O.stands_for text.new)
+        (label_text (label_of first.now)
+        ++ further_labels (labels_of others.now))) }
 {
     append_label(text, first.0.as_bytes(), first.1.as_bytes())?;
     append_further_labels(text, others)
@@ -142,7 +150,8 @@ fn append_first<O: Output>(
 // Appends labels with commas between them.
 #[tactic(auto, using(crate::proofs::GrownLemmas::grown))]
 fn append_label_list<O: Output>(text: &mut O, labels: &[(String, String)]) -> Result<(), AllocError>
-    ensures { OnOk result (Grows (O.stands_for text.old) (O.stands_for text.new) (label_list_text (labels_of labels.now))) }
+    ensures { OnOk result (Grows (O.stands_for text.old) (O.stands_for text.new)
+        (label_list_text (labels_of labels.now))) }
 {
     match labels.split_first() {
         Some((first, others)) => append_first(text, first, others),
@@ -167,7 +176,8 @@ pub(crate) fn append_in_braces<O: Output>(
     text: &mut O,
     labels: &[(String, String)],
 ) -> Result<(), AllocError>
-    ensures { OnOk result (Grows (O.stands_for text.old) (O.stands_for text.new) (in_braces (labels_of labels.now))) }
+    ensures { OnOk result (Grows (O.stands_for text.old) (O.stands_for text.new)
+        (in_braces (labels_of labels.now))) }
 {
     text.put(b"{")?;
     append_label_list(text, labels)?;
@@ -183,7 +193,9 @@ fn append_both<O: Output, F: LabelSource<O>, G: LabelSource<O>>(
 ) -> Result<(), AllocError>
     requires common { F.is_ready common.now }
     requires own { G.is_ready own.now }
-    ensures { OnOk result (Grows (O.stands_for text.old) (O.stands_for text.new) (label_list_text (F.labels common.now) ++ (codes "," ++ label_list_text (G.labels own.now)))) }
+    ensures { OnOk result (Grows (O.stands_for text.old) (O.stands_for text.new)
+        (label_list_text (F.labels common.now)
+        ++ (codes "," ++ label_list_text (G.labels own.now)))) }
 {
     common.append_to(text)?;
     text.put(b",")?;
@@ -199,7 +211,8 @@ pub(crate) fn append_joined_list<O: Output, F: LabelSource<O>, G: LabelSource<O>
 ) -> Result<(), AllocError>
     requires common { F.is_ready common.now }
     requires own { G.is_ready own.now }
-    ensures { OnOk result (Grows (O.stands_for text.old) (O.stands_for text.new) (label_list_text (F.labels common.now ++ G.labels own.now))) }
+    ensures { OnOk result (Grows (O.stands_for text.old) (O.stands_for text.new)
+        (label_list_text (F.labels common.now ++ G.labels own.now))) }
 {
     if own.len() == 0 {
         common.append_to(text)

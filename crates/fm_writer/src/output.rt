@@ -17,11 +17,13 @@ pub(crate) trait Output {
 
     // Appends three pieces. Fails if memory runs out.
     fn put_three(&mut self, first: &[u8], second: &[u8], third: &[u8]) -> Result<(), AllocError>
-        ensures { OnOk result (Grows (stands_for self.old) (stands_for self.new) (first.now ++ (second.now ++ third.now))) };
+        ensures { OnOk result (Grows (stands_for self.old) (stands_for self.new)
+            (first.now ++ (second.now ++ third.now))) };
 
     // Appends what another output represents. Fails if memory runs out.
     fn put_output(&mut self, other: &Self) -> Result<(), AllocError>
-        ensures { (text : Text) → stands_for other.now text → OnOk result (Grows (stands_for self.old) (stands_for self.new) text) };
+        ensures { (text : Text) → stands_for other.now text
+            → OnOk result (Grows (stands_for self.old) (stands_for self.new) text) };
 
     // Removes everything.
     fn reset(&mut self)

@@ -61,7 +61,8 @@ pub(crate) fn is_plain(raw: &[u8]) -> bool
 
 // Appends a text with its escapes. What is between two of them is appended at once.
 pub(crate) fn append_escaped<O: Output>(text: &mut O, raw: &[u8]) -> Result<(), AllocError>
-    ensures { OnOk result (Grows (O.stands_for text.old) (O.stands_for text.new) (escaped raw.now)) }
+    ensures { OnOk result (Grows (O.stands_for text.old) (O.stands_for text.new)
+        (escaped raw.now)) }
 {
     let mut rest = raw;
     loop {
@@ -93,7 +94,8 @@ fn append_time<O: Output>(text: &mut O, time: Option<u128>) -> Result<(), AllocE
 // Appends an exemplar, and nothing for none.
 #[tactic(auto, using(crate::proofs::GrownLemmas::grown))]
 fn append_exemplar<O: Output>(text: &mut O, exemplar: Option<&Exemplar>) -> Result<(), AllocError>
-    ensures { OnOk result (Grows (O.stands_for text.old) (O.stands_for text.new) (exemplar_text (option_map exemplar_at exemplar.entry))) }
+    ensures { OnOk result (Grows (O.stands_for text.old) (O.stands_for text.new)
+        (exemplar_text (option_map exemplar_at exemplar.entry))) }
 {
     match exemplar {
         Some(exemplar) => {
@@ -116,7 +118,10 @@ fn append_shown<O: Output>(
     time: Option<u128>,
     exemplar: Option<&Exemplar>,
 ) -> Result<(), AllocError>
-    ensures { OnOk result (Grows (O.stands_for text.old) (O.stands_for text.new) (value.now ++ (time_text time ++ (exemplar_text (option_map exemplar_at exemplar.entry) ++ codes "\n")))) }
+    ensures { OnOk result (Grows (O.stands_for text.old) (O.stands_for text.new)
+        (value.now
+        ++ (time_text time
+        ++ (exemplar_text (option_map exemplar_at exemplar.entry) ++ codes "\n")))) }
 {
     match (time, exemplar) {
         (None, None) => text.put_three(value.as_bytes(), b"\n", b""),
@@ -136,7 +141,10 @@ fn append_reading<O: Output>(
     time: Option<u128>,
     exemplar: Option<&Exemplar>,
 ) -> Result<(), AllocError>
-    ensures { OnOk result (Grows (O.stands_for text.old) (O.stands_for text.new) (value_text (value_of value.now) ++ (time_text time ++ (exemplar_text (option_map exemplar_at exemplar.entry) ++ codes "\n")))) }
+    ensures { OnOk result (Grows (O.stands_for text.old) (O.stands_for text.new)
+        (value_text (value_of value.now)
+        ++ (time_text time
+        ++ (exemplar_text (option_map exemplar_at exemplar.entry) ++ codes "\n")))) }
 {
     let (mut whole, mut fixed) = (Buffer::new(), FixedBuffer::new());
     let value = match value {
@@ -160,13 +168,14 @@ pub(crate) fn append_sample_row<O: Output, F: LabelSource<O>, G: LabelSource<O>>
 ) -> Result<(), AllocError>
     requires common { F.is_ready common.now }
     requires own { G.is_ready own.now }
-    ensures { OnOk result (Grows (O.stands_for text.old) (O.stands_for text.new) (sample_row name.now (record {
-      kind = kind;
-      labels = F.labels common.now ++ G.labels own.now;
-      value = value_of value.now;
-      time = time;
-      exemplar = option_map exemplar_at exemplar.entry;
-    }))) }
+    ensures { OnOk result (Grows (O.stands_for text.old) (O.stands_for text.new)
+        (sample_row name.now (record {
+          kind = kind;
+          labels = F.labels common.now ++ G.labels own.now;
+          value = value_of value.now;
+          time = time;
+          exemplar = option_map exemplar_at exemplar.entry;
+        }))) }
 {
     let (name, suffix) = (name.as_bytes(), kind.suffix().as_bytes());
     if common.len() == 0 && own.len() == 0 {

@@ -74,7 +74,8 @@ impl Model for Sink {
 impl Sink {
     /// A sink that keeps samples. The next ones share no labels. Fails if memory runs out.
     pub fn samples(alloc: Global) -> Result<Sink, AllocError>
-        ensures { IfOk result (λ sink. sink ≡ record { shared = Some []; output = OutputSamples [] }) }
+        ensures { IfOk result
+            (λ sink. sink ≡ record { shared = Some []; output = OutputSamples [] }) }
     {
         let common = Arc::new(alloc, Vec::new(alloc))?;
         Ok(Sink {
@@ -102,13 +103,14 @@ impl Sink {
         unit: Option<&str>,
     ) -> Result<(), AllocError>
         ensures shared { self.new.shared ≡ self.old.shared }
-        ensures grown { OnOk result (self.new.output ≡ with_lines self.old.output (head_rows (record {
-          name = name.now;
-          metric_type = metric_type;
-          help = help.now;
-          unit = option_copied unit.entry;
-          samples = [];
-        }))) }
+        ensures grown { OnOk result
+            (self.new.output ≡ with_lines self.old.output (head_rows (record {
+              name = name.now;
+              metric_type = metric_type;
+              help = help.now;
+              unit = option_copied unit.entry;
+              samples = [];
+            }))) }
     {
         match &mut self.form {
             Form::Samples(_, _) => Ok(()),

@@ -30,7 +30,8 @@ fn append_sample<O: Output>(
     sample: &Sample,
 ) -> Result<(), AllocError>
     requires { O.stands_for common_text.now (label_list_text (common_labels sample.now)) }
-    ensures { OnOk result (Grows (O.stands_for text.old) (O.stands_for text.new) (sample_row name.now (sample_of sample.now))) }
+    ensures { OnOk result (Grows (O.stands_for text.old) (O.stands_for text.new)
+        (sample_row name.now (sample_of sample.now))) }
 {
     let common = Rendered {
         labels: parts::common(sample),
@@ -55,8 +56,11 @@ fn append_samples<O: Output>(
     name: &str,
     samples: &[Sample],
 ) -> Result<(), AllocError>
-    requires { (labels : List Label) × O.stands_for common_text.now (label_list_text labels) × HaveInCommon labels samples.now }
-    ensures { OnOk result (Grows (O.stands_for text.old) (O.stands_for text.new) (sample_rows name.now (samples_of samples.now))) }
+    requires { (labels : List Label)
+        × O.stands_for common_text.now (label_list_text labels)
+        × HaveInCommon labels samples.now }
+    ensures { OnOk result (Grows (O.stands_for text.old) (O.stands_for text.new)
+        (sample_rows name.now (samples_of samples.now))) }
 {
     for sample in samples {
         append_sample(text, common_text, name, sample)?;
@@ -73,7 +77,8 @@ fn append_point<O: Output>(
     samples: &[Sample],
 ) -> Result<(), AllocError>
     requires { (labels : List Label) × HaveInCommon labels samples.now }
-    ensures { OnOk result (Grows (O.stands_for text.old) (O.stands_for text.new) (sample_rows name.now (samples_of samples.now))) }
+    ensures { OnOk result (Grows (O.stands_for text.old) (O.stands_for text.new)
+        (sample_rows name.now (samples_of samples.now))) }
 {
     let Some(first) = samples.first() else {
         return Ok(());
@@ -91,7 +96,8 @@ fn append_points<O: Output>(
     samples: &[Sample],
 ) -> Result<(), AllocError>
     requires { AreInPoints points.now samples.now }
-    ensures { OnOk result (Grows (O.stands_for text.old) (O.stands_for text.new) (sample_rows name.now (samples_of samples.now))) }
+    ensures { OnOk result (Grows (O.stands_for text.old) (O.stands_for text.new)
+        (sample_rows name.now (samples_of samples.now))) }
 {
     let mut rest = samples;
     for count in points {
@@ -109,7 +115,8 @@ fn append_family<O: Output>(
     common_text: &mut O,
     family: &FamilySamples,
 ) -> Result<(), AllocError>
-    ensures rows { OnOk result (Grows (O.stands_for text.old) (O.stands_for text.new) (family_rows family.now)) }
+    ensures rows { OnOk result (Grows (O.stands_for text.old) (O.stands_for text.new)
+        (family_rows family.now)) }
     ensures utf8 { OnOk result (IsUtf8Family family.now) }
 {
     append_heads(
@@ -129,7 +136,8 @@ fn append_families<O: Output>(
     common_text: &mut O,
     families: &[FamilySamples],
 ) -> Result<(), AllocError>
-    ensures rows { OnOk result (Grows (O.stands_for text.old) (O.stands_for text.new) (families_rows families.now)) }
+    ensures rows { OnOk result (Grows (O.stands_for text.old) (O.stands_for text.new)
+        (families_rows families.now)) }
     ensures utf8 { OnOk result (AllByRecursion IsUtf8Family families.now) }
 {
     for family in families {
@@ -185,13 +193,17 @@ pub fn encode_exposition<W: Write>(
     exposition: &Exposition,
 ) -> Result<(), EncodeError>
     // After `Ok`, exactly the document was appended.
-    ensures document { OnOk result (AppendsDocument (W.contents writer.old) (W.contents writer.new) exposition.now) }
+    ensures document { OnOk result
+        (AppendsDocument (W.contents writer.old) (W.contents writer.new) exposition.now) }
     // After `Ok`, the document that was appended is valid UTF-8.
-    ensures utf8 { OnOk result (AppendsUtf8 (W.contents writer.old) (W.contents writer.new) exposition.now) }
+    ensures utf8 { OnOk result
+        (AppendsUtf8 (W.contents writer.old) (W.contents writer.new) exposition.now) }
     // If memory ran out, nothing was written.
-    ensures memory { IfErr result (λ e. e ≡ EncodeError.Memory → Keeps (W.contents writer.old) (W.contents writer.new)) }
+    ensures memory { IfErr result (λ e. e ≡ EncodeError.Memory
+        → Keeps (W.contents writer.old) (W.contents writer.new)) }
     // After an error of the writer, a beginning of the document was appended.
-    ensures stopped { IfErr result (λ e. IsWritersFault e → BeginsDocument (W.contents writer.old) (W.contents writer.new) exposition.now) }
+    ensures stopped { IfErr result (λ e. IsWritersFault e
+        → BeginsDocument (W.contents writer.old) (W.contents writer.new) exposition.now) }
     ensures refusals { IfErr result IsWritingRefusal }
 {
     let Ok(text) = rendered(alloc, exposition.families()) else {

@@ -22,7 +22,11 @@ pub struct LabeledExemplar<LS> {
 
 /// The exemplar of these labels, this value and this time.
 impl<LS: EncodeLabelSet> EncodeExemplar for LabeledExemplar<LS> {
-    ghost exemplars = { λ e. record { labels = LS.labels e.labels; value = e.value; time = option_map millis e.timestamp } ∷ [] };
+    ghost exemplars = { λ e. record {
+      labels = LS.labels e.labels;
+      value = e.value;
+      time = option_map millis e.timestamp;
+    } ∷ [] };
 
     ghost may_fault = { λ e. LS.may_fault e.labels };
 

@@ -25,7 +25,9 @@ struct HistogramParts<'a, E> {
 }
 
 impl<E: EncodeExemplar> EncodePoint for HistogramParts<'_, E> {
-    ghost points = { λ p ps. ps ≡ HistogramPoint p.buckets.now (slots_of E.exemplars p.exemplars.now) p.count p.sum (option_map millis p.created) ∷ [] };
+    ghost points = { λ p ps. ps
+        ≡ HistogramPoint p.buckets.now (slots_of E.exemplars p.exemplars.now) p.count p.sum
+        (option_map millis p.created) ∷ [] };
 
     ghost may_fault = { λ p. MaySlotsFault E.may_fault p.exemplars.now };
 
@@ -50,7 +52,9 @@ struct GaugeHistogramParts<'a, E> {
 }
 
 impl<E: EncodeExemplar> EncodePoint for GaugeHistogramParts<'_, E> {
-    ghost points = { λ p ps. ps ≡ GaugeHistogramPoint p.buckets.now (slots_of E.exemplars p.exemplars.now) p.count p.sum ∷ [] };
+    ghost points = { λ p ps. ps
+        ≡ GaugeHistogramPoint p.buckets.now (slots_of E.exemplars p.exemplars.now)
+        p.count p.sum ∷ [] };
 
     ghost may_fault = { λ p. MaySlotsFault E.may_fault p.exemplars.now };
 
@@ -71,7 +75,8 @@ impl MetricEncoder {
     ) -> Result<(), EncodeError>
         ensures handed { HandsMembers (λ ms. ms ≡ record {
           labels = [];
-          point = HistogramPoint buckets.now (slots_of E.exemplars exemplars.now) count sum (option_map millis created);
+          point = HistogramPoint buckets.now (slots_of E.exemplars exemplars.now) count sum
+              (option_map millis created);
         } ∷ []) (MaySlotsFault E.may_fault exemplars.now) self.old self.new result }
         ensures answered { result ≡ result_of self.new.refused }
     {

@@ -22,7 +22,8 @@ struct SummaryParts<'a> {
 }
 
 impl EncodePoint for SummaryParts<'_> {
-    ghost points = { λ p ps. ps ≡ SummaryPoint p.quantiles.now p.sum p.count (option_map millis p.created) ∷ [] };
+    ghost points = { λ p ps. ps
+        ≡ SummaryPoint p.quantiles.now p.sum p.count (option_map millis p.created) ∷ [] };
 
     fn encode(&self, encoder: &mut PointEncoder) -> Result<(), EncodeError> {
         encoder.encode_summary(self.quantiles, self.sum, self.count, self.created)

@@ -41,7 +41,8 @@ impl PointEncoder {
         created: Option<Duration>,
     ) -> Result<(), EncodeError>
         ensures handed { HandsPoints
-            (λ ps. ps ≡ HistogramPoint buckets.now (slots_of E.exemplars exemplars.now) count sum (option_map millis created) ∷ [])
+            (λ ps. ps ≡ HistogramPoint buckets.now (slots_of E.exemplars exemplars.now) count sum
+            (option_map millis created) ∷ [])
             (MaySlotsFault E.may_fault exemplars.now) self.old self.new result }
         ensures answered { result ≡ result_of self.new.refused }
     {
@@ -60,7 +61,8 @@ impl PointEncoder {
         sum: FixedSum,
     ) -> Result<(), EncodeError>
         ensures handed { HandsPoints
-            (λ ps. ps ≡ GaugeHistogramPoint buckets.now (slots_of E.exemplars exemplars.now) count sum ∷ [])
+            (λ ps. ps
+            ≡ GaugeHistogramPoint buckets.now (slots_of E.exemplars exemplars.now) count sum ∷ [])
             (MaySlotsFault E.may_fault exemplars.now) self.old self.new result }
         ensures answered { result ≡ result_of self.new.refused }
     {
@@ -94,7 +96,10 @@ impl PointEncoder {
         requires accepting { self.old.refused ≡ None }
         requires buckets { HasBuckets self.old.setting.metric_type }
         requires slots { length exemplars.now ≡ length buckets.now }
-        ensures pushed { PushesBuckets buckets.now (slots_of E.exemplars exemplars.now) (MaySlotsFault E.may_fault exemplars.now) self.old self.new }
+        ensures pushed { PushesBuckets buckets.now
+            (slots_of E.exemplars exemplars.now)
+            (MaySlotsFault E.may_fault exemplars.now)
+            self.old self.new }
         ensures answered { result ≡ result_of self.new.refused }
     {
         let mut values = 0;
@@ -114,7 +119,10 @@ impl PointEncoder {
     ) -> Result<u64, EncodeError>
         requires accepting { self.old.refused ≡ None }
         requires buckets { HasBuckets self.old.setting.metric_type }
-        ensures { PushesBucket before bucket.now (option_map_or (λ e. E.exemplars e.now) exemplar.entry []) (MatchOption exemplar.entry ⊥ (λ e. E.may_fault e.now)) self.old self.new result }
+        ensures { PushesBucket before bucket.now
+            (option_map_or (λ e. E.exemplars e.now) exemplar.entry [])
+            (MatchOption exemplar.entry ⊥ (λ e. E.may_fault e.now))
+            self.old self.new result }
     {
         let Some(values) = before.checked_add(bucket.count()) else {
             self.refused = Some(EncodeError::BucketOverflow);
@@ -142,7 +150,11 @@ impl PointEncoder {
         requires accepting { self.old.refused ≡ None }
         requires buckets { HasBuckets self.old.setting.metric_type }
         requires exemplar { IfSome exemplar (λ x. IsExemplar (exemplar_of x)) }
-        ensures pushed { PushesSample (record (plain_sample self.old.setting self.old.common BucketKind (bound_label bucket.now.upper_bound ∷ []) (Whole (pos values))) { exemplar = option_map exemplar_of exemplar }) self.old self.new }
+        ensures pushed { PushesSample
+            (record (plain_sample self.old.setting self.old.common BucketKind
+            (bound_label bucket.now.upper_bound ∷ []) (Whole (pos values)))
+            { exemplar = option_map exemplar_of exemplar })
+            self.old self.new }
         ensures answered { result ≡ result_of self.new.refused }
     {
         let Ok(own) = kept_label(self.alloc, &mut self.bounds, index, bucket) else {

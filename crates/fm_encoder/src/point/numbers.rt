@@ -25,7 +25,9 @@ impl PointEncoder {
     /// Takes an unknown metric's point. Errors, in this order: the family has another type (`KindMismatch`); the errors of the
     /// labels; the value emits no number (`MissingValue`) or several (`ValueTwice`). Fails with `Memory` if memory runs out.
     pub fn encode_unknown<V: EncodeUnknownValue>(&mut self, value: &V) -> Result<(), EncodeError>
-        ensures handed { HandsPoints (λ ps. ps ≡ UnknownPoint (V.numbers value.now) ∷ []) (V.may_fault value.now) self.old self.new result }
+        ensures handed { HandsPoints
+            (λ ps. ps ≡ UnknownPoint (V.numbers value.now) ∷ [])
+            (V.may_fault value.now) self.old self.new result }
         ensures answered { result ≡ result_of self.new.refused }
     {
         self.begin_point(MetricType::Unknown)?;
@@ -37,7 +39,9 @@ impl PointEncoder {
 
     /// Takes a gauge's point. It fails as `encode_unknown` does.
     pub fn encode_gauge<V: EncodeGaugeValue>(&mut self, value: &V) -> Result<(), EncodeError>
-        ensures handed { HandsPoints (λ ps. ps ≡ GaugePoint (V.numbers value.now) ∷ []) (V.may_fault value.now) self.old self.new result }
+        ensures handed { HandsPoints
+            (λ ps. ps ≡ GaugePoint (V.numbers value.now) ∷ [])
+            (V.may_fault value.now) self.old self.new result }
         ensures answered { result ≡ result_of self.new.refused }
     {
         self.begin_point(MetricType::Gauge)?;
@@ -56,8 +60,11 @@ impl PointEncoder {
         created: Option<Duration>,
     ) -> Result<(), EncodeError>
         ensures handed { HandsPoints
-            (λ ps. ps ≡ CounterPoint (V.numbers total.now) (option_map_or (λ e. E.exemplars e.now) exemplar.entry []) (option_map millis created) ∷ [])
-            (V.may_fault total.now ⊎ MatchOption exemplar.entry ⊥ (λ e. E.may_fault e.now)) self.old self.new result }
+            (λ ps. ps ≡ CounterPoint (V.numbers total.now)
+            (option_map_or (λ e. E.exemplars e.now) exemplar.entry [])
+            (option_map millis created) ∷ [])
+            (V.may_fault total.now ⊎ MatchOption exemplar.entry ⊥ (λ e. E.may_fault e.now))
+            self.old self.new result }
         ensures answered { result ≡ result_of self.new.refused }
     {
         self.begin_point(MetricType::Counter)?;
@@ -81,10 +88,13 @@ impl PointEncoder {
     ) -> Result<(), EncodeError>
         requires accepting { self.old.refused ≡ None }
         requires counter { self.old.setting.metric_type ≡ MetricType.Counter }
-        requires fits { FitsType self.old.setting.metric_type TotalKind (value_of number) (option_map exemplar_of exemplar) }
+        requires fits { FitsType self.old.setting.metric_type TotalKind
+            (value_of number) (option_map exemplar_of exemplar) }
         ensures pushed { PushesSamples
-            (record (plain_sample self.old.setting self.old.common TotalKind [] (value_of number)) { exemplar = option_map exemplar_of exemplar }
-            ∷ created_samples self.old.setting self.old.common (option_map millis created)) self.old self.new }
+            (record (plain_sample self.old.setting self.old.common TotalKind [] (value_of number))
+            { exemplar = option_map exemplar_of exemplar }
+            ∷ created_samples self.old.setting self.old.common (option_map millis created))
+            self.old self.new }
         ensures answered { result ≡ result_of self.new.refused }
     {
         self.push_sample(SampleKind::Total, &number, exemplar)?;
@@ -95,7 +105,9 @@ impl PointEncoder {
     pub(crate) fn push_created(&mut self, created: Option<Duration>) -> Result<(), EncodeError>
         requires accepting { self.old.refused ≡ None }
         requires kind { Contains (kinds_of self.old.setting.metric_type) CreatedKind }
-        ensures pushed { PushesSamples (created_samples self.old.setting self.old.common (option_map millis created)) self.old self.new }
+        ensures pushed { PushesSamples
+            (created_samples self.old.setting self.old.common (option_map millis created))
+            self.old self.new }
         ensures answered { result ≡ result_of self.new.refused }
     {
         match created {

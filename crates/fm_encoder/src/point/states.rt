@@ -23,14 +23,18 @@ impl PointEncoder {
     /// Errors, in this order: the family has another type (`KindMismatch`); the errors of the labels; there are states and a
     /// common label has the family's name (`DuplicateLabel`). Fails with `Memory` if memory runs out.
     pub fn encode_stateset(&mut self, states: Vec<(&str, bool)>) -> Result<(), EncodeError>
-        ensures handed { HandsPoints (λ ps. ps ≡ StateSetPoint (map state_of states.entry.items) ∷ []) ⊥ self.old self.new result }
+        ensures handed { HandsPoints
+            (λ ps. ps ≡ StateSetPoint (map state_of states.entry.items) ∷ [])
+            ⊥ self.old self.new result }
         ensures answered { result ≡ result_of self.new.refused }
     {
         self.encode_states(states.as_slice())
     }
 
     pub(crate) fn encode_states(&mut self, states: &[(&str, bool)]) -> Result<(), EncodeError>
-        ensures handed { HandsPoints (λ ps. ps ≡ StateSetPoint (map state_of states.now) ∷ []) ⊥ self.old self.new result }
+        ensures handed { HandsPoints
+            (λ ps. ps ≡ StateSetPoint (map state_of states.now) ∷ [])
+            ⊥ self.old self.new result }
         ensures answered { result ≡ result_of self.new.refused }
     {
         self.begin_point(MetricType::StateSet)?;
@@ -58,8 +62,11 @@ impl PointEncoder {
     ) -> Result<(), EncodeError>
         requires accepting { self.old.refused ≡ None }
         requires state_set { self.old.setting.metric_type ≡ MetricType.StateSet }
-        requires fresh { (states.now ≡ []) ⊎ (¬ (Contains (label_names self.old.common) self.old.setting.name)) }
-        ensures pushed { PushesSamples (map (state_sample self.old.setting self.old.common) (map state_of states.now)) self.old self.new }
+        requires fresh { (states.now ≡ [])
+            ⊎ (¬ (Contains (label_names self.old.common) self.old.setting.name)) }
+        ensures pushed { PushesSamples
+            (map (state_sample self.old.setting self.old.common) (map state_of states.now))
+            self.old self.new }
         ensures answered { result ≡ result_of self.new.refused }
     {
         for state in states {
@@ -73,7 +80,9 @@ impl PointEncoder {
         requires accepting { self.old.refused ≡ None }
         requires state_set { self.old.setting.metric_type ≡ MetricType.StateSet }
         requires fresh { ¬ (Contains (label_names self.old.common) self.old.setting.name) }
-        ensures pushed { PushesSample (state_sample self.old.setting self.old.common (state_of state.now)) self.old self.new }
+        ensures pushed { PushesSample
+            (state_sample self.old.setting self.old.common (state_of state.now))
+            self.old self.new }
         ensures answered { result ≡ result_of self.new.refused }
     {
         own.clear();
@@ -87,7 +96,9 @@ impl PointEncoder {
     /// Takes an info's point: its labels, which come after the common ones. Errors, in this order: the family has another type
     /// (`KindMismatch`); the errors of the common labels; the errors of its own labels. Fails with `Memory` if memory runs out.
     pub fn encode_info<LS: EncodeLabelSet>(&mut self, labels: &LS) -> Result<(), EncodeError>
-        ensures handed { HandsPoints (λ ps. ps ≡ InfoPoint (LS.labels labels.now) ∷ []) (LS.may_fault labels.now) self.old self.new result }
+        ensures handed { HandsPoints
+            (λ ps. ps ≡ InfoPoint (LS.labels labels.now) ∷ [])
+            (LS.may_fault labels.now) self.old self.new result }
         ensures answered { result ≡ result_of self.new.refused }
     {
         self.begin_point(MetricType::Info)?;

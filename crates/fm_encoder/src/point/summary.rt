@@ -31,7 +31,9 @@ impl PointEncoder {
         count: u64,
         created: Option<Duration>,
     ) -> Result<(), EncodeError>
-        ensures handed { HandsPoints (λ ps. ps ≡ SummaryPoint quantiles.now sum count (option_map millis created) ∷ []) ⊥ self.old self.new result }
+        ensures handed { HandsPoints
+            (λ ps. ps ≡ SummaryPoint quantiles.now sum count (option_map millis created) ∷ [])
+            ⊥ self.old self.new result }
         ensures answered { result ≡ result_of self.new.refused }
     {
         self.begin_point(MetricType::Summary)?;
@@ -48,7 +50,9 @@ impl PointEncoder {
     ) -> Result<(), EncodeError>
         requires accepting { self.old.refused ≡ None }
         requires summary { self.old.setting.metric_type ≡ MetricType.Summary }
-        ensures pushed { PushesSamples (map (quantile_sample self.old.setting self.old.common) quantiles.now) self.old self.new }
+        ensures pushed { PushesSamples
+            (map (quantile_sample self.old.setting self.old.common) quantiles.now)
+            self.old self.new }
         ensures answered { result ≡ result_of self.new.refused }
     {
         for quantile in quantiles {
@@ -61,7 +65,9 @@ impl PointEncoder {
     fn push_quantile(&mut self, own: &mut LabelText, quantile: &Quantile) -> Result<(), EncodeError>
         requires accepting { self.old.refused ≡ None }
         requires summary { self.old.setting.metric_type ≡ MetricType.Summary }
-        ensures pushed { PushesSample (quantile_sample self.old.setting self.old.common quantile.now) self.old self.new }
+        ensures pushed { PushesSample
+            (quantile_sample self.old.setting self.old.common quantile.now)
+            self.old self.new }
         ensures answered { result ≡ result_of self.new.refused }
     {
         let mut buffer = FixedBuffer::new();

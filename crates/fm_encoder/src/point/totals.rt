@@ -43,9 +43,12 @@ impl PointEncoder {
         created: Option<Duration>,
     ) -> Result<(), EncodeError>
         requires accepting { self.old.refused ≡ None }
-        requires has_created { (self.old.setting.metric_type ≡ MetricType.Histogram) ⊎ (self.old.setting.metric_type ≡ MetricType.Summary) }
+        requires has_created { (self.old.setting.metric_type ≡ MetricType.Histogram)
+            ⊎ (self.old.setting.metric_type ≡ MetricType.Summary) }
         ensures pushed { PushesSamples
-            (total_samples self.old.setting self.old.common SampleKind.Count SampleKind.Sum count sum ++ created_samples self.old.setting self.old.common (option_map millis created))
+            (total_samples self.old.setting self.old.common
+            SampleKind.Count SampleKind.Sum count sum
+            ++ created_samples self.old.setting self.old.common (option_map millis created))
             self.old self.new }
         ensures answered { result ≡ result_of self.new.refused }
     {
@@ -63,7 +66,9 @@ impl PointEncoder {
     ) -> Result<(), EncodeError>
         requires accepting { self.old.refused ≡ None }
         requires kinds { HasTotals self.old.setting.metric_type of_count of_sum }
-        ensures pushed { PushesSamples (total_samples self.old.setting self.old.common of_count of_sum count sum) self.old self.new }
+        ensures pushed { PushesSamples
+            (total_samples self.old.setting self.old.common of_count of_sum count sum)
+            self.old self.new }
         ensures answered { result ≡ result_of self.new.refused }
     {
         self.push_sample(of_count, &count_value(count), None)?;

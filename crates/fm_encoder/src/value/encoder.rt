@@ -53,7 +53,8 @@ impl<K> Model for ValueEncoder<K> {
 
     ghost Value = { GatheredNumbers };
 
-    ghost view = { λ e. record { numbers = option_to_list (option_map value_of e.number); refused = e.refused } };
+    ghost view = { λ e.
+        record { numbers = option_to_list (option_map value_of e.number); refused = e.refused } };
 
     ghost invariant = { λ e. IfSome e.number (λ v. IsNumber (value_of v)) };
 }
@@ -88,10 +89,12 @@ impl<K> ValueEncoder<K> {
     // The one number, after the visited source returned `visited`, or the first refusal.
     pub(crate) fn end(self, visited: Result<(), EncodeError>) -> Result<Value, EncodeError>
         ensures { MatchResult result
-            (λ v. (self.refused ≡ None) × (visited ≡ Ok tt) × (self.numbers ≡ value_of v ∷ []) × IsNumber (value_of v))
+            (λ v. (self.refused ≡ None) × (visited ≡ Ok tt)
+            × (self.numbers ≡ value_of v ∷ []) × IsNumber (value_of v))
             (λ k. (self.refused ≡ Some k)
             ⊎ (((e : EncodeError) × (self.refused ≡ None) × (visited ≡ Err e) × (k ≡ own_refusal e))
-            ⊎ ((self.refused ≡ None) × (visited ≡ Ok tt) × (k ≡ EncodeError.MissingValue) × (self.numbers ≡ [])))) }
+            ⊎ ((self.refused ≡ None) × (visited ≡ Ok tt)
+            × (k ≡ EncodeError.MissingValue) × (self.numbers ≡ [])))) }
     {
         if let Some(error) = self.refused {
             return Err(error);

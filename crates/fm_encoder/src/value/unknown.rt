@@ -23,7 +23,8 @@ pub trait EncodeUnknownValue {
 
     /// Passes the number to the encoder.
     fn encode(&self, encoder: &mut UnknownValueEncoder) -> Result<(), EncodeError>
-        ensures { HandsNumbers (numbers self.now) (may_fault self.now) encoder.old encoder.new result };
+        ensures { HandsNumbers (numbers self.now) (may_fault self.now)
+            encoder.old encoder.new result };
 }
 
 impl EncodeUnknownValue for i32 {

@@ -13,7 +13,7 @@ use fm_grammar::{MetricType, SampleKind};
 use fm_raw::fixed::FixedSum;
 use std::time::Duration;
 
-/// Hands over a histogram's point as `PointEncoder::encode_histogram` does where each slot is empty, and takes no list of such slots.
+/// Emits a histogram's point as `PointEncoder::encode_histogram` does where each slot is empty, and takes no list of such slots.
 pub fn encode_bare_histogram(
     points: &mut PointEncoder,
     buckets: &[Bucket],
@@ -22,7 +22,8 @@ pub fn encode_bare_histogram(
     created: Option<Duration>,
 ) -> Result<(), EncodeError>
     ensures handed { HandsPoints
-        (λ ps. ps ≡ HistogramPoint buckets.now (map (λ _. []) buckets.now) count sum (option_map millis created) ∷ [])
+        (λ ps. ps ≡ HistogramPoint buckets.now (map (λ _. []) buckets.now) count sum
+        (option_map millis created) ∷ [])
         ⊥ points.old points.new result }
     ensures answered { result ≡ result_of points.new.refused }
 {
@@ -31,8 +32,8 @@ pub fn encode_bare_histogram(
     points.push_totals(count, sum, created)
 }
 
-/// Hands over a gauge histogram's point as `PointEncoder::encode_gauge_histogram` does where each slot is empty, and takes no list of
-/// such slots.
+/// Emits a gauge histogram's point as `PointEncoder::encode_gauge_histogram` does where each slot is empty, and takes no list of such
+/// slots.
 pub fn encode_bare_gauge_histogram(
     points: &mut PointEncoder,
     buckets: &[Bucket],
