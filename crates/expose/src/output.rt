@@ -97,9 +97,12 @@ fn report<E: Write>(errors: &mut E, fault: Fault) -> u8
 // Prints the registry's document.
 fn print_document<W: Write>(alloc: Global, out: &mut W, registry: &Registry) -> Result<(), Fault>
     requires { HasBook registry.now }
-    ensures printed { PrintsDocument (λ e. (b : _) → Shows registry.now b → Admits (λ m. offers m) (λ m. stamps m) (λ m. may_be_empty m) (order b) e)
+    ensures printed { PrintsDocument
+        (λ e. (b : _) → Shows registry.now b
+        → Admits (λ m. offers m) (λ m. stamps m) (λ m. may_be_empty m) (order b) e)
         (W.contents out.old) (W.contents out.new) result }
-    ensures refused { IfErr result (λ fault. (error : EncodeError) × IsRefusal (codes "encode") (encode_number error) fault) }
+    ensures refused { IfErr result (λ fault. (error : EncodeError)
+        × IsRefusal (codes "encode") (encode_number error) fault) }
 {
     match encode(alloc, out, registry) {
         Ok(()) => Ok(()),
@@ -119,7 +122,9 @@ pub fn finish<W: Write, E: Write>(
     errors: &mut E,
 ) -> u8
     requires { IfOk made (λ registry. HasBook registry) }
-    ensures { Finishes (λ registry e. (b : _) → Shows registry b → Admits (λ m. offers m) (λ m. stamps m) (λ m. may_be_empty m) (order b) e)
+    ensures { Finishes
+        (λ registry e. (b : _) → Shows registry b
+        → Admits (λ m. offers m) (λ m. stamps m) (λ m. may_be_empty m) (order b) e)
         (W.contents out.old) (W.contents out.new) made result }
 {
     match made {

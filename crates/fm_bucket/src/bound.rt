@@ -77,7 +77,8 @@ impl Bucket {
 
     /// Adds one to the count. Fails with `CountFull` if the count is the greatest `u64`, and then changes nothing.
     pub fn inc(&mut self) -> Result<(), MetricError>
-        ensures counted { OnOk result (self.new ≡ record { upper_bound = self.old.upper_bound; count = self.old.count + 1 }) }
+        ensures counted { OnOk result
+            (self.new ≡ record { upper_bound = self.old.upper_bound; count = self.old.count + 1 }) }
         ensures full { (result ≡ Err CountFull) ↔ (self.old.count + 1 ≡ 2 ^ 64) }
         ensures only_full { IfErr result (λ e. e ≡ CountFull) }
         ensures kept { OnErr result (self.new ≡ self.old) }

@@ -131,8 +131,10 @@ fn last_fits(start: u64, factor: u64, steps: usize) -> bool
 // The whole factor, at least one, that leads from one number to the other in this number of steps, if there is one.
 fn whole_factor(least: u64, greatest: i64, steps: usize) -> Option<u64>
     requires { 0 < least }
-    ensures some { IfSome result (λ factor. (1 ≤ factor) × (0 < steps → pos (least * factor ^ steps) ≡ greatest)) }
-    ensures none { IfNone result ((0 < steps) × ((factor : ℕ) → 1 ≤ factor → pos (least * factor ^ steps) ≢ greatest)) }
+    ensures some { IfSome result
+        (λ factor. (1 ≤ factor) × (0 < steps → pos (least * factor ^ steps) ≡ greatest)) }
+    ensures none { IfNone result
+        ((0 < steps) × ((factor : ℕ) → 1 ≤ factor → pos (least * factor ^ steps) ≢ greatest)) }
 {
     if steps == 0 {
         return Some(1);

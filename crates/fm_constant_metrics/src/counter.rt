@@ -75,7 +75,8 @@ impl<N> TypedMetric for ConstCounter<N> {
 }
 
 impl<N: EncodeCounterValue> EncodePoint for ConstCounter<N> {
-    ghost points = { λ c ps. ps ≡ CounterPoint (N.numbers c.total) [] (option_map millis c.created) ∷ [] };
+    ghost points = { λ c ps. ps
+        ≡ CounterPoint (N.numbers c.total) [] (option_map millis c.created) ∷ [] };
 
     ghost may_fault = { λ c. N.may_fault c.total };
 

@@ -39,11 +39,14 @@ fn begin_family(
     metadata: &Metadata,
     time: Option<u128>,
 ) -> Result<(), EncodeError>
-    requires heading { IsListable (heading_in (option_copied namespace) (labels_of constants.now) metadata.now) }
+    requires heading { IsListable
+        (heading_in (option_copied namespace) (labels_of constants.now) metadata.now) }
     requires time { IfSome time AreMillis }
-    ensures begun { let heading = heading_in (option_copied namespace.entry) (labels_of constants.now) metadata.now in
+    ensures begun { let heading =
+        heading_in (option_copied namespace.entry) (labels_of constants.now) metadata.now in
         OnOk result (encoder.new ≡ record {
-          context = context_at (listed_name heading) heading.registration.metric_type heading.labels time;
+          context = context_at (listed_name heading)
+              heading.registration.metric_type heading.labels time;
           output = with_lines encoder.old.output (heading_rows heading);
           refused = encoder.old.refused;
         }) }
@@ -72,7 +75,8 @@ fn add_family(
     metadata: &Metadata,
     metric: &dyn EncodeMetric,
 ) -> Result<(), EncodeError>
-    requires heading { IsListable (heading_in (option_copied namespace) (labels_of constants.now) metadata.now) }
+    requires heading { IsListable
+        (heading_in (option_copied namespace) (labels_of constants.now) metadata.now) }
     requires lines { HasLines encoder.old }
     ensures { MatchResult result
         (λ _. HasLines encoder.new
@@ -103,7 +107,8 @@ fn add_listed(
     requires lines { HasLines encoder.old }
     ensures { MatchResult result
         (λ _. HasLines encoder.new
-        × AddsNextRows (λ m. offers m) (λ m. stamps m) (λ m. may_be_empty m) (seen_listed listed.now)
+        × AddsNextRows (λ m. offers m) (λ m. stamps m) (λ m. may_be_empty m)
+        (seen_listed listed.now)
         (text_in encoder.old.output) (text_in encoder.new.output))
         (λ k. (k ≡ EncodeError.Memory)
         ⊎ FaultOf k (λ m. offers m) (λ m. stamps m) (λ m. may_fault m) (seen_listed listed.now)) }
@@ -138,10 +143,12 @@ fn ended_lines(encoder: MetricEncoder) -> Result<Lines, AllocError>
 pub(crate) fn document_lines(alloc: Global, registry: &Registry) -> Result<Lines, EncodeError>
     requires { HasBook registry.now }
     ensures text { IfOk result (λ lines. (e : Exposition)
-        × ((b : _) → Shows registry.now b → Admits (λ m. offers m) (λ m. stamps m) (λ m. may_be_empty m) (order b) e)
+        × ((b : _) → Shows registry.now b
+        → Admits (λ m. offers m) (λ m. stamps m) (λ m. may_be_empty m) (order b) e)
         × IsExposition e × (lines.text ≡ document_rows e)) }
     ensures fault { IfErr result (λ k. (k ≡ EncodeError.Memory)
-        ⊎ ((b : _) → Shows registry.now b → Fault k (λ m. offers m) (λ m. stamps m) (λ m. may_fault m) (order b))) }
+        ⊎ ((b : _) → Shows registry.now b
+        → Fault k (λ m. offers m) (λ m. stamps m) (λ m. may_fault m) (order b))) }
     ensures not_writing { IfErr result (λ k. ¬ (IsWritersFault k)) }
 {
     let Ok(list) = registry.listing(alloc) else {
@@ -163,7 +170,8 @@ pub(crate) fn write_lines<W: Write>(writer: &mut W, lines: &Lines) -> Result<(),
     ensures document { (e : Exposition) → IsExposition e → lines.now.text ≡ document_rows e
         → OnOk result (AppendsDocument (W.contents writer.old) (W.contents writer.new) e) }
     ensures stopped { (e : Exposition) → IsExposition e → lines.now.text ≡ document_rows e
-        → IfErr result (λ k. IsWritersFault k → BeginsDocument (W.contents writer.old) (W.contents writer.new) e) }
+        → IfErr result (λ k. IsWritersFault k
+        → BeginsDocument (W.contents writer.old) (W.contents writer.new) e) }
     ensures fault { IfErr result IsWritersFault }
 {
     write_text(writer, lines.as_slice())

@@ -54,7 +54,8 @@ pub(crate) fn join_name(
     unit: Option<&str>,
 ) -> Result<(), AllocError>
     ensures { OnOk result
-        (string_bytes text.new ≡ printed_name (option_copied namespace.entry) name.now (option_copied unit.entry)) }
+        (string_bytes text.new
+        ≡ printed_name (option_copied namespace.entry) name.now (option_copied unit.entry)) }
 {
     text.clear();
     if let Some(namespace) = namespace {
@@ -121,9 +122,12 @@ fn offered_by(
     requires shared { AreShared [] sink.shared }
     ensures { MatchResult result
         (λ made. (string_bytes made.0 ≡ string_bytes name)
-        × Offered (offers metric.now) (stamps metric.now) (string_bytes name) metric_type (labels_of constants.now) sink.output made.1.output)
+        × Offered (offers metric.now) (stamps metric.now)
+        (string_bytes name) metric_type (labels_of constants.now)
+        sink.output made.1.output)
         (λ k. (k ≡ EncodeError.Memory)
-        ⊎ MetricHasFault k (offers metric.now) (stamps metric.now) (may_fault metric.now) (string_bytes name)
+        ⊎ MetricHasFault k (offers metric.now) (stamps metric.now) (may_fault metric.now)
+        (string_bytes name)
         metric_type (labels_of constants.now)) }
 {
     let time = whole_millis(metric.timestamp());
@@ -147,10 +151,13 @@ fn samples_of_metric(
     requires { IsSnakeCase (string_bytes name) }
     ensures { MatchResult result
         (λ made. (string_bytes made.0 ≡ string_bytes name)
-        × AdmitsSamples (offers metric.now) (stamps metric.now) (string_bytes name) metric_type (labels_of constants.now) made.1.samples
+        × AdmitsSamples (offers metric.now) (stamps metric.now)
+        (string_bytes name) metric_type (labels_of constants.now)
+        made.1.samples
         × AllByRecursion (IsSample metric_type) made.1.samples)
         (λ k. (k ≡ EncodeError.Memory)
-        ⊎ MetricHasFault k (offers metric.now) (stamps metric.now) (may_fault metric.now) (string_bytes name)
+        ⊎ MetricHasFault k (offers metric.now) (stamps metric.now) (may_fault metric.now)
+        (string_bytes name)
         metric_type (labels_of constants.now)) }
 {
     let Ok(sink) = Sink::samples(alloc) else {
@@ -221,9 +228,11 @@ impl<'a> MetricFamilyEncoder<'a> {
 
     // The printed name of a metric with this metadata, its help, and its unit's text.
     fn heads_of(&self, metadata: &Metadata) -> Result<(String, String, Option<String>), AllocError>
-        ensures { IfOk result (λ heads. (string_bytes heads.0 ≡ listed_name (next_heading self.now metadata.now))
+        ensures { IfOk result (λ heads.
+            (string_bytes heads.0 ≡ listed_name (next_heading self.now metadata.now))
             × (string_bytes heads.1 ≡ (next_heading self.now metadata.now).registration.help)
-            × (option_map string_bytes heads.2 ≡ printed_unit (next_heading self.now metadata.now).registration.unit)) }
+            × (option_map string_bytes heads.2
+            ≡ printed_unit (next_heading self.now metadata.now).registration.unit)) }
     {
         let alloc = self.alloc;
         let unit = text_of(metadata.unit());
@@ -241,7 +250,8 @@ impl<'a> MetricFamilyEncoder<'a> {
     ) -> Result<FamilySamples, EncodeError>
         requires { IsListable (next_heading self.now metadata.now) }
         ensures { MatchResult result
-            (λ family. IsFamilyUnder (offers metric.now) (stamps metric.now) (next_heading self.now metadata.now) family
+            (λ family. IsFamilyUnder (offers metric.now) (stamps metric.now)
+            (next_heading self.now metadata.now) family
             × IsFamily family)
             (λ k. (k ≡ EncodeError.Memory)
             ⊎ FaultUnder (offers metric.now) (stamps metric.now) k (may_fault metric.now)
@@ -274,8 +284,10 @@ impl<'a> MetricFamilyEncoder<'a> {
         metric: &dyn EncodeMetric,
     ) -> Result<(), EncodeError>
         requires heading { IsListable (next_heading self.old metadata.now) }
-        requires new_name { IsNewName (listed_name (next_heading self.old metadata.now)) self.old.families }
-        ensures encoded { EncodesFamily (offers metric.now) (stamps metric.now) (may_be_empty metric.now)
+        requires new_name { IsNewName
+            (listed_name (next_heading self.old metadata.now)) self.old.families }
+        ensures encoded { EncodesFamily (offers metric.now) (stamps metric.now)
+            (may_be_empty metric.now)
             (may_fault metric.now) (next_heading self.old metadata.now) self.old self.new }
         ensures answered { result ≡ result_of self.new.refused }
     {

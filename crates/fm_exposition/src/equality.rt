@@ -119,7 +119,8 @@ fn same_labels(one: &[(String, String)], other: &[(String, String)]) -> bool
 
 // Whether two samples have the same labels, whichever of them are shared.
 fn same_joined_labels(one: &Sample, other: &Sample) -> bool
-    ensures { result ≡ pointwise same_label (sample_of one.now).labels (sample_of other.now).labels }
+    ensures { result
+        ≡ pointwise same_label (sample_of one.now).labels (sample_of other.now).labels }
 {
     for place in 0..usize::MAX {
         let label = one.label(place);
@@ -135,7 +136,9 @@ fn same_joined_labels(one: &Sample, other: &Sample) -> bool
 
 // Whether two labels are the same, or both are absent.
 fn is_same_label(one: Option<(&str, &str)>, other: Option<(&str, &str)>) -> bool
-    ensures { result ≡ option_eq same_label (option_map shown_label one.entry) (option_map shown_label other.entry) }
+    ensures { result
+        ≡ option_eq same_label (option_map shown_label one.entry)
+        (option_map shown_label other.entry) }
 {
     match (one, other) {
         (Some(one), Some(other)) => one.0 == other.0 && one.1 == other.1,

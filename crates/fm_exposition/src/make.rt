@@ -13,7 +13,8 @@ use fm_raw::fixed::Fixed;
 
 /// An exemplar with these labels, this value and this time in milliseconds.
 pub fn exemplar(labels: Vec<(String, String)>, value: Fixed, time: Option<u128>) -> Exemplar
-    ensures { exemplar_of result ≡ record { labels = labels_of labels.items; value = value; time = time } }
+    ensures { exemplar_of result
+        ≡ record { labels = labels_of labels.items; value = value; time = time } }
 {
     Exemplar {
         labels,

@@ -27,9 +27,11 @@ impl Model for SampleStore {
 
     ghost Value = { Stored };
 
-    ghost view = { λ s. record { common = shared_labels s.common; samples = samples_of s.samples.items } };
+    ghost view = { λ s.
+        record { common = shared_labels s.common; samples = samples_of s.samples.items } };
 
-    ghost invariant = { λ s. IsCut (shared_labels s.common) s.is_under_way s.counts.items s.samples.items };
+    ghost invariant = { λ s.
+        IsCut (shared_labels s.common) s.is_under_way s.counts.items s.samples.items };
 }
 
 impl SampleStore {
@@ -125,7 +127,8 @@ impl SampleStore {
 
 // Counts one more sample of the last point.
 fn count_one(counts: &mut Vec<usize>)
-    requires { (front : List ℕ) × (count : ℕ) × (counts.old.items ≡ front ++ count ∷ []) × (count + 1 < 2 ^ 64) }
+    requires { (front : List ℕ) × (count : ℕ)
+        × (counts.old.items ≡ front ++ count ∷ []) × (count + 1 < 2 ^ 64) }
     ensures { (front : List ℕ) (count : ℕ) → counts.old.items ≡ front ++ count ∷ []
         → counts.new.items ≡ front ++ (count + 1) ∷ [] }
 {

@@ -10,7 +10,8 @@ use std::io::Write;
 /// beginning of the text was written. No call is tried again, and the writer is not flushed.
 pub fn write_text<W: Write>(writer: &mut W, text: &[u8]) -> Result<(), EncodeError>
     ensures ok { OnOk result (Appends (W.contents writer.old) (W.contents writer.new) text.now) }
-    ensures stopped { OnErr result (AppendsBeginning (W.contents writer.old) (W.contents writer.new) text.now) }
+    ensures stopped { OnErr result
+        (AppendsBeginning (W.contents writer.old) (W.contents writer.new) text.now) }
     ensures fault { IfErr result IsWritersFault }
 {
     let mut rest = text;

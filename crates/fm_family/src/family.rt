@@ -99,7 +99,8 @@ impl<
         requires callable { F.IsAlwaysCallable f }
         requires clones { ClonesEqual LS.is_clone LS.eq }
         ensures called { IfOk result (λ r. (metric : M) × FnOnceReturnsAt F.FnOnce f metric r) }
-        ensures refused { IfErr result (λ e. (e ≡ Memory) ⊎ MF.promises (arc_value self.now.shared).factory (Err e)) }
+        ensures refused { IfErr result
+            (λ e. (e ≡ Memory) ⊎ MF.promises (arc_value self.now.shared).factory (Err e)) }
     {
         let shared = &*self.shared;
         let core = shared.core.read(&self.wait);

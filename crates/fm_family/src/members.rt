@@ -90,7 +90,8 @@ impl<LS: Clone + Eq + Hash + Drop, M: Drop, S: BuildHasher> FamilyCore<LS, M, S>
     ) -> Result<usize, MetricError>
         requires ready { get LS.eq self.old.members labels.now ≡ None → MF.is_ready factory.now }
         requires clones { ClonesEqual LS.is_clone LS.eq }
-        ensures gets { GetsOrAdds LS.eq (MF.promises factory.now) labels.now self.old.members.entries
+        ensures gets { GetsOrAdds LS.eq (MF.promises factory.now)
+            labels.now self.old.members.entries
             self.new.members.entries (HoldsMetric self.new.members.entries) result }
         ensures within { IfOk result (λ i. i < length self.new.members.entries) }
         ensures different { IsUnique LS.eq self.new.members }
@@ -117,7 +118,8 @@ impl<LS: Clone + Eq + Hash + Drop, M: Drop, S: BuildHasher> FamilyCore<LS, M, S>
         requires ready { get LS.eq self.old.members labels.now ≡ None → MF.is_ready factory.now }
         requires clones { ClonesEqual LS.is_clone LS.eq }
         ensures* gets { sem 𝓛
-            (ends_with_member LS.row M.row S.row S.Hasher.row LS.Hash S.BuildHasher S.Hasher.Hasher self.entry
+            (ends_with_member LS.row M.row S.row S.Hasher.row LS.Hash
+            S.BuildHasher S.Hasher.Hasher self.entry
             labels.now (MF.promises factory.now) result) }
         ensures there { IsSome (get LS.eq self.old.members labels.now) → IsOk result }
     {
@@ -133,9 +135,12 @@ impl<LS: EncodeLabelSet + Eq + Hash, M: EncodePoint, S: BuildHasher> FamilyCore<
     /// metric is protected by a lock.
     pub fn encode_members(&self, encoder: &mut MetricEncoder) -> Result<(), EncodeError>
         ensures offered { HandsMembers (OffersFirst LS.labels M.points self.now.members.entries)
-            (Any (MayFault LS.may_fault M.may_fault) self.now.members.entries) encoder.old encoder.new result }
+            (Any (MayFault LS.may_fault M.may_fault) self.now.members.entries)
+            encoder.old encoder.new result }
         ensures all { encoder.old.refused ≡ None → encoder.new.refused ≡ None → result ≡ Ok tt
-            → (ms : List Member) × OffersOf LS.labels M.points self.now.members.entries ms × MembersClean encoder.old.context ms
+            → (ms : List Member)
+            × OffersOf LS.labels M.points self.now.members.entries ms
+            × MembersClean encoder.old.context ms
             × (encoder.new.output
             ≡ appended encoder.old.context.setting.name encoder.old.output
             (members_samples encoder.old.context ms)) }

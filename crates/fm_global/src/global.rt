@@ -115,7 +115,9 @@ pub fn with_global_registry_mut<R: Wait, M: Drop, T, F: FnOnce(&mut Registry<M>)
     f: F,
 ) -> T
     requires takes { (registry : _) → HasBook registry → FnOnceTakesAtMut F.FnOnce f registry }
-    requires leaves { (old : _) (result : T) (new : _) → HasBook old → FnOnceReturnsAtMut F.FnOnce f old result new → HasBook new }
+    requires leaves { (old : _) (result : T) (new : _) → HasBook old
+        → FnOnceReturnsAtMut F.FnOnce f old result new
+        → HasBook new }
     ensures { (old : _) × (new : _) × HasBook old × FnOnceReturnsAtMut F.FnOnce f old result new }
 {
     let mut kept = global.kept.write(rt);

@@ -24,7 +24,8 @@ impl<M: Drop> Kept<M> {
         unit: Option<Unit>,
         metric: M,
     ) -> Result<(), RegistryError>
-        ensures registers { Registers (λ t. t ≡ metric_type) (asked_metric name help unit metric) self.old self.new result }
+        ensures registers { Registers (λ t. t ≡ metric_type) (asked_metric name help unit metric)
+            self.old self.new result }
         ensures sound { HasBook self.old }
     {
         self.is_initialized.store(true, SeqCst);
@@ -44,7 +45,8 @@ pub fn register_metric<R: Wait>(
     unit: Option<Unit>,
     metric: Box<dyn EncodeMetric>,
 ) -> Result<(), RegistryError>
-    ensures { RegistersLocked (Registers (λ t. types metric t) (asked_metric name help unit metric)) result }
+    ensures { RegistersLocked (Registers (λ t. types metric t)
+        (asked_metric name help unit metric)) result }
 {
     let metric_type = type_of(&metric);
     let mut kept = global.kept.write(rt);
@@ -61,7 +63,8 @@ pub fn register_with_unit<R: Wait>(
     unit: Unit,
     metric: Box<dyn EncodeMetric>,
 ) -> Result<(), RegistryError>
-    ensures { RegistersLocked (Registers (λ t. types metric t) (asked_metric name help (Some unit) metric)) result }
+    ensures { RegistersLocked (Registers (λ t. types metric t)
+        (asked_metric name help (Some unit) metric)) result }
 {
     register_metric(rt, alloc, global, name, help, Some(unit), metric)
 }
@@ -75,7 +78,8 @@ pub fn register<R: Wait>(
     help: String,
     metric: Box<dyn EncodeMetric>,
 ) -> Result<(), RegistryError>
-    ensures { RegistersLocked (Registers (λ t. types metric t) (asked_metric name help None metric)) result }
+    ensures { RegistersLocked (Registers (λ t. types metric t)
+        (asked_metric name help None metric)) result }
 {
     register_metric(rt, alloc, global, name, help, None, metric)
 }

@@ -29,7 +29,9 @@ impl Model for Counts {
 
     ghost view = { λ s. record { buckets = s.buckets.items; count = s.count; sum = s.sum } };
 
-    ghost invariant = { λ s. IsOfSome s.bounds.items (record { buckets = s.buckets.items; count = s.count; sum = s.sum }) };
+    ghost invariant = { λ s.
+        IsOfSome s.bounds.items
+        (record { buckets = s.buckets.items; count = s.count; sum = s.sum }) };
 }
 
 impl Counts {
@@ -81,7 +83,8 @@ impl Counts {
     // Counts one value more.
     pub(crate) fn add(&mut self, value: Fixed) -> Result<(), MetricError>
         ensures counted { OnOk result
-            ((bounds xs : List ℤ) → IsCounts bounds xs self.old → IsCounts bounds (xs ++ value ∷ []) self.new) }
+            ((bounds xs : List ℤ)
+            → IsCounts bounds xs self.old → IsCounts bounds (xs ++ value ∷ []) self.new) }
         ensures full { (result ≡ Err CountFull) ↔ (self.old.count + 1 ≡ 2 ^ 64) }
         ensures only_full { IfErr result (λ e. e ≡ CountFull) }
         ensures count { OnOk result (self.new.count ≡ self.old.count + 1) }
@@ -101,9 +104,11 @@ impl Counts {
     // Adds what the other counts, if it has the same bounds.
     pub(crate) fn merge(&mut self, other: &Counts) -> Result<(), MetricError>
         ensures merged { OnOk result (self.new ≡ merged self.old other.now) }
-        ensures same { OnOk result (upper_bounds self.old.buckets ≡ upper_bounds other.now.buckets) }
+        ensures same { OnOk result
+            (upper_bounds self.old.buckets ≡ upper_bounds other.now.buckets) }
         ensures few { OnOk result (self.new.count < 2 ^ 64) }
-        ensures unequal { (result ≡ Err UnequalBounds) ↔ (upper_bounds self.old.buckets ≢ upper_bounds other.now.buckets) }
+        ensures unequal { (result ≡ Err UnequalBounds)
+            ↔ (upper_bounds self.old.buckets ≢ upper_bounds other.now.buckets) }
         ensures full { (result ≡ Err CountFull)
             ↔ ((upper_bounds self.old.buckets ≡ upper_bounds other.now.buckets)
             × (2 ^ 64 ≤ self.old.count + other.now.count)) }
@@ -127,7 +132,9 @@ impl Counts {
 fn count_at(buckets: &mut [Bucket], place: usize)
     requires inside { place < length buckets.old }
     requires small { (d : OneBucket) → (slice_index_or buckets.old place d).count + 1 < 2 ^ 64 }
-    ensures { (d : OneBucket) → buckets.new ≡ slice_set buckets.old place (one_more (slice_index_or buckets.old place d)) }
+    ensures { (d : OneBucket)
+        → buckets.new ≡ slice_set buckets.old place
+        (one_more (slice_index_or buckets.old place d)) }
 {
     if buckets[place].inc().is_err() {
         unreachable!()

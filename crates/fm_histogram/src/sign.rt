@@ -37,7 +37,9 @@ pub trait Sign: Drop {
         created: Option<Duration>,
         points: &mut PointEncoder,
     ) -> Result<(), EncodeError>
-        ensures { HandsPoints (λ ps. ps ≡ point counts.now (option_map millis created) ∷ []) ⊥ points.old points.new result };
+        ensures { HandsPoints
+            (λ ps. ps ≡ point counts.now (option_map millis created) ∷ [])
+            ⊥ points.old points.new result };
 }
 
 /// Of histograms: values and bounds that are not negative are taken.

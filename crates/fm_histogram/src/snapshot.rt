@@ -101,7 +101,9 @@ impl<S: Sign> SnapshotOf<S> {
         created: Option<Duration>,
         points: &mut PointEncoder,
     ) -> Result<(), EncodeError>
-        ensures { HandsPoints (λ ps. ps ≡ S.point self.now (option_map millis created) ∷ []) ⊥ points.old points.new result }
+        ensures { HandsPoints
+            (λ ps. ps ≡ S.point self.now (option_map millis created) ∷ [])
+            ⊥ points.old points.new result }
     {
         S::encode(&self.counts, created, points)
     }
@@ -112,9 +114,11 @@ impl<S: Sign> SnapshotOf<S> {
         ensures counted { OnOk result
             ((bounds xs : List ℤ) → IsHistogram (takes S.NEGATIVE) bounds xs self.old
             → IsHistogram (takes S.NEGATIVE) bounds (xs ++ value ∷ []) self.new) }
-        ensures full { (result ≡ Err CountFull) ↔ ((self.old.count + 1 ≡ 2 ^ 64) × (takes S.NEGATIVE value ≡ true)) }
+        ensures full { (result ≡ Err CountFull)
+            ↔ ((self.old.count + 1 ≡ 2 ^ 64) × (takes S.NEGATIVE value ≡ true)) }
         ensures only_full { IfErr result (λ e. e ≡ CountFull) }
-        ensures count { OnOk result (self.new.count ≡ self.old.count + (if takes S.NEGATIVE value then 1 else 0)) }
+        ensures count { OnOk result
+            (self.new.count ≡ self.old.count + (if takes S.NEGATIVE value then 1 else 0)) }
         ensures kept { OnErr result (self.new ≡ self.old) }
     {
         if !S::NEGATIVE && value < Fixed::ZERO {
@@ -131,7 +135,8 @@ impl<S: Sign> SnapshotOf<S> {
             ((bounds xs ys : List ℤ) → IsHistogram (takes S.NEGATIVE) bounds xs self.old
             → IsHistogram (takes S.NEGATIVE) bounds ys other.now
             → IsHistogram (takes S.NEGATIVE) bounds (xs ++ ys) self.new) }
-        ensures unequal { (result ≡ Err UnequalBounds) ↔ (upper_bounds self.old.buckets ≢ upper_bounds other.now.buckets) }
+        ensures unequal { (result ≡ Err UnequalBounds)
+            ↔ (upper_bounds self.old.buckets ≢ upper_bounds other.now.buckets) }
         ensures full { (result ≡ Err CountFull)
             ↔ ((upper_bounds self.old.buckets ≡ upper_bounds other.now.buckets)
             × (2 ^ 64 ≤ self.old.count + other.now.count)) }

@@ -24,7 +24,8 @@ struct Work<'a, S: Snapshot, G: Gate> {
 
 // The result of the worker.
 impl<'a, S: Snapshot, G: Gate> Promise<Result<S, TallyError>> for Work<'a, S, G> {
-    ghost kept_by = { λ w r. IsObserved S.taken S.counts (G.may_refuse w.gate.now) (S.counts w.empty.now) w.index
+    ghost kept_by = { λ w r. IsObserved S.taken S.counts (G.may_refuse w.gate.now)
+        (S.counts w.empty.now) w.index
         w.piece.now r };
 }
 
@@ -36,7 +37,8 @@ fn observe_piece<S: Snapshot + Drop, G: Gate>(
     piece: &[Fixed],
 ) -> Result<S, TallyError>
     requires { (S.counts empty.now).count ≡ 0 }
-    ensures { IsObserved S.taken S.counts (G.may_refuse gate.now) (S.counts empty.now) index piece.now result }
+    ensures { IsObserved S.taken S.counts (G.may_refuse gate.now)
+        (S.counts empty.now) index piece.now result }
 {
     if !gate.pass(index) {
         return Err(TallyError::GateRefused { piece: index });
@@ -67,13 +69,15 @@ fn start_all<'s, E, S: Snapshot + Send + Sync + Drop, G: Gate>(
     requires { (S.counts empty.now).count ≡ 0 }
     ensures all { IfOk result (λ r. r.1 ≡ true → vec_len r.0 ≡ length pieces.now) }
     ensures len { IfOk result (λ r. vec_len r.0 ≤ length pieces.now) }
-    ensures index { IfOk result (λ r. (k : ℕ) (d : _) → k < vec_len r.0 → (slice_index_or r.0.items k d).promise.index ≡ k) }
+    ensures index { IfOk result (λ r. (k : ℕ) (d : _) → k < vec_len r.0
+        → (slice_index_or r.0.items k d).promise.index ≡ k) }
     ensures empty { IfOk result (λ r. (k : ℕ) (d : _) → k < vec_len r.0
         → (slice_index_or r.0.items k d).promise.empty.now ≡ empty.now) }
     ensures gate { IfOk result (λ r. (k : ℕ) (d : _) → k < vec_len r.0
         → (slice_index_or r.0.items k d).promise.gate.now ≡ gate.now) }
     ensures piece { IfOk result (λ r. (k : ℕ) (d : _) (e : _) → k < vec_len r.0
-        → (slice_index_or r.0.items k d).promise.piece.now ≡ (slice_index_or pieces.now k e).items) }
+        → (slice_index_or r.0.items k d).promise.piece.now
+        ≡ (slice_index_or pieces.now k e).items) }
     ensures only_memory { IfErr result (λ e. e ≡ TallyError.Memory) }
 {
     let mut workers = Vec::with_capacity(alloc, pieces.len())?;
@@ -87,7 +91,8 @@ fn start_all<'s, E, S: Snapshot + Send + Sync + Drop, G: Gate>(
         };
         let job = move || -> Result<S, TallyError>
             requires { (S.counts empty.now).count ≡ 0 }
-            ensures { IsObserved S.taken S.counts (G.may_refuse gate.entry.now) (S.counts empty.entry.now) index
+            ensures { IsObserved S.taken S.counts (G.may_refuse gate.entry.now)
+                (S.counts empty.entry.now) index
                 piece.entry.now result }
         { observe_piece(empty, gate, index, piece) };
         match scope.spawn_with(work, job) {
@@ -146,7 +151,8 @@ fn run_all<'a, S: Snapshot + Send + Sync + Drop, G: Gate, R: Threads + Wait>(
             ensures { IfOk result (λ r. (r.1 ≡ true → vec_len r.0 ≡ length pieces.entry.now)
                 × (vec_len r.0 ≤ length pieces.entry.now)
                 × ((k : ℕ) (d : _) (e : _) → k < vec_len r.0
-                → IsObserved S.taken S.counts (G.may_refuse gate.entry.now) (S.counts empty.entry.now) k
+                → IsObserved S.taken S.counts (G.may_refuse gate.entry.now)
+                (S.counts empty.entry.now) k
                 (slice_index_or pieces.entry.now k e).items (slice_index_or r.0.items k d)))
                 × IfErr result (λ e. e ≡ TallyError.Memory) }
         { join_all(scope, rt, alloc, empty, pieces, gate) },
@@ -165,10 +171,14 @@ fn merge_all<S: Snapshot + Drop, G: Gate>(
     requires done { (k : ℕ) (d : _) (e : _) → k < length done.now
         → IsObserved S.taken S.counts (G.may_refuse gate.now) (S.counts empty.now) k
         (slice_index_or pieces.now k e).items (slice_index_or done.now k d) }
-    ensures ok { IfOk result (λ s. (bounds : List ℤ) → IsHistogram S.taken bounds [] (S.counts empty.now)
-        → IsHistogram S.taken bounds (flat_map (λ p. p.items) (take (length done.now) pieces.now)) (S.counts s)) }
+    ensures ok { IfOk result (λ s. (bounds : List ℤ)
+        → IsHistogram S.taken bounds [] (S.counts empty.now)
+        → IsHistogram S.taken bounds
+        (flat_map (λ p. p.items) (take (length done.now) pieces.now))
+        (S.counts s)) }
     ensures err { IfErr result
-        (MayFail S.taken (G.may_refuse gate.now) (length pieces.now) (flat_map (λ p. p.items) pieces.now)) }
+        (MayFail S.taken (G.may_refuse gate.now) (length pieces.now)
+        (flat_map (λ p. p.items) pieces.now)) }
 {
     let mut all = empty.duplicate()?;
     for index in 0..done.len() {
@@ -196,7 +206,8 @@ fn observe_pieces<S: Snapshot + Send + Sync + Drop, G: Gate, R: Threads + Wait>(
         × IsBoundsOf S.taken bounds.now rising
         × IsHistogram S.taken rising (flat_map (λ p. p.items) pieces.now) (S.counts s)) }
     ensures err { IfErr result
-        (MayFail S.taken (G.may_refuse gate.now) (length pieces.now) (flat_map (λ p. p.items) pieces.now)) }
+        (MayFail S.taken (G.may_refuse gate.now) (length pieces.now)
+        (flat_map (λ p. p.items) pieces.now)) }
 {
     let empty = S::of_no_values(alloc, bounds)?;
     let (done, all_started) = run_all(rt, alloc, &empty, pieces, gate)?;
@@ -228,7 +239,8 @@ pub fn observe_all<G: Gate, R: Threads + Wait>(
         × IsBoundsOf is_taken bounds.now rising
         × IsHistogram is_taken rising (flat_map (λ p. p.items) pieces.now) s) }
     ensures err { IfErr result
-        (MayFail is_taken (G.may_refuse gate.now) (length pieces.now) (flat_map (λ p. p.items) pieces.now)) }
+        (MayFail is_taken (G.may_refuse gate.now) (length pieces.now)
+        (flat_map (λ p. p.items) pieces.now)) }
 {
     observe_pieces(rt, alloc, bounds, pieces, gate)
 }
@@ -245,7 +257,8 @@ pub fn observe_all_gauge<G: Gate, R: Threads + Wait>(
         × IsBoundsOf takes_all bounds.now rising
         × IsHistogram takes_all rising (flat_map (λ p. p.items) pieces.now) s) }
     ensures err { IfErr result
-        (MayFail takes_all (G.may_refuse gate.now) (length pieces.now) (flat_map (λ p. p.items) pieces.now)) }
+        (MayFail takes_all (G.may_refuse gate.now) (length pieces.now)
+        (flat_map (λ p. p.items) pieces.now)) }
 {
     observe_pieces(rt, alloc, bounds, pieces, gate)
 }

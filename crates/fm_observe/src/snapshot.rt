@@ -27,17 +27,22 @@ pub(crate) trait Snapshot: Sized {
 
     // Counts a value. Returns false if the count is full.
     fn take_value(&mut self, value: Fixed) -> bool
-        ensures counted { result ≡ true → (bounds xs : List ℤ) → IsHistogram taken bounds xs (counts self.old)
+        ensures counted { result ≡ true → (bounds xs : List ℤ)
+            → IsHistogram taken bounds xs (counts self.old)
             → IsHistogram taken bounds (xs ++ value ∷ []) (counts self.new) }
         ensures full { result ≡ false → 2 ^ 64 ≤ (counts self.old).count + 1 }
         ensures count { result ≡ true → (counts self.new).count ≤ (counts self.old).count + 1 };
 
     // Adds the counts of a snapshot with the same bounds. Returns false if the count would not fit.
     fn take_all(&mut self, other: &Self) -> bool
-        requires { upper_bounds (counts self.old).buckets ≡ upper_bounds (counts other.now).buckets }
-        ensures counted { result ≡ true → (bounds xs ys : List ℤ) → IsHistogram taken bounds xs (counts self.old)
-            → IsHistogram taken bounds ys (counts other.now) → IsHistogram taken bounds (xs ++ ys) (counts self.new) }
-        ensures full { result ≡ false → 2 ^ 64 ≤ (counts self.old).count + (counts other.now).count };
+        requires { upper_bounds (counts self.old).buckets
+            ≡ upper_bounds (counts other.now).buckets }
+        ensures counted { result ≡ true → (bounds xs ys : List ℤ)
+            → IsHistogram taken bounds xs (counts self.old)
+            → IsHistogram taken bounds ys (counts other.now)
+            → IsHistogram taken bounds (xs ++ ys) (counts self.new) }
+        ensures full { result ≡ false
+            → 2 ^ 64 ≤ (counts self.old).count + (counts other.now).count };
 }
 
 impl<S: Sign> Snapshot for SnapshotOf<S> {

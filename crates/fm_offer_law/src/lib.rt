@@ -11,10 +11,17 @@ ghost use Rattle.fm_offer_law.specs.Ranges.{NumbersFit};
 /// an offer are in range, the offer is valid exactly if it contains no fault; and it is valid, or some error names a
 /// fault that it contains.
 pub fn clean_is_without_fault()
-    ensures faultless { (context : Context) (members : List Member) → MembersClean context members → (k : EncodeError)
+    ensures faultless { (context : Context) (members : List Member)
+        → MembersClean context members
+        → (k : EncodeError)
         → ¬ (MembersFault k context members) }
-    ensures exact { (context : Context) (members : List Member) → IsSnakeCase context.setting.name → NumbersFit context members
-        → (MembersClean context members ↔ ((k : EncodeError) → ¬ (MembersFault k context members))) }
-    ensures either { (context : Context) (members : List Member) → IsSnakeCase context.setting.name → NumbersFit context members
+    ensures exact { (context : Context) (members : List Member)
+        → IsSnakeCase context.setting.name
+        → NumbersFit context members
+        → (MembersClean context members
+        ↔ ((k : EncodeError) → ¬ (MembersFault k context members))) }
+    ensures either { (context : Context) (members : List Member)
+        → IsSnakeCase context.setting.name
+        → NumbersFit context members
         → MembersClean context members ⊎ ((k : EncodeError) × MembersFault k context members) }
 {}

@@ -71,7 +71,9 @@ pub fn encode_labels<'a>(
     encoder: &mut LabelSetEncoder,
     labels: &[(&'a str, LabelValue<'a>)],
 ) -> Result<(), EncodeError>
-    ensures { HandsLabels (map ⟦<(&'a str, LabelValue<'a>) as EncodeLabel>⟧.pieces labels.now) ⊥ encoder.old encoder.new
+    ensures { HandsLabels
+        (map ⟦<(&'a str, LabelValue<'a>) as EncodeLabel>⟧.pieces labels.now)
+        ⊥ encoder.old encoder.new
         result }
 {
     LabelSlice(labels).encode(encoder)

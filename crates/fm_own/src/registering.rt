@@ -31,7 +31,8 @@ fn add_typed<M: Drop>(
     unit: Option<Unit>,
     metric: M,
 ) -> Result<(), RegistryError>
-    ensures registers { Adds (λ t. t ≡ metric_type) (named_metric name.now help.now unit metric) registry.old
+    ensures registers { Adds (λ t. t ≡ metric_type)
+        (named_metric name.now help.now unit metric) registry.old
         registry.new result }
     ensures grows { Grows registry.old registry.new }
     ensures sound { HasBook registry.old → HasBook registry.new }
@@ -49,7 +50,8 @@ fn add_metric(
     unit: Option<Unit>,
     metric: Box<dyn EncodeMetric>,
 ) -> Result<(), RegistryError>
-    ensures registers { Adds (λ t. types metric t) (named_metric name.now help.now unit metric) registry.old
+    ensures registers { Adds (λ t. types metric t)
+        (named_metric name.now help.now unit metric) registry.old
         registry.new result }
     ensures grows { Grows registry.old registry.new }
     ensures sound { HasBook registry.old → HasBook registry.new }
@@ -69,7 +71,8 @@ pub fn add(
     help: &str,
     metric: Box<dyn EncodeMetric>,
 ) -> Result<(), RegistryError>
-    ensures registers { Adds (λ t. types metric t) (named_metric name.now help.now None metric) registry.old
+    ensures registers { Adds (λ t. types metric t)
+        (named_metric name.now help.now None metric) registry.old
         registry.new result }
     ensures grows { Grows registry.old registry.new }
     ensures sound { HasBook registry.old → HasBook registry.new }
@@ -86,7 +89,8 @@ pub fn add_with_unit(
     unit: Unit,
     metric: Box<dyn EncodeMetric>,
 ) -> Result<(), RegistryError>
-    ensures registers { Adds (λ t. types metric t) (named_metric name.now help.now (Some unit) metric) registry.old
+    ensures registers { Adds (λ t. types metric t)
+        (named_metric name.now help.now (Some unit) metric) registry.old
         registry.new result }
     ensures grows { Grows registry.old registry.new }
     ensures sound { HasBook registry.old → HasBook registry.new }

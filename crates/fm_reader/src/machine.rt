@@ -143,7 +143,8 @@ pub(crate) fn step<'a>(
     line: &'a str,
 ) -> Result<Option<Reading>, ReadError>
     requires names { HasNames names.old (state_names (state_of reading)) }
-    ensures names { IfOk result (λ next. IfSome next (λ r. HasNames names.new (state_names (state_of r)))) }
+    ensures names { IfOk result
+        (λ next. IfSome next (λ r. HasNames names.new (state_names (state_of r)))) }
     ensures step { IfOk result (λ next. IsStep (state_of reading) line.now next) }
     ensures memory { IfErr result (λ e. e ≡ Memory) }
 {
@@ -167,7 +168,8 @@ fn step_open<'a>(
     line: &'a str,
 ) -> Result<Option<Reading>, ReadError>
     requires names { HasNames names.old (names_of (closed finished.items current)) }
-    ensures names { IfOk result (λ next. IfSome next (λ r. HasNames names.new (state_names (state_of r)))) }
+    ensures names { IfOk result
+        (λ next. IfSome next (λ r. HasNames names.new (state_names (state_of r)))) }
     ensures step { IfOk result (λ next. IsStep (OpenState finished.items current) line.now next) }
     ensures memory { IfErr result (λ e. e ≡ Memory) }
 {
@@ -198,7 +200,9 @@ fn step_headed(
     metric_type: MetricType,
     line: &str,
 ) -> Result<Option<Reading>, ReadError>
-    ensures step { IfOk result (λ next. IsStep (HeadedState finished.items (string_bytes name) metric_type) line.now next) }
+    ensures step { IfOk result
+        (λ next. IsStep (HeadedState finished.items (string_bytes name) metric_type)
+        line.now next) }
     ensures memory { IfErr result (λ e. e ≡ Memory) }
 {
     let Some(help) = read_help(alloc, &name, line)? else {
@@ -274,7 +278,8 @@ fn read_new_type<'a>(
     names: &mut BTreeSet<&'a str>,
     line: &'a str,
 ) -> Result<Option<(&'a str, MetricType)>, ReadError>
-    ensures found { IfOk result (λ found. FoundNoted names.old line.now (option_map shown_type found) names.new) }
+    ensures found { IfOk result
+        (λ found. FoundNoted names.old line.now (option_map shown_type found) names.new) }
     ensures memory { IfErr result (λ e. e ≡ Memory) }
 {
     let Some((name, metric_type)) = read_type(line) else {

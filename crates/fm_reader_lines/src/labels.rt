@@ -53,7 +53,9 @@ pub(crate) fn read_braces(
 
 // Whether no name comes twice.
 fn are_different(alloc: Global, labels: &[(String, String)]) -> Result<bool, AllocError>
-    ensures { IfOk result (λ different. IsTrue different ↔ AllDifferent (map (λ label. label.name) (labels_of labels.now))) }
+    ensures { IfOk result
+        (λ different. IsTrue different
+        ↔ AllDifferent (map (λ label. label.name) (labels_of labels.now))) }
 {
     let mut names = BTreeSet::new(alloc);
     for (name, _) in labels {

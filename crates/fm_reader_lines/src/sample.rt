@@ -62,7 +62,8 @@ pub fn read_sample(
     metric_type: MetricType,
     line: &str,
 ) -> Result<Option<ReadSample>, AllocError>
-    ensures { IfOk result (λ found. FoundSample line.now name.now metric_type (option_map read_sample_of found)) }
+    ensures { IfOk result
+        (λ found. FoundSample line.now name.now metric_type (option_map read_sample_of found)) }
 {
     let Some(behind) = line.strip_prefix(name) else {
         return Ok(None);

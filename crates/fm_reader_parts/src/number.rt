@@ -60,7 +60,8 @@ pub fn read_fixed(text: &str) -> Option<i128>
 
 // The only whole number that may have this text.
 fn whole_in(text: &str) -> Option<i128>
-    ensures { (z : ℤ) → IsBetween (2 ^ 63) (2 ^ 64) z → text.now ≡ signed_decimal z → result ≡ Some z }
+    ensures { (z : ℤ) → IsBetween (2 ^ 63) (2 ^ 64) z
+        → text.now ≡ signed_decimal z → result ≡ Some z }
 {
     let Ok(number) = text.parse::<i128>() else {
         return None;
@@ -83,7 +84,8 @@ fn millis_in(text: &str) -> Option<u128>
 
 // The only number that may have this text.
 fn fixed_in(text: &str) -> Option<i128>
-    ensures { (z : ℤ) → IsBetween (2 ^ 127) (2 ^ 127) z → text.now ≡ fixed_text z → result ≡ Some z }
+    ensures { (z : ℤ) → IsBetween (2 ^ 127) (2 ^ 127) z
+        → text.now ≡ fixed_text z → result ≡ Some z }
 {
     let Some(magnitude) = text.strip_prefix('-') else {
         let Some(millionths) = magnitude_in(text) else {

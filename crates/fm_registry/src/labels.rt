@@ -21,7 +21,9 @@ pub(crate) fn subsystem_namespace(
     namespace: &Option<String>,
     name: &str,
 ) -> Result<String, AllocError>
-    ensures { IfOk result (λ text. Some (string_bytes text) ≡ join_name (option_map string_bytes namespace.now) name.now) }
+    ensures { IfOk result
+        (λ text. Some (string_bytes text)
+        ≡ join_name (option_map string_bytes namespace.now) name.now) }
 {
     match namespace {
         None => String::from_str(alloc, name),
@@ -60,7 +62,8 @@ pub(crate) fn place_of_label(labels: &[(String, String)], name: &str) -> Option<
 
 // Replaces the label that has the same name, or adds the label at the end.
 fn set_label(labels: &mut Vec<(String, String)>, label: (String, String)) -> Result<(), AllocError>
-    ensures { OnOk result (labels_of labels.new.items ≡ label_set (labels_of labels.old.items) (label_of label)) }
+    ensures { OnOk result
+        (labels_of labels.new.items ≡ label_set (labels_of labels.old.items) (label_of label)) }
 {
     match place_of_label(labels, label.0.as_str()) {
         Some(place) => {
@@ -97,7 +100,9 @@ pub(crate) fn merged_labels(
     parent: &Option<Vec<(String, String)>>,
     labels: Vec<(String, String)>,
 ) -> Result<Option<Vec<(String, String)>>, AllocError>
-    ensures { IfOk result (λ merged. seen_labels merged ≡ merge_labels (seen_labels parent.now) (labels_of labels.items)) }
+    ensures { IfOk result
+        (λ merged. seen_labels merged
+        ≡ merge_labels (seen_labels parent.now) (labels_of labels.items)) }
 {
     if parent.is_none() && labels.is_empty() {
         return Ok(None);
@@ -145,7 +150,8 @@ fn is_among(labels: &[(String, String)], name: &str) -> bool
 // it.
 fn is_refused_behind(before: &[(String, String)], name: &str) -> bool
     ensures { MatchBool result
-        (label_refusal_behind (map (λ l. l.name) (labels_of before.now)) name.now ≡ Some (label_fault name.now))
+        (label_refusal_behind (map (λ l. l.name) (labels_of before.now)) name.now
+        ≡ Some (label_fault name.now))
         (label_refusal_behind (map (λ l. l.name) (labels_of before.now)) name.now ≡ None) }
 {
     if !is_label_name(name) {
@@ -156,7 +162,9 @@ fn is_refused_behind(before: &[(String, String)], name: &str) -> bool
 
 // The index of the first label that a root refuses.
 fn refused_place(labels: &[(String, String)]) -> Option<usize>
-    ensures { MatchOption result (root_labels_refusal (labels_of labels.now) ≡ None) (λ place. IsRefusedAt labels.now place) }
+    ensures { MatchOption result
+        (root_labels_refusal (labels_of labels.now) ≡ None)
+        (λ place. IsRefusedAt labels.now place) }
 {
     for place in 0..labels.len() {
         if is_refused_behind(&labels[..place], labels[place].0.as_str()) {

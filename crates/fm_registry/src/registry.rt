@@ -101,7 +101,8 @@ impl<M> Registry<M> {
     /// this one, joined by underscores.
     pub fn namespace(&self) -> Option<&str>
         ensures tree { option_map (λ namespace. namespace.now) result ≡ self.now.facts.namespace }
-        ensures book { (b : _) → Shows self.now b → option_map (λ namespace. namespace.now) result ≡ namespace_at b [] }
+        ensures book { (b : _) → Shows self.now b
+            → option_map (λ namespace. namespace.now) result ≡ namespace_at b [] }
     {
         match &self.namespace {
             Some(namespace) => Some(namespace.as_str()),
@@ -119,7 +120,8 @@ impl<M> Registry<M> {
 
     // Adds the metrics that are registered in this registry.
     fn list_here<'a>(&'a self, list: &mut Vec<ListedMetric<'a, M>>) -> Result<(), AllocError>
-        ensures { OnOk result (seen_list list.new.items ≡ seen_list list.old.items ++ own_metrics self.now.facts) }
+        ensures { OnOk result
+            (seen_list list.new.items ≡ seen_list list.old.items ++ own_metrics self.now.facts) }
     {
         match &self.metrics {
             Some(metrics) => list_metrics(&self.namespace, &self.const_labels, metrics, list),
@@ -129,7 +131,8 @@ impl<M> Registry<M> {
 
     // Adds the metrics of this registry, and then those of each subsystem, depth first.
     fn list_into<'a>(&'a self, list: &mut Vec<ListedMetric<'a, M>>) -> Result<(), AllocError>
-        ensures { OnOk result (seen_list list.new.items ≡ seen_list list.old.items ++ listed_tree self.now) }
+        ensures { OnOk result
+            (seen_list list.new.items ≡ seen_list list.old.items ++ listed_tree self.now) }
     {
         self.list_here(list)?;
         if let Some(subsystems) = &self.subsystems {
@@ -145,7 +148,9 @@ impl<M> Registry<M> {
     /// allocates the list only.
     pub fn listing(&self, alloc: Global) -> Result<Vec<ListedMetric<'_, M>>, AllocError>
         ensures tree { IfOk result (λ list. seen_list list.items ≡ listed_tree self.now) }
-        ensures book { IfOk result (λ list. HasBook self.now → (b : _) → Shows self.now b → seen_list list.items ≡ order b) }
+        ensures book { IfOk result
+            (λ list. HasBook self.now → (b : _) → Shows self.now b
+            → seen_list list.items ≡ order b) }
     {
         let mut list = Vec::new(alloc);
         self.list_into(&mut list)?;

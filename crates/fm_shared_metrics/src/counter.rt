@@ -56,8 +56,10 @@ impl<N: CounterValue> Counter<N> {
     /// Adds `v` and returns the total before. Fails with `NegativeIncrement` if `v` is negative, and then changes
     /// nothing.
     pub fn inc_by(&self, v: N) -> Result<N, MetricError>
-        ensures taken { IfOk result (λ before. N.in_range before × ¬ (IsLess N.partial_cmp v N.ZERO)) }
-        ensures refused { IfErr result (λ e. (e ≡ NegativeIncrement) × IsLess N.partial_cmp v N.ZERO) }
+        ensures taken { IfOk result
+            (λ before. N.in_range before × ¬ (IsLess N.partial_cmp v N.ZERO)) }
+        ensures refused { IfErr result
+            (λ e. (e ≡ NegativeIncrement) × IsLess N.partial_cmp v N.ZERO) }
     {
         if v < N::ZERO {
             return Err(MetricError::NegativeIncrement);
@@ -68,8 +70,11 @@ impl<N: CounterValue> Counter<N> {
     /// Sets the total to `v` in one atomic step. Fails with `LessThanBefore` if the total is greater, and then keeps
     /// it.
     pub fn set(&self, v: N) -> Result<(), MetricError>
-        ensures raised { (before : N) × N.in_range before × N.Atomic.Atomic.raises (total_of self.now) v before
-            × MatchResult result (λ _. ¬ (IsLess N.partial_cmp v before)) (λ e. (e ≡ LessThanBefore) × IsLess N.partial_cmp v before) }
+        ensures raised { (before : N) × N.in_range before
+            × N.Atomic.Atomic.raises (total_of self.now) v before
+            × MatchResult result
+            (λ _. ¬ (IsLess N.partial_cmp v before))
+            (λ e. (e ≡ LessThanBefore) × IsLess N.partial_cmp v before) }
     {
         let before = self.count.total.raise(v);
         if v < before {

@@ -108,7 +108,8 @@ impl<N: GaugeValue> TypedMetric for Gauge<N> {
 }
 
 impl<N: GaugeValue + EncodeGaugeValue> EncodePoint for Gauge<N> {
-    ghost points = { λ _ ps. (value : N) × N.in_range value × (ps ≡ GaugePoint (N.numbers value) ∷ []) };
+    ghost points = { λ _ ps.
+        (value : N) × N.in_range value × (ps ≡ GaugePoint (N.numbers value) ∷ []) };
 
     ghost may_fault = { λ _. (value : N) × N.in_range value × N.may_fault value };
 

@@ -40,8 +40,10 @@ pub trait StateSetValue: PartialEq + Sized + Send + Sync + Drop {
 
 // The index of the first of `all` that equals `state`.
 fn find_state<T: PartialEq>(all: &[T], state: &T) -> Option<usize>
-    ensures place { MatchOption result (IsNoState T.eq all.now state.now) (IsStatePlace T.eq all.now) }
-    ensures found { MatchOption result (IsNoState T.eq all.now state.now) (λ _. IsState T.eq all.now state.now) }
+    ensures place { MatchOption result
+        (IsNoState T.eq all.now state.now) (IsStatePlace T.eq all.now) }
+    ensures found { MatchOption result
+        (IsNoState T.eq all.now state.now) (λ _. IsState T.eq all.now state.now) }
 {
     for (i, x) in all.iter().enumerate() {
         if *x == *state {
@@ -67,7 +69,8 @@ trait TellStates: StateSetValue + 'static {
 
 impl<T: StateSetValue + 'static> TellStates for T {
     fn tell_states(&self, alloc: Global) -> Result<Vec<(&str, bool)>, MetricError>
-        ensures told { IfOk result (λ told. map state_of told.items ≡ states_at T.eq T.all T.text self.now) }
+        ensures told { IfOk result
+            (λ told. map state_of told.items ≡ states_at T.eq T.all T.text self.now) }
         ensures one { AreDifferent T.eq T.all → ∥ IsState T.eq T.all self.now ∥₁
             → IfOk result (λ told. count_by (λ p. p.1) told.items ≡ 1) }
         ensures memory { IfErr result (λ e. e ≡ Memory) }
@@ -128,7 +131,9 @@ impl<T: StateSetValue + 'static> StateSet<T> {
 
     /// Makes `state` the current state. Fails with `UnknownState` if no state equals it, and then changes nothing.
     pub fn set(&self, state: T) -> Result<(), MetricError>
-        ensures { MatchResult result (λ _. IsState T.eq T.all state) (λ e. (e ≡ UnknownState) × IsNoState T.eq T.all state) }
+        ensures { MatchResult result
+            (λ _. IsState T.eq T.all state)
+            (λ e. (e ≡ UnknownState) × IsNoState T.eq T.all state) }
     {
         let place = find_state(T::variants(), &state).ok_or(MetricError::UnknownState)?;
         self.place.store(place as u64, SeqCst);
@@ -148,7 +153,8 @@ impl<T: StateSetValue + 'static> StateSet<T> {
         ensures told { IfOk result (λ told. (current : T)
             × IsVariant T.eq T.all current
             × (map state_of told.items ≡ states_at T.eq T.all T.text current)) }
-        ensures one { IfOk result (λ told. AreDifferent T.eq T.all → count_by (λ p. p.1) told.items ≡ 1) }
+        ensures one { IfOk result
+            (λ told. AreDifferent T.eq T.all → count_by (λ p. p.1) told.items ≡ 1) }
         ensures memory { IfErr result (λ e. e ≡ Memory) }
     {
         self.current().tell_states(self.alloc)
@@ -268,8 +274,10 @@ impl<T: StateSetValue + 'static> ConstStateSet<T> {
 
     /// Each state's text, in order, and whether the state equals this one. Fails with `Memory` if memory runs out.
     pub fn states(&self) -> Result<Vec<(&str, bool)>, MetricError>
-        ensures told { IfOk result (λ told. map state_of told.items ≡ states_at T.eq T.all T.text (kept_state self.now)) }
-        ensures one { IfOk result (λ told. AreDifferent T.eq T.all → count_by (λ p. p.1) told.items ≡ 1) }
+        ensures told { IfOk result
+            (λ told. map state_of told.items ≡ states_at T.eq T.all T.text (kept_state self.now)) }
+        ensures one { IfOk result
+            (λ told. AreDifferent T.eq T.all → count_by (λ p. p.1) told.items ≡ 1) }
         ensures memory { IfErr result (λ e. e ≡ Memory) }
     {
         self.state.tell_states(self.alloc)
@@ -281,7 +289,8 @@ impl<T: StateSetValue + Clone + 'static> ConstStateSet<T> {
 
     /// A state set with a clone of the state, which must equal the state. Cloning fails if memory runs out.
     pub fn clone(&self) -> Result<ConstStateSet<T>, AllocError>
-        requires { (state : T) → T.is_clone (kept_state self.now) state → T.eq (kept_state self.now) state ≡ true }
+        requires { (state : T)
+            → T.is_clone (kept_state self.now) state → T.eq (kept_state self.now) state ≡ true }
         ensures { IfOk result (λ s. T.is_clone (kept_state self.now) (kept_state s)) }
     {
         let state = self.state.clone()?;

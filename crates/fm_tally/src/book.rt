@@ -79,12 +79,16 @@ impl Book {
     pub fn run(&mut self, alloc: Global, events: &[Event]) -> Result<Vec<Reply>, TallyError>
         ensures replies { IfOk result (λ r. r.items ≡ replies self.old events.now) }
         ensures sum { OnOk result (self.new ≡ self.old + sum_of (accepted self.old events.now)) }
-        ensures own { IfOk result (λ r. (k who : ℕ) (d : Reply) (e : Event) → k < length events.now → slice_index_or events.now k e ≡ Event.Read who
-            → (s : ℕ) × (slice_index_or r.items k d ≡ Reply.Sum s) × (amount who (accepted self.old (take k events.now)) ≤ s)) }
+        ensures own { IfOk result (λ r. (k who : ℕ) (d : Reply) (e : Event)
+            → k < length events.now
+            → slice_index_or events.now k e ≡ Event.Read who
+            → (s : ℕ) × (slice_index_or r.items k d ≡ Reply.Sum s)
+            × (amount who (accepted self.old (take k events.now)) ≤ s)) }
         ensures none_refused { IfOk result (λ r. self.old + sum_by event_value events.now < 2 ^ 64
             → All (λ x. x ≢ Reply.Full) r.items) }
         ensures whole_sum { OnOk result
-            (self.old + sum_by event_value events.now < 2 ^ 64 → self.new ≡ self.old + sum_by event_value events.now) }
+            (self.old + sum_by event_value events.now < 2 ^ 64
+            → self.new ≡ self.old + sum_by event_value events.now) }
         ensures only_memory { IfErr result (λ e. e ≡ TallyError.Memory) }
         ensures kept { OnErr result (self.new ≡ self.old) }
     {

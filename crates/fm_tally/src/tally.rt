@@ -174,9 +174,12 @@ impl<K: TallyKey> Tally<K> {
     pub fn close(self, shares: Vec<Share<K>>) -> Result<u64, TallyError>
         ensures missing { (result ≡ Err TallyError.MissingShares) ↔ (vec_len shares ≢ self) }
         ensures overrun { (result ≡ Err TallyError.Overrun)
-            ↔ ((vec_len shares ≡ self) × ¬ (All (λ s. s.seen ≤ total_of shares.items) shares.items)) }
-        ensures sum { IfOk result (λ sum. (sum ≡ total_of shares.items) × All (λ s. s.seen ≤ sum) shares.items) }
-        ensures only { IfErr result (λ e. (e ≡ TallyError.MissingShares) ⊎ (e ≡ TallyError.Overrun)) }
+            ↔ ((vec_len shares ≡ self)
+            × ¬ (All (λ s. s.seen ≤ total_of shares.items) shares.items)) }
+        ensures sum { IfOk result
+            (λ sum. (sum ≡ total_of shares.items) × All (λ s. s.seen ≤ sum) shares.items) }
+        ensures only { IfErr result
+            (λ e. (e ≡ TallyError.MissingShares) ⊎ (e ≡ TallyError.Overrun)) }
     {
         let Tally {
             shares: wanted,

@@ -22,7 +22,12 @@ static JOBS: [Job; 4] = [Job::Pending, Job::Running, Job::Completed, Job::Failed
 impl StateSetValue for Job {
     ghost all = { Pending ∷ Running ∷ Completed ∷ Failed ∷ [] };
 
-    ghost text = { elim [ Pending ↦ codes "pending" | Running ↦ codes "running" | Completed ↦ codes "completed" | Failed ↦ codes "failed" ] };
+    ghost text = { elim [
+      | Pending ↦ codes "pending"
+      | Running ↦ codes "running"
+      | Completed ↦ codes "completed"
+      | Failed ↦ codes "failed"
+    ] };
 
     fn variants() -> &'static [Job] {
         &JOBS

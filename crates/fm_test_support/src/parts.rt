@@ -132,7 +132,8 @@ pub struct Perhaps {
 }
 
 impl EncodeLabel for Perhaps {
-    ghost pieces = { λ l. if l.is_written then NamePiece l.name.now ∷ ValuePiece (codes "x") ∷ [] else [] };
+    ghost pieces = { λ l.
+        if l.is_written then NamePiece l.name.now ∷ ValuePiece (codes "x") ∷ [] else [] };
 
     fn encode(&self, encoder: &mut LabelEncoder) -> Result<(), EncodeError> {
         if !self.is_written {

@@ -16,7 +16,8 @@ pub struct CounterWith<V, E> {
 }
 
 impl<V: EncodeCounterValue, E: EncodeExemplar> EncodePoint for CounterWith<V, E> {
-    ghost points = { λ p ps. ps ≡ CounterPoint (V.numbers p.total) (E.exemplars p.exemplar) None ∷ [] };
+    ghost points = { λ p ps. ps
+        ≡ CounterPoint (V.numbers p.total) (E.exemplars p.exemplar) None ∷ [] };
 
     ghost may_fault = { λ p. V.may_fault p.total ⊎ E.may_fault p.exemplar };
 

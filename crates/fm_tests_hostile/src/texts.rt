@@ -60,7 +60,12 @@ static ODD: [Odd; 4] = [Odd::Quoted, Odd::Slashed, Odd::Lined, Odd::Ended];
 impl StateSetValue for Odd {
     ghost all = { Quoted ∷ Slashed ∷ Lined ∷ Ended ∷ [] };
 
-    ghost text = { elim [ Quoted ↦ codes "a\"} 1" | Slashed ↦ codes "\\n" | Lined ↦ codes "\n" | Ended ↦ codes "x\n# EOF\n" ] };
+    ghost text = { elim [
+      | Quoted ↦ codes "a\"} 1"
+      | Slashed ↦ codes "\\n"
+      | Lined ↦ codes "\n"
+      | Ended ↦ codes "x\n# EOF\n"
+    ] };
 
     fn variants() -> &'static [Odd] {
         &ODD

@@ -27,7 +27,8 @@ pub struct TwoBuckets<E> {
 }
 
 impl<E: EncodeExemplar> EncodePoint for TwoBuckets<E> {
-    ghost points = { λ p ps. ps ≡ HistogramPoint p.buckets (E.exemplars p.exemplar ∷ [] ∷ []) p.count p.sum None ∷ [] };
+    ghost points = { λ p ps. ps
+        ≡ HistogramPoint p.buckets (E.exemplars p.exemplar ∷ [] ∷ []) p.count p.sum None ∷ [] };
 
     ghost may_fault = { λ _. Unit {0} };
 
@@ -42,7 +43,9 @@ impl<E: EncodeExemplar> EncodePoint for TwoBuckets<E> {
 pub struct TwoGaugeBuckets<E>(pub TwoBuckets<E>);
 
 impl<E: EncodeExemplar> EncodePoint for TwoGaugeBuckets<E> {
-    ghost points = { λ p ps. ps ≡ GaugeHistogramPoint p.0.buckets (E.exemplars p.0.exemplar ∷ [] ∷ []) p.0.count p.0.sum ∷ [] };
+    ghost points = { λ p ps. ps
+        ≡ GaugeHistogramPoint p.0.buckets (E.exemplars p.0.exemplar ∷ [] ∷ [])
+        p.0.count p.0.sum ∷ [] };
 
     ghost may_fault = { λ _. Unit {0} };
 
@@ -146,7 +149,9 @@ impl EncodeLabel for ValueOnly {
 pub struct TwoExemplars<LS>(pub LS, pub Fixed);
 
 impl<LS: EncodeLabelSet> EncodeExemplar for TwoExemplars<LS> {
-    ghost exemplars = { λ e. record { labels = []; value = e.1; time = None } ∷ record { labels = LS.labels e.0; value = e.1; time = None } ∷ [] };
+    ghost exemplars = { λ e.
+        record { labels = []; value = e.1; time = None }
+        ∷ record { labels = LS.labels e.0; value = e.1; time = None } ∷ [] };
 
     ghost may_fault = { λ e. LS.may_fault e.0 };
 

@@ -83,7 +83,8 @@ struct Locked<H: Wait + Drop> {
 }
 
 impl<H: Wait + Send + Sync + Drop> EncodeMetric for Locked<H> {
-    ghost offers = { λ _ ms. (value : _) × MembersOf [] (λ ps. ps ≡ GaugePoint (Whole value ∷ []) ∷ []) ms };
+    ghost offers = { λ _ ms.
+        (value : _) × MembersOf [] (λ ps. ps ≡ GaugePoint (Whole value ∷ []) ∷ []) ms };
 
     fn encode(&self, encoder: &mut MetricEncoder) -> Result<(), EncodeError> {
         let value = *self.value.lock(&self.rt);

@@ -28,7 +28,9 @@ pub struct Queue {
 }
 
 impl EncodeLabelSet for Queue {
-    ghost labels = { λ q. label (codes "queue") (string_bytes q.name) ∷ label (codes "priority") (decimal q.priority) ∷ [] };
+    ghost labels = { λ q.
+        label (codes "queue") (string_bytes q.name)
+        ∷ label (codes "priority") (decimal q.priority) ∷ [] };
 
     fn encode(&self, encoder: &mut LabelSetEncoder) -> Result<(), EncodeError> {
         let name = LabelValue::Text(self.name.as_str());

@@ -26,7 +26,11 @@ impl<LS: EncodeLabelSet + Send + Sync + Drop> EncodeMetric for Answered<LS> {
     ghost offers = { λ a ms. ms ≡ record {
       labels = [];
       point = CounterPoint (Whole (pos a.requests) ∷ [])
-          (record { labels = LS.labels a.trace.labels; value = a.trace.value; time = option_map millis a.trace.timestamp } ∷ []) None;
+          (record {
+            labels = LS.labels a.trace.labels;
+            value = a.trace.value;
+            time = option_map millis a.trace.timestamp;
+          } ∷ []) None;
     } ∷ [] };
 
     // The trace's labels may return an error of their own.

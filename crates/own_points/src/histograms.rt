@@ -30,7 +30,11 @@ impl<LS: EncodeLabelSet + Send + Sync + Drop> EncodeMetric for Durations<LS> {
     ghost offers = { λ d ms. ms ≡ record {
       labels = [];
       point = HistogramPoint d.buckets
-          ((record { labels = LS.labels d.trace.labels; value = d.trace.value; time = option_map millis d.trace.timestamp } ∷ []) ∷ [] ∷ [])
+          ((record {
+            labels = LS.labels d.trace.labels;
+            value = d.trace.value;
+            time = option_map millis d.trace.timestamp;
+          } ∷ []) ∷ [] ∷ [])
           d.requests d.seconds None;
     } ∷ [] };
 

@@ -90,7 +90,8 @@ fn join_all<'s, E, K: TallyKey + Send + Sync, R: Threads + Wait + Sync>(
     requires unused { All (λ s. s.amount ≡ 0) shares.items }
     ensures len { IfOk result (λ r. vec_len r.0 ≡ length batches.now) }
     ensures each { IfOk result (λ r. (k : ℕ) (d : _) (e : _) → k < vec_len r.0
-        → IfOk (slice_index_or r.0.items k d) (λ share. share.amount ≡ sum (slice_index_or batches.now k e).items)) }
+        → IfOk (slice_index_or r.0.items k d)
+        (λ share. share.amount ≡ sum (slice_index_or batches.now k e).items)) }
     ensures watch { IfOk result (λ r. r.1.amount ≡ watch.amount) }
 {
     let workers = start_all(scope, rt, alloc, tally, shares, batches)?;
@@ -113,7 +114,8 @@ fn run_all<'a, K: TallyKey + Send + Sync, R: Threads + Wait + Sync>(
     requires unused { All (λ s. s.amount ≡ 0) shares.items }
     ensures len { IfOk result (λ r. vec_len r.0 ≡ length batches.now) }
     ensures each { IfOk result (λ r. (k : ℕ) (d : _) (e : _) → k < vec_len r.0
-        → IfOk (slice_index_or r.0.items k d) (λ share. share.amount ≡ sum (slice_index_or batches.now k e).items)) }
+        → IfOk (slice_index_or r.0.items k d)
+        (λ share. share.amount ≡ sum (slice_index_or batches.now k e).items)) }
     ensures watch { IfOk result (λ r. r.1.amount ≡ watch.amount) }
 {
     thread::scope(

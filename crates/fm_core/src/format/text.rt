@@ -34,7 +34,8 @@ fn encode_under<'a>(
     metadata: &Metadata,
     metric: &dyn EncodeMetric,
 ) -> Result<(), EncodeError>
-    requires heading { IsListable (heading_in (option_copied namespace) (labels_of constants.now) metadata.now) }
+    requires heading { IsListable
+        (heading_in (option_copied namespace) (labels_of constants.now) metadata.now) }
     requires new_name { IsNewName
         (listed_name (heading_in (option_copied namespace) (labels_of constants.now) metadata.now))
         encoder.old.families }
@@ -42,7 +43,8 @@ fn encode_under<'a>(
     ensures accepting { OnOk result (encoder.new.refused ≡ None) }
     ensures ok { OnOk result
         (AddsFamily (offers metric.now) (stamps metric.now) (may_be_empty metric.now)
-        (heading_in (option_copied namespace.entry) (labels_of constants.now) metadata.now) encoder.old.families
+        (heading_in (option_copied namespace.entry) (labels_of constants.now) metadata.now)
+        encoder.old.families
         encoder.new.families) }
     ensures err { IfErr result (λ k. (k ≡ EncodeError.Memory)
         ⊎ FaultUnder (offers metric.now) (stamps metric.now) k (may_fault metric.now)
@@ -62,7 +64,8 @@ fn encode_listed<'a>(
     requires accepting { encoder.old.refused ≡ None }
     ensures accepting { OnOk result (encoder.new.refused ≡ None) }
     ensures ok { OnOk result
-        (AdmitsNext (λ m. offers m) (λ m. stamps m) (λ m. may_be_empty m) (seen_listed listed.now) encoder.old.families
+        (AdmitsNext (λ m. offers m) (λ m. stamps m) (λ m. may_be_empty m)
+        (seen_listed listed.now) encoder.old.families
         encoder.new.families) }
     ensures err { IfErr result (λ k. (k ≡ EncodeError.Memory)
         ⊎ FaultOf k (λ m. offers m) (λ m. stamps m) (λ m. may_fault m) (seen_listed listed.now)) }
@@ -88,7 +91,8 @@ pub fn collect(alloc: Global, registry: &Registry) -> Result<Exposition, EncodeE
         → Admits (λ m. offers m) (λ m. stamps m) (λ m. may_be_empty m) (order b) e) }
     // A refusal names a fault that the tree has.
     ensures fault { IfErr result (λ k. (k ≡ EncodeError.Memory)
-        ⊎ ((b : _) → Shows registry.now b → Fault k (λ m. offers m) (λ m. stamps m) (λ m. may_fault m) (order b))) }
+        ⊎ ((b : _) → Shows registry.now b
+        → Fault k (λ m. offers m) (λ m. stamps m) (λ m. may_fault m) (order b))) }
     ensures not_writing { IfErr result (λ k. ¬ (IsWritersFault k)) }
 {
     let Ok(list) = registry.listing(alloc) else {
@@ -114,14 +118,19 @@ pub fn encode<W: Write>(
     requires { HasBook registry.now }
     // The document, and nothing else, of an exposition that every book of the registry admits, and of no other exposition.
     ensures document { OnOk result (WritesAdmitted
-        (λ e. (b : _) → Shows registry.now b → Admits (λ m. offers m) (λ m. stamps m) (λ m. may_be_empty m) (order b) e)
+        (λ e. (b : _) → Shows registry.now b
+        → Admits (λ m. offers m) (λ m. stamps m) (λ m. may_be_empty m) (order b) e)
         (W.contents writer.old) (W.contents writer.new)) }
     // A refusal in collecting writes nothing, and names a fault that the tree has.
-    ensures refused { IfErr result (λ k. ¬ (IsWritersFault k) → Keeps (W.contents writer.old) (W.contents writer.new)
-        × ((k ≡ EncodeError.Memory) ⊎ ((b : _) → Shows registry.now b → Fault k (λ m. offers m) (λ m. stamps m) (λ m. may_fault m) (order b)))) }
+    ensures refused { IfErr result (λ k. ¬ (IsWritersFault k)
+        → Keeps (W.contents writer.old) (W.contents writer.new)
+        × ((k ≡ EncodeError.Memory)
+        ⊎ ((b : _) → Shows registry.now b
+        → Fault k (λ m. offers m) (λ m. stamps m) (λ m. may_fault m) (order b)))) }
     // After an error of the writer, a beginning of such a document was written.
     ensures stopped { IfErr result (λ k. IsWritersFault k → BeginsAdmitted
-        (λ e. (b : _) → Shows registry.now b → Admits (λ m. offers m) (λ m. stamps m) (λ m. may_be_empty m) (order b) e)
+        (λ e. (b : _) → Shows registry.now b
+        → Admits (λ m. offers m) (λ m. stamps m) (λ m. may_be_empty m) (order b) e)
         (W.contents writer.old) (W.contents writer.new)) }
 {
     let lines = document_lines(alloc, registry)?;

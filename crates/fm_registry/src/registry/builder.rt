@@ -24,7 +24,8 @@ pub struct RegistryBuilder {
 
 /// A builder with no namespace and no labels.
 impl Default for RegistryBuilder {
-    ghost is_default = { λ b. (option_map string_bytes b.namespace ≡ None) × (seen_labels b.const_labels ≡ []) };
+    ghost is_default = { λ b.
+        (option_map string_bytes b.namespace ≡ None) × (seen_labels b.const_labels ≡ []) };
 
     fn default() -> RegistryBuilder {
         RegistryBuilder {
@@ -47,8 +48,10 @@ impl Registry {
 impl RegistryBuilder {
     /// Sets the namespace, and replaces an earlier one. Fails with `InvalidNamespace` if it is not in snake case.
     pub fn with_namespace(self, namespace: String) -> Result<RegistryBuilder, RegistryError>
-        ensures namespace { IfOk result (λ b. option_map string_bytes b.namespace ≡ Some (string_bytes namespace)) }
-        ensures labels { IfOk result (λ b. seen_labels b.const_labels ≡ seen_labels self.const_labels) }
+        ensures namespace { IfOk result
+            (λ b. option_map string_bytes b.namespace ≡ Some (string_bytes namespace)) }
+        ensures labels { IfOk result
+            (λ b. seen_labels b.const_labels ≡ seen_labels self.const_labels) }
         ensures answer { refusal_of result ≡ namespace_refusal (string_bytes namespace) }
     {
         if !is_snake_case(namespace.as_str()) {
@@ -68,7 +71,8 @@ impl RegistryBuilder {
         self,
         labels: Vec<(String, String)>,
     ) -> Result<RegistryBuilder, RegistryError>
-        ensures namespace { IfOk result (λ b. option_map string_bytes b.namespace ≡ option_map string_bytes self.namespace) }
+        ensures namespace { IfOk result
+            (λ b. option_map string_bytes b.namespace ≡ option_map string_bytes self.namespace) }
         ensures labels { IfOk result (λ b. seen_labels b.const_labels ≡ labels_of labels.items) }
         ensures answer { refusal_of result ≡ root_labels_refusal (labels_of labels.items) }
     {
@@ -81,7 +85,9 @@ impl RegistryBuilder {
 
     /// Returns the root, which is empty. It allocates nothing, and never fails with `Memory`.
     pub fn build(self) -> Result<Registry, RegistryError>
-        ensures root { IfOk result (λ t. IsNewRoot (option_map string_bytes self.namespace) (seen_labels self.const_labels) t) }
+        ensures root { IfOk result
+            (λ t. IsNewRoot (option_map string_bytes self.namespace)
+            (seen_labels self.const_labels) t) }
         ensures answer { refusal_of result ≡ None }
     {
         Ok(Registry {

@@ -45,7 +45,8 @@ fn named_metric(
     unit: Option<Unit>,
 ) -> Result<Metadata, RegistryError>
     ensures ok { IfOk result (λ metadata. metadata ≡ asked name help metric_type unit) }
-    ensures answer { refusal_of result ≡ name_refusal (string_bytes name) metric_type (option_map seen_unit unit) }
+    ensures answer { refusal_of result
+        ≡ name_refusal (string_bytes name) metric_type (option_map seen_unit unit) }
 {
     if !is_snake_case(name.as_str()) {
         return Err(RegistryError::InvalidNameFormat { name });
@@ -85,10 +86,12 @@ fn insert_new<M: Drop>(
     is_below: bool,
 ) -> Result<(), RegistryError>
     ensures ok { OnOk result
-        (seen_metrics metrics.new.entries ≡ seen_metrics metrics.old.entries ++ seen_metric key.metadata metric ∷ []) }
+        (seen_metrics metrics.new.entries
+        ≡ seen_metrics metrics.old.entries ++ seen_metric key.metadata metric ∷ []) }
     ensures err { OnErr result (metrics.new.entries ≡ metrics.old.entries) }
     ensures answer { IsAnswered (refusal_of result)
-        (refusal_beside (seen_metrics metrics.old.entries) is_below (seen_metric key.metadata metric)) }
+        (refusal_beside (seen_metrics metrics.old.entries)
+        is_below (seen_metric key.metadata metric)) }
 {
     if let Some(there) = standing_under(metrics, &key) {
         let is_same = key.metadata().is_same_as(there);
@@ -116,7 +119,8 @@ fn insert_metric<M: Drop>(
     metric: M,
     is_below: bool,
 ) -> Result<(), RegistryError>
-    ensures ok { OnOk result (metrics_in metrics.new ≡ metrics_in metrics.old ++ seen_metric key.metadata metric ∷ []) }
+    ensures ok { OnOk result
+        (metrics_in metrics.new ≡ metrics_in metrics.old ++ seen_metric key.metadata metric ∷ []) }
     ensures err { OnErr result (metrics_in metrics.new ≡ metrics_in metrics.old) }
     ensures answer { IsAnswered (refusal_of result)
         (refusal_beside (metrics_in metrics.old) is_below (seen_metric key.metadata metric)) }
@@ -138,7 +142,8 @@ impl<M: Drop> Registry<M> {
         metric: M,
     ) -> Result<(), RegistryError>
         ensures answer { IsAnswered (refusal_of result)
-            (standing_refusal self.old.facts.metrics (names_in self.old.children) (seen_metric metadata metric)) }
+            (standing_refusal self.old.facts.metrics (names_in self.old.children)
+            (seen_metric metadata metric)) }
         ensures ok { OnOk result (self.new ≡ with_metric self.old (seen_metric metadata metric)) }
         ensures err { OnErr result (self.new ≡ self.old) }
     {
@@ -162,7 +167,9 @@ impl<M: Drop> Registry<M> {
         ensures answer { IsAnswered (refusal_of result)
             (metric_refusal self.old.facts.metrics (names_in self.old.children)
             (seen_metric (asked name help metric_type unit) metric)) }
-        ensures ok { OnOk result (self.new ≡ with_metric self.old (seen_metric (asked name help metric_type unit) metric)) }
+        ensures ok { OnOk result
+            (self.new
+            ≡ with_metric self.old (seen_metric (asked name help metric_type unit) metric)) }
         ensures err { OnErr result (self.new ≡ self.old) }
     {
         let metadata = named_metric(name, help, metric_type, unit)?;
@@ -185,7 +192,8 @@ impl<M: Drop> Registry<M> {
             (answer b (Register [] (seen_metric (asked name help metric_type unit) metric))) }
         ensures ok { OnOk result
             ((b : _) → Reads self.old b
-            → Reads self.new (after b (Register [] (seen_metric (asked name help metric_type unit) metric)))) }
+            → Reads self.new
+            (after b (Register [] (seen_metric (asked name help metric_type unit) metric)))) }
         ensures err { OnErr result (self.new ≡ self.old) }
         ensures grows { Grows self.old self.new }
         ensures sound { HasBook self.old → HasBook self.new }
@@ -213,7 +221,9 @@ impl Registry {
         unit: Option<Unit>,
         metric: Box<dyn EncodeMetric>,
     ) -> Result<(), RegistryError>
-        ensures registers { Registers (λ t. types metric t) (asked_metric name help unit metric) self.old self.new result }
+        ensures registers { Registers (λ t. types metric t)
+            (asked_metric name help unit metric)
+            self.old self.new result }
         ensures grows { Grows self.old self.new }
         ensures sound { HasBook self.old → HasBook self.new }
     {
@@ -230,7 +240,9 @@ impl Registry {
         unit: Unit,
         metric: Box<dyn EncodeMetric>,
     ) -> Result<(), RegistryError>
-        ensures registers { Registers (λ t. types metric t) (asked_metric name help (Some unit) metric) self.old self.new result }
+        ensures registers { Registers (λ t. types metric t)
+            (asked_metric name help (Some unit) metric)
+            self.old self.new result }
         ensures grows { Grows self.old self.new }
         ensures sound { HasBook self.old → HasBook self.new }
     {
@@ -245,7 +257,9 @@ impl Registry {
         help: String,
         metric: Box<dyn EncodeMetric>,
     ) -> Result<(), RegistryError>
-        ensures registers { Registers (λ t. types metric t) (asked_metric name help None metric) self.old self.new result }
+        ensures registers { Registers (λ t. types metric t)
+            (asked_metric name help None metric)
+            self.old self.new result }
         ensures grows { Grows self.old self.new }
         ensures sound { HasBook self.old → HasBook self.new }
     {

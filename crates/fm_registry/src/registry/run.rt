@@ -63,11 +63,14 @@ impl<M: Drop> Registry<M> {
         labels: Vec<(String, String)>,
     ) -> Result<(), RegistryError>
         ensures answer { IsAnswered (refusal_of result)
-            (subsystem_refusal self.old.facts.depth self.old.facts.metrics (names_in self.old.children)
+            (subsystem_refusal self.old.facts.depth self.old.facts.metrics
+            (names_in self.old.children)
             (string_bytes name) (labels_of labels.items)) }
         ensures there { has_text (names_in self.old.children) (string_bytes name) ≡ true
-            → refusal_of result ≡ asking_refusal self.old.facts.depth (string_bytes name) (labels_of labels.items) }
-        ensures ok { OnOk result (self.new ≡ with_subsystem self.old (string_bytes name) (labels_of labels.items)) }
+            → refusal_of result
+            ≡ asking_refusal self.old.facts.depth (string_bytes name) (labels_of labels.items) }
+        ensures ok { OnOk result
+            (self.new ≡ with_subsystem self.old (string_bytes name) (labels_of labels.items)) }
         ensures err { OnErr result (self.new ≡ self.old) }
     {
         match self.add_subsystem(alloc, name, labels) {
@@ -84,10 +87,12 @@ impl<M: Drop> Registry<M> {
         labels: Vec<(String, String)>,
     ) -> Result<(), RegistryError>
         ensures reply { (b : _) → Reads self.old b
-            → IsReply (refusal_of result) b (AskSubsystem [] (string_bytes name) (labels_of labels.items)) }
+            → IsReply (refusal_of result) b
+            (AskSubsystem [] (string_bytes name) (labels_of labels.items)) }
         ensures ok { OnOk result
             ((b : _) → Reads self.old b
-            → Reads self.new (after b (AskSubsystem [] (string_bytes name) (labels_of labels.items)))) }
+            → Reads self.new
+            (after b (AskSubsystem [] (string_bytes name) (labels_of labels.items)))) }
         ensures err { OnErr result (self.new ≡ self.old) }
     {
         self.ask_here(alloc, name, labels)
@@ -95,8 +100,11 @@ impl<M: Drop> Registry<M> {
 
     // Applies a request to this registry.
     fn apply_here(&mut self, alloc: Global, request: Request<M>) -> Result<(), RegistryError>
-        ensures reply { (b : _) → Reads self.old b → IsReply (refusal_of result) b (call_at [] request) }
-        ensures ok { OnOk result ((b : _) → Reads self.old b → Reads self.new (after b (call_at [] request))) }
+        ensures reply { (b : _) → Reads self.old b
+            → IsReply (refusal_of result) b (call_at [] request) }
+        ensures ok { OnOk result
+            ((b : _) → Reads self.old b
+            → Reads self.new (after b (call_at [] request))) }
         ensures err { OnErr result (self.new ≡ self.old) }
     {
         match request {
@@ -118,9 +126,11 @@ impl<M: Drop> Registry<M> {
         mut path: Vec<String>,
         request: Request<M>,
     ) -> Result<(), RegistryError>
-        ensures reply { (b : _) → Reads self.old b → IsReply (refusal_of result) b (call_at (path_of path.items) request) }
+        ensures reply { (b : _) → Reads self.old b
+            → IsReply (refusal_of result) b (call_at (path_of path.items) request) }
         ensures ok { OnOk result
-            ((b : _) → Reads self.old b → Reads self.new (after b (call_at (path_of path.items) request))) }
+            ((b : _) → Reads self.old b
+            → Reads self.new (after b (call_at (path_of path.items) request))) }
         ensures err { OnErr result (self.new ≡ self.old) }
     {
         match path.pop() {
@@ -180,7 +190,9 @@ impl Registry {
         alloc: Global,
         calls: Vec<RegistryCall>,
     ) -> Result<Vec<Result<(), RegistryError>>, RegistryError>
-        ensures replies { IfOk result (λ replies. RunsCalls (λ m t. types m t) calls.items self.old self.new (map refusal_of replies.items)) }
+        ensures replies { IfOk result
+            (λ replies. RunsCalls (λ m t. types m t) calls.items
+            self.old self.new (map refusal_of replies.items)) }
         ensures answer { IsAnswered (refusal_of result) None }
         ensures err { OnErr result (self.new ≡ self.old) }
         ensures grows { Grows self.old self.new }

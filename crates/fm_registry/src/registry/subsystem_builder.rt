@@ -67,7 +67,8 @@ impl<M: Drop> Registry<M> {
         ensures registry { IfOk result (λ b. b.registry.now ≡ self.old) }
         ensures name { IfOk result (λ b. b.name ≡ name) }
         ensures labels { IfOk result (λ b. b.labels.items ≡ []) }
-        ensures answer { refusal_of result ≡ name_or_depth_refusal self.old.facts.depth (string_bytes name) }
+        ensures answer { refusal_of result
+            ≡ name_or_depth_refusal self.old.facts.depth (string_bytes name) }
     {
         if !is_snake_case(name.as_str()) {
             return Err(RegistryError::InvalidSubsystemName { name });
@@ -94,7 +95,8 @@ impl<'a, M: Drop> RegistrySubsystemBuilder<'a, M> {
         labels: Vec<(String, String)>,
     ) -> Result<RegistrySubsystemBuilder<'a, M>, RegistryError>
         ensures* unchanged_at_err { sem 𝓛 (builder_rests M.row self.entry result) }
-        ensures same_registry { IfOk result (λ b. b.registry.ghost_name ≡ self.entry.registry.ghost_name) }
+        ensures same_registry { IfOk result
+            (λ b. b.registry.ghost_name ≡ self.entry.registry.ghost_name) }
         ensures registry { IfOk result (λ b. b.registry.now ≡ self.entry.registry.now) }
         ensures name { IfOk result (λ b. b.name ≡ self.entry.name) }
         ensures labels { IfOk result (λ b. b.labels ≡ labels) }
@@ -117,21 +119,27 @@ impl<'a, M: Drop> RegistrySubsystemBuilder<'a, M> {
     pub fn build(self) -> Result<&'a mut Subsystem<M>, RegistryError>
         ensures* writes_back { sem 𝓛 (lends_built M.row self.entry result) }
         ensures answer { IsAnswered (refusal_of result)
-            (subsystem_refusal self.entry.registry.now.facts.depth self.entry.registry.now.facts.metrics
+            (subsystem_refusal self.entry.registry.now.facts.depth
+            self.entry.registry.now.facts.metrics
             (names_in self.entry.registry.now.children) (string_bytes self.entry.name)
             (labels_of self.entry.labels.items)) }
         // Returning an existing one allocates nothing.
-        ensures there { has_text (names_in self.entry.registry.now.children) (string_bytes self.entry.name) ≡ true
+        ensures there { has_text (names_in self.entry.registry.now.children)
+            (string_bytes self.entry.name) ≡ true
             → refusal_of result
             ≡ asking_refusal self.entry.registry.now.facts.depth (string_bytes self.entry.name)
             (labels_of self.entry.labels.items) }
         ensures name { IfOk result (λ s. string_bytes s.now.name ≡ string_bytes self.entry.name) }
         ensures reads { IfOk result (λ s. (b : _) → Reads self.entry.registry.now b
             → LoanReads
-            (with_subsystem self.entry.registry.now (string_bytes self.entry.name) (labels_of self.entry.labels.items))
+            (with_subsystem self.entry.registry.now
+            (string_bytes self.entry.name)
+            (labels_of self.entry.labels.items))
             (string_bytes self.entry.name) s.now.registry
-            (after b (AskSubsystem [] (string_bytes self.entry.name) (labels_of self.entry.labels.items)))) }
-        ensures sound { IfOk result (λ s. HasBook self.entry.registry.now → HasBook s.now.registry) }
+            (after b
+            (AskSubsystem [] (string_bytes self.entry.name) (labels_of self.entry.labels.items)))) }
+        ensures sound { IfOk result
+            (λ s. HasBook self.entry.registry.now → HasBook s.now.registry) }
     {
         let RegistrySubsystemBuilder {
             registry,

@@ -32,7 +32,8 @@ pub(super) const DEPTH_LIMIT: usize = 64;
 
 // The index of the subsystem with this name.
 fn position_of<M>(subsystems: &[Subsystem<M>], name: &str) -> Option<usize>
-    ensures { result ≡ position_from (λ s. bytes_eq (string_bytes s.name) name.now) 0 subsystems.now }
+    ensures { result
+        ≡ position_from (λ s. bytes_eq (string_bytes s.name) name.now) 0 subsystems.now }
 {
     subsystems.iter().position(|s| s.name.as_str() == name)
 }
@@ -53,7 +54,10 @@ fn are_related(name: &str, other: &str) -> bool
 
 // Whether `are_related` is true of the name and the name of one of the subsystems.
 fn is_related_to_any<M>(subsystems: &[Subsystem<M>], name: &str) -> bool
-    ensures { result ≡ list_any (λ s. below_test (string_bytes s.name) name.now || below_test name.now (string_bytes s.name)) subsystems.now }
+    ensures { result
+        ≡ list_any (λ s. below_test (string_bytes s.name) name.now
+        || below_test name.now (string_bytes s.name))
+        subsystems.now }
 {
     subsystems
         .iter()
@@ -62,7 +66,9 @@ fn is_related_to_any<M>(subsystems: &[Subsystem<M>], name: &str) -> bool
 
 // Whether the tail of one of the metrics begins with the name and an underscore.
 fn is_above_any<M>(metrics: &IndexMap<Tailed, M>, name: &str) -> bool
-    ensures { result ≡ list_any (λ tail. below_test name.now tail) (tails_of (seen_metrics metrics.now.entries)) }
+    ensures { result
+        ≡ list_any (λ tail. below_test name.now tail)
+        (tails_of (seen_metrics metrics.now.entries)) }
 {
     metrics.keys().any(|key| is_below(name, key.tail()))
 }
@@ -96,7 +102,8 @@ impl<M: Drop> Registry<M> {
 
     // Whether this tail begins with a subsystem's name and an underscore.
     pub(super) fn is_below_child(&self, tail: &str) -> bool
-        ensures { result ≡ list_any (λ child. below_test child tail.now) (names_in self.now.children) }
+        ensures { result
+            ≡ list_any (λ child. below_test child tail.now) (names_in self.now.children) }
     {
         match &self.subsystems {
             Some(subsystems) => is_below_any(subsystems, tail),
@@ -107,7 +114,8 @@ impl<M: Drop> Registry<M> {
     // Whether the name of a subsystem here begins with this name and an underscore, or the other way round.
     fn is_beside_child(&self, name: &str) -> bool
         ensures { result
-            ≡ list_any (λ child. below_test child name.now || below_test name.now child) (names_in self.now.children) }
+            ≡ list_any (λ child. below_test child name.now || below_test name.now child)
+            (names_in self.now.children) }
     {
         match &self.subsystems {
             Some(subsystems) => is_related_to_any(subsystems, name),
@@ -117,7 +125,8 @@ impl<M: Drop> Registry<M> {
 
     // Whether the tail of a metric here begins with this name and an underscore.
     fn is_above_metric(&self, name: &str) -> bool
-        ensures { result ≡ list_any (λ tail. below_test name.now tail) (tails_of self.now.facts.metrics) }
+        ensures { result
+            ≡ list_any (λ tail. below_test name.now tail) (tails_of self.now.facts.metrics) }
     {
         match &self.metrics {
             Some(metrics) => is_above_any(metrics, name),
@@ -127,7 +136,9 @@ impl<M: Drop> Registry<M> {
 
     // Whether a new subsystem can't have this name.
     fn is_name_taken(&self, name: &str) -> bool
-        ensures { result ≡ is_child_taken (tails_of self.now.facts.metrics) (names_in self.now.children) name.now }
+        ensures { result
+            ≡ is_child_taken (tails_of self.now.facts.metrics)
+            (names_in self.now.children) name.now }
     {
         self.is_above_metric(name) || self.is_beside_child(name)
     }
@@ -181,9 +192,12 @@ impl<M: Drop> Registry<M> {
         requires depth { self.old.facts.depth < 64 }
         requires absent { place_in self.old.children (string_bytes name) ≡ None }
         ensures answer { IsAnswered (refusal_of result)
-            (new_name_refusal self.old.facts.metrics (names_in self.old.children) (string_bytes name)) }
-        ensures place { IfOk result (λ place. place_in self.new.children (string_bytes name) ≡ Some place) }
-        ensures ok { OnOk result (self.new ≡ with_subsystem self.old (string_bytes name) (labels_of labels.items)) }
+            (new_name_refusal self.old.facts.metrics (names_in self.old.children)
+            (string_bytes name)) }
+        ensures place { IfOk result
+            (λ place. place_in self.new.children (string_bytes name) ≡ Some place) }
+        ensures ok { OnOk result
+            (self.new ≡ with_subsystem self.old (string_bytes name) (labels_of labels.items)) }
         ensures err { OnErr result (self.new ≡ self.old) }
     {
         if self.is_name_taken(name.as_str()) {
@@ -208,10 +222,14 @@ impl<M: Drop> Registry<M> {
     ) -> Result<usize, RegistryError>
         requires { self.old.facts.depth < 64 }
         ensures answer { IsAnswered (refusal_of result)
-            (child_refusal self.old.facts.metrics (names_in self.old.children) (string_bytes name)) }
-        ensures there { has_text (names_in self.old.children) (string_bytes name) ≡ true → refusal_of result ≡ None }
-        ensures place { IfOk result (λ place. place_in self.new.children (string_bytes name) ≡ Some place) }
-        ensures ok { OnOk result (self.new ≡ with_subsystem self.old (string_bytes name) (labels_of labels.items)) }
+            (child_refusal self.old.facts.metrics
+            (names_in self.old.children) (string_bytes name)) }
+        ensures there { has_text (names_in self.old.children) (string_bytes name) ≡ true
+            → refusal_of result ≡ None }
+        ensures place { IfOk result
+            (λ place. place_in self.new.children (string_bytes name) ≡ Some place) }
+        ensures ok { OnOk result
+            (self.new ≡ with_subsystem self.old (string_bytes name) (labels_of labels.items)) }
         ensures err { OnErr result (self.new ≡ self.old) }
     {
         match self.place_of(name.as_str()) {
@@ -228,12 +246,16 @@ impl<M: Drop> Registry<M> {
         labels: Vec<(String, String)>,
     ) -> Result<usize, RegistryError>
         ensures answer { IsAnswered (refusal_of result)
-            (subsystem_refusal self.old.facts.depth self.old.facts.metrics (names_in self.old.children)
+            (subsystem_refusal self.old.facts.depth self.old.facts.metrics
+            (names_in self.old.children)
             (string_bytes name) (labels_of labels.items)) }
         ensures there { has_text (names_in self.old.children) (string_bytes name) ≡ true
-            → refusal_of result ≡ asking_refusal self.old.facts.depth (string_bytes name) (labels_of labels.items) }
-        ensures place { IfOk result (λ place. place_in self.new.children (string_bytes name) ≡ Some place) }
-        ensures ok { OnOk result (self.new ≡ with_subsystem self.old (string_bytes name) (labels_of labels.items)) }
+            → refusal_of result
+            ≡ asking_refusal self.old.facts.depth (string_bytes name) (labels_of labels.items) }
+        ensures place { IfOk result
+            (λ place. place_in self.new.children (string_bytes name) ≡ Some place) }
+        ensures ok { OnOk result
+            (self.new ≡ with_subsystem self.old (string_bytes name) (labels_of labels.items)) }
         ensures err { OnErr result (self.new ≡ self.old) }
     {
         if !is_snake_case(name.as_str()) {
@@ -253,16 +275,22 @@ impl<M: Drop> Registry<M> {
         name: String,
         labels: Vec<(String, String)>,
     ) -> Result<&mut Subsystem<M>, RegistryError>
-        ensures* writes_back { sem 𝓛 (lends_subsystem M.row self.entry (string_bytes name) (labels_of labels.items) result) }
+        ensures* writes_back { sem 𝓛
+            (lends_subsystem M.row self.entry (string_bytes name)
+            (labels_of labels.items) result) }
         ensures answer { IsAnswered (refusal_of result)
-            (subsystem_refusal self.old.facts.depth self.old.facts.metrics (names_in self.old.children)
+            (subsystem_refusal self.old.facts.depth self.old.facts.metrics
+            (names_in self.old.children)
             (string_bytes name) (labels_of labels.items)) }
         ensures there { has_text (names_in self.old.children) (string_bytes name) ≡ true
-            → refusal_of result ≡ asking_refusal self.old.facts.depth (string_bytes name) (labels_of labels.items) }
+            → refusal_of result
+            ≡ asking_refusal self.old.facts.depth (string_bytes name) (labels_of labels.items) }
         ensures name { IfOk result (λ s. string_bytes s.now.name ≡ string_bytes name) }
         ensures reads { IfOk result (λ s. (b : _) → Reads self.old b
-            → LoanReads (with_subsystem self.old (string_bytes name) (labels_of labels.items)) (string_bytes name)
-            s.now.registry (after b (AskSubsystem [] (string_bytes name) (labels_of labels.items)))) }
+            → LoanReads (with_subsystem self.old
+            (string_bytes name) (labels_of labels.items)) (string_bytes name)
+            s.now.registry
+            (after b (AskSubsystem [] (string_bytes name) (labels_of labels.items)))) }
         ensures sound { IfOk result (λ s. HasBook self.old → HasBook s.now.registry) }
     {
         let place = self.add_subsystem(alloc, name, labels)?;
@@ -283,16 +311,19 @@ impl<M: Drop> Registry<M> {
         alloc: Global,
         name: String,
     ) -> Result<&mut Subsystem<M>, RegistryError>
-        ensures* writes_back { sem 𝓛 (lends_subsystem M.row self.entry (string_bytes name) [] result) }
+        ensures* writes_back { sem 𝓛
+            (lends_subsystem M.row self.entry (string_bytes name) [] result) }
         ensures answer { IsAnswered (refusal_of result)
-            (subsystem_refusal self.old.facts.depth self.old.facts.metrics (names_in self.old.children)
+            (subsystem_refusal self.old.facts.depth self.old.facts.metrics
+            (names_in self.old.children)
             (string_bytes name) []) }
         // Returning an existing one allocates nothing.
         ensures there { has_text (names_in self.old.children) (string_bytes name) ≡ true
             → refusal_of result ≡ asking_refusal self.old.facts.depth (string_bytes name) [] }
         ensures name { IfOk result (λ s. string_bytes s.now.name ≡ string_bytes name) }
         ensures reads { IfOk result (λ s. (b : _) → Reads self.old b
-            → LoanReads (with_subsystem self.old (string_bytes name) []) (string_bytes name) s.now.registry
+            → LoanReads (with_subsystem self.old (string_bytes name) [])
+            (string_bytes name) s.now.registry
             (after b (AskSubsystem [] (string_bytes name) []))) }
         ensures sound { IfOk result (λ s. HasBook self.old → HasBook s.now.registry) }
     {
