@@ -287,8 +287,8 @@ impl<'a> MetricFamilyEncoder<'a> {
         requires new_name { IsNewName
             (listed_name (next_heading self.old metadata.now)) self.old.families }
         ensures encoded { EncodesFamily (offers metric.now) (stamps metric.now)
-            (may_be_empty metric.now)
-            (may_fault metric.now) (next_heading self.old metadata.now) self.old self.new }
+            (may_be_empty metric.now) (may_fault metric.now)
+            (next_heading self.old metadata.now) self.old self.new }
         ensures answered { result ≡ result_of self.new.refused }
     {
         if let Some(error) = self.refused {

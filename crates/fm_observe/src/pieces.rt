@@ -25,8 +25,7 @@ struct Work<'a, S: Snapshot, G: Gate> {
 // The result of the worker.
 impl<'a, S: Snapshot, G: Gate> Promise<Result<S, TallyError>> for Work<'a, S, G> {
     ghost kept_by = { λ w r. IsObserved S.taken S.counts (G.may_refuse w.gate.now)
-        (S.counts w.empty.now) w.index
-        w.piece.now r };
+        (S.counts w.empty.now) w.index w.piece.now r };
 }
 
 // Does one worker's task.
@@ -92,8 +91,7 @@ fn start_all<'s, E, S: Snapshot + Send + Sync + Drop, G: Gate>(
         let job = move || -> Result<S, TallyError>
             requires { (S.counts empty.now).count ≡ 0 }
             ensures { IsObserved S.taken S.counts (G.may_refuse gate.entry.now)
-                (S.counts empty.entry.now) index
-                piece.entry.now result }
+                (S.counts empty.entry.now) index piece.entry.now result }
         { observe_piece(empty, gate, index, piece) };
         match scope.spawn_with(work, job) {
             Ok(worker) => workers.push_reserved(worker),

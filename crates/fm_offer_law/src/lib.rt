@@ -13,8 +13,7 @@ ghost use Rattle.fm_offer_law.specs.Ranges.{NumbersFit};
 pub fn clean_is_without_fault()
     ensures faultless { (context : Context) (members : List Member)
         → MembersClean context members
-        → (k : EncodeError)
-        → ¬ (MembersFault k context members) }
+        → (k : EncodeError) → ¬ (MembersFault k context members) }
     ensures exact { (context : Context) (members : List Member)
         → IsSnakeCase context.setting.name
         → NumbersFit context members

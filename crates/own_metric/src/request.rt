@@ -40,7 +40,8 @@ pub struct Request {
 }
 
 impl EncodeLabelSet for Request {
-    ghost labels = { λ r. label (codes "method") (elim r.method [ Get ↦ codes "GET" | Put ↦ codes "PUT" ])
+    ghost labels = { λ r.
+        label (codes "method") (elim r.method [ Get ↦ codes "GET" | Put ↦ codes "PUT" ])
         ∷ label (codes "status") (decimal r.status)
         ∷ label (codes "failed") (if r.failed then codes "true" else codes "false") ∷ [] };
 

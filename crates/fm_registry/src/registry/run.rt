@@ -64,8 +64,7 @@ impl<M: Drop> Registry<M> {
     ) -> Result<(), RegistryError>
         ensures answer { IsAnswered (refusal_of result)
             (subsystem_refusal self.old.facts.depth self.old.facts.metrics
-            (names_in self.old.children)
-            (string_bytes name) (labels_of labels.items)) }
+            (names_in self.old.children) (string_bytes name) (labels_of labels.items)) }
         ensures there { has_text (names_in self.old.children) (string_bytes name) ≡ true
             → refusal_of result
             ≡ asking_refusal self.old.facts.depth (string_bytes name) (labels_of labels.items) }

@@ -247,8 +247,7 @@ impl<M: Drop> Registry<M> {
     ) -> Result<usize, RegistryError>
         ensures answer { IsAnswered (refusal_of result)
             (subsystem_refusal self.old.facts.depth self.old.facts.metrics
-            (names_in self.old.children)
-            (string_bytes name) (labels_of labels.items)) }
+            (names_in self.old.children) (string_bytes name) (labels_of labels.items)) }
         ensures there { has_text (names_in self.old.children) (string_bytes name) ≡ true
             → refusal_of result
             ≡ asking_refusal self.old.facts.depth (string_bytes name) (labels_of labels.items) }
@@ -280,16 +279,14 @@ impl<M: Drop> Registry<M> {
             (labels_of labels.items) result) }
         ensures answer { IsAnswered (refusal_of result)
             (subsystem_refusal self.old.facts.depth self.old.facts.metrics
-            (names_in self.old.children)
-            (string_bytes name) (labels_of labels.items)) }
+            (names_in self.old.children) (string_bytes name) (labels_of labels.items)) }
         ensures there { has_text (names_in self.old.children) (string_bytes name) ≡ true
             → refusal_of result
             ≡ asking_refusal self.old.facts.depth (string_bytes name) (labels_of labels.items) }
         ensures name { IfOk result (λ s. string_bytes s.now.name ≡ string_bytes name) }
         ensures reads { IfOk result (λ s. (b : _) → Reads self.old b
-            → LoanReads (with_subsystem self.old
-            (string_bytes name) (labels_of labels.items)) (string_bytes name)
-            s.now.registry
+            → LoanReads (with_subsystem self.old (string_bytes name) (labels_of labels.items))
+            (string_bytes name) s.now.registry
             (after b (AskSubsystem [] (string_bytes name) (labels_of labels.items)))) }
         ensures sound { IfOk result (λ s. HasBook self.old → HasBook s.now.registry) }
     {
@@ -315,8 +312,7 @@ impl<M: Drop> Registry<M> {
             (lends_subsystem M.row self.entry (string_bytes name) [] result) }
         ensures answer { IsAnswered (refusal_of result)
             (subsystem_refusal self.old.facts.depth self.old.facts.metrics
-            (names_in self.old.children)
-            (string_bytes name) []) }
+            (names_in self.old.children) (string_bytes name) []) }
         // Returning an existing one allocates nothing.
         ensures there { has_text (names_in self.old.children) (string_bytes name) ≡ true
             → refusal_of result ≡ asking_refusal self.old.facts.depth (string_bytes name) [] }
