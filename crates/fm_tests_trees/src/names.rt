@@ -51,22 +51,8 @@ fn call_for(alloc: Global, made: Made) -> Result<RegistryCall, AllocError> {
     }
 }
 
-<<<<<<< HEAD:crates/fm_tests_names/src/names.rt
-// The call that makes a subsystem of the root.
-fn child_call(alloc: Global, name: &str) -> Result<RegistryCall, AllocError> {
-    subsystem_at(alloc, &[], name, &[])
-}
-
-// What the second of two calls at an empty root returns, if the first is accepted.
-fn second_answer(
-    alloc: Global,
-    first: RegistryCall,
-    then: RegistryCall,
-) -> Result<Result<(), RegistryError>, Fail> {
-=======
 // The calls at the root that make these.
 fn calls_for(alloc: Global, all: &[Made]) -> Result<Vec<RegistryCall>, AllocError> {
->>>>>>> 1f58115291ba2b968c5eb65ceb5a1c97d25ef8d8:crates/fm_tests_trees/src/names.rt
     let mut calls = Vec::new(alloc);
     for made in all {
         calls.push(call_for(alloc, *made)?)?;
@@ -120,25 +106,7 @@ fn names_of_one_kind(rt: HostRuntime) -> Result<(), Fail> {
     Ok(())
 }
 
-<<<<<<< HEAD:crates/fm_tests_names/src/names.rt
-#[test]
-fn metrics_beside_one_another(rt: HostRuntime) -> Result<(), Fail> {
-    let alloc = rt.alloc();
-    let bytes = gauge_in(alloc, "g", Unit::Bytes)?;
-    let answer = second_answer(alloc, bytes, gauge_call(alloc, "g_bytes")?)?;
-    expect_refused(answer, 12, "g_bytes")?;
-    let seconds = gauge_in(alloc, "g", Unit::Seconds)?;
-    let own = Unit::from(String::from_str(alloc, "seconds")?);
-    let answer = second_answer(alloc, seconds, gauge_in(alloc, "g", own)?)?;
-    expect_refused(answer, 12, "g")?;
-    let answer = second_answer(alloc, gauge_call(alloc, "g")?, gauge_call(alloc, "g")?)?;
-    expect_refused(answer, 4, "g")
-}
-
 // A subsystem, a gauge whose name is below it, one whose name doesn't, and a subsystem above that.
-=======
-// A subsystem, a gauge whose name lies below it, one whose name doesn't, and a subsystem above that.
->>>>>>> 1f58115291ba2b968c5eb65ceb5a1c97d25ef8d8:crates/fm_tests_trees/src/names.rt
 fn calls_with_taken_names(alloc: Global) -> Result<Vec<RegistryCall>, AllocError> {
     calls_at(
         alloc,
