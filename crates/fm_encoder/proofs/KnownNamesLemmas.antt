@@ -6,8 +6,7 @@ use Rattle.std.proofs.lemmas.Option.{slice_get-map, slice_get-get_or}
 use Rattle.std.proofs.lemmas.List.{take-map, map-append}
 use Rattle.fm_grammar.specs.declared.MetricType.{MetricType}
 use Rattle.fm_grammar.specs.Exposition.{Text, Label}
-use Rattle.fm_grammar.specs.Names.{IsLabelName}
-use Rattle.fm_encoder.specs.Labels.{IsReserved, NameFits, label_names}
+use Rattle.fm_encoder.specs.Labels.{NameFits, label_names}
 use Rattle.fm_encoder.specs.inside.KnownNames.{KnownState, MayFollow, AreTested, HaveNames, AreKnown}
 use Rattle.fm_writer.specs.inside.LabelTexts.{LabelsState, whole_label}
 

@@ -10,3 +10,4 @@ pub mod BucketLemmas
 pub mod OwnLabels
 pub mod ExemplarLemmas
 pub mod KnownNamesLemmas
+pub mod KeptLemmas

@@ -127,3 +127,17 @@ AreLabels-own type before ls l h free reserved valid is =
       names = valid-push before l h.names valid;
       different = subst AllDifferent (sym (names_of-append before (l ∷ []))) (different-push (label_names before) l.name h.different (AreFree-without type before l.name free reserved));
     })
+
+-- labels without a name
+pub AreFree-named : (ls : List Label) (name : Text) → ¬ (Contains (label_names ls) name) → AllByRecursion (λ label. ¬ (label.name ≡ name)) ls
+AreFree-named [] name fresh = tt
+AreFree-named (l ∷ ls) name fresh =
+    ((λ same. fresh (0, omega arith, same)), AreFree-named ls name (λ there. fresh (Contains-cons name l.name (label_names ls) there)))
+
+pub AreFree-left : (type : MetricType) (xs ys : List Label) → AreFree type (xs ++ ys) → AreFree type xs
+AreFree-left type [] ys h = tt
+AreFree-left type (x ∷ xs) ys h = (h.0, AreFree-left type xs ys h.1)
+
+pub AreFree-right : (type : MetricType) (xs ys : List Label) → AreFree type (xs ++ ys) → AreFree type ys
+AreFree-right type [] ys h = h
+AreFree-right type (x ∷ xs) ys h = AreFree-right type xs ys h.1

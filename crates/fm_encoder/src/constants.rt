@@ -1,11 +1,13 @@
 // The constant labels of a family.
-ghost use Rattle.std.specs.Prelude.{◌≡◌, ◌⊎◌, ◌++◌, [], ◌∷◌, None, OnOk, OnErr, IfOk, IfErr, MatchResult};
+ghost use Rattle.std.specs.Prelude.{◌≡◌, ◌⊎◌, ◌++◌, [], ◌∷◌, None, OnOk, OnErr, IfOk, IfErr, IfSome, MatchResult};
 ghost use Rattle.fm_encode_error.specs.declared.EncodeError.{EncodeError};
 ghost use Rattle.fm_exposition.specs.Samples.{label_of, labels_of};
 ghost use Rattle.fm_encoder.specs.Labels.{LabelsClean, LabelsFault, all_written, handed_again};
 ghost use Rattle.fm_encoder.specs.Gathered.{OwnRefusal};
+ghost use Rattle.fm_encoder.specs.Kept.{Keeps};
 
 use crate::gathered::{labels_behind, push_label};
+use crate::kept::KeptLabels;
 use crate::label::LabelSetEncoder;
 use crate::label_set::{EncodeLabelSet, encode_written};
 use fm_encode_error::EncodeError;
@@ -114,9 +116,11 @@ impl ConstantLabels {
     pub(crate) fn followed_by<LS: EncodeLabelSet>(
         &self,
         encoder: &mut LabelSetEncoder,
+        kept: Option<&KeptLabels>,
         labels: &LS,
     ) -> Result<(), EncodeError>
-        requires { self.now.metric_type ≡ encoder.old.metric_type }
+        requires of_type { self.now.metric_type ≡ encoder.old.metric_type }
+        requires kept { IfSome kept (λ k. Keeps (LS.labels labels.now) k.now) }
         ensures type_kept { encoder.new.metric_type ≡ encoder.old.metric_type }
         ensures gathered { let all = handed_again self.now.labels ++ LS.labels labels.now in
             MatchResult result
@@ -128,6 +132,6 @@ impl ConstantLabels {
         if let Some(error) = self.refusal {
             return Err(error);
         }
-        labels_behind(encoder, &self.labels, labels)
+        labels_behind(encoder, &self.labels, kept, labels)
     }
 }

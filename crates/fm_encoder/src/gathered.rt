@@ -1,9 +1,11 @@
 // Labels that are gathered after other labels.
-ghost use Rattle.std.specs.Prelude.{◌≡◌, ◌⊎◌, ◌++◌, [], ◌∷◌, None, OnOk, MatchResult, ◌≤◌, length, drop, map, IfOk};
+ghost use Rattle.std.specs.Prelude.{◌≡◌, ◌⊎◌, ◌++◌, [], ◌∷◌, None, OnOk, MatchResult, ◌≤◌, length, drop, map, IfOk, IfSome};
 ghost use Rattle.fm_exposition.specs.Samples.{shown_label};
 ghost use Rattle.fm_encoder.specs.Labels.{LabelsClean, LabelsFault, all_written};
 ghost use Rattle.fm_encoder.specs.Gathered.{OwnRefusal};
+ghost use Rattle.fm_encoder.specs.Kept.{Keeps};
 
+use crate::kept::KeptLabels;
 use crate::label::LabelSetEncoder;
 use crate::label_set::EncodeLabelSet;
 use fm_encode_error::EncodeError;
@@ -23,12 +25,15 @@ pub(crate) fn push_label(text: &mut LabelText, name: &str, value: &str) -> Resul
     text.end_label()
 }
 
-// Replaces the encoder's labels by copies of the labels before, followed by those that a label set emits.
+// Replaces the encoder's labels by copies of the labels before, followed by those that a label set emits. If no labels come before,
+// and these were kept, they are copied.
 pub(crate) fn labels_behind<LS: EncodeLabelSet>(
     encoder: &mut LabelSetEncoder,
     before: &LabelText,
+    kept: Option<&KeptLabels>,
     labels: &LS,
 ) -> Result<(), EncodeError>
+    requires kept { IfSome kept (λ k. Keeps (LS.labels labels.now) k.now) }
     ensures type_kept { encoder.new.metric_type ≡ encoder.old.metric_type }
     ensures gathered { MatchResult result
         (λ _. LabelsClean encoder.old.metric_type before.now.labels (LS.labels labels.now)
@@ -37,6 +42,12 @@ pub(crate) fn labels_behind<LS: EncodeLabelSet>(
         ⊎ LabelsFault k encoder.old.metric_type before.now.labels (LS.labels labels.now)) }
 {
     if before.len() == 0 {
+        if let Some(kept) = kept {
+            return match kept.copy_to(encoder) {
+                Ok(()) => Ok(()),
+                Err(_) => Err(EncodeError::Memory),
+            };
+        }
         encoder.begin(encoder.metric_type());
     } else if let Err(_) = encoder.restart(before) {
         return Err(EncodeError::Memory);

@@ -7,6 +7,7 @@
 mod constants;
 pub mod exemplar;
 mod gathered;
+mod kept;
 mod known_names;
 pub mod label;
 mod label_number;
@@ -24,6 +25,7 @@ pub mod value;
 
 pub use exemplar::{EncodeExemplar, ExemplarEncoder, LabeledExemplar};
 pub use fm_encode_error::EncodeError;
+pub use kept::KeptLabels;
 pub use label::{EncodeLabel, EncodeLabelName, EncodeLabelValue, LabelEncoder, LabelSetEncoder};
 pub use label_set::{EncodeLabelSet, LabelSlice};
 pub use label_value::{LabelStr, StaticStr};

@@ -12,10 +12,12 @@ ghost use Rattle.fm_encoder.specs.Labels.{LabelsClean, LabelsFault, all_written,
 ghost use Rattle.fm_encoder.specs.Points.{Member, UnknownPoint, GaugePoint, CounterPoint, StateSetPoint, InfoPoint, millis};
 ghost use Rattle.fm_encoder.specs.States.{state_of};
 ghost use Rattle.fm_encoder.specs.Gathered.{OwnRefusal, result_of, own_refusal};
+ghost use Rattle.fm_encoder.specs.Kept.{Keeps};
 ghost use Rattle.fm_encoder.specs.Hands.{HandsLabels, HandsMembers, MembersOf};
 
 use crate::constants::ConstantLabels;
 use crate::exemplar::EncodeExemplar;
+use crate::kept::KeptLabels;
 use crate::label_set::EncodeLabelSet;
 use crate::own::own_refusal;
 use crate::point::{EncodePoint, PointEncoder};
@@ -267,10 +269,28 @@ impl MetricEncoder {
             self.old self.new result }
         ensures answered { result ≡ result_of self.new.refused }
     {
+        self.encode_kept(None, labels, point)
+    }
+
+    /// Takes a member as `encode` does. If its labels were kept, and the family has no constant labels, the kept labels are copied
+    /// in place of reading them.
+    pub fn encode_kept<LS: EncodeLabelSet, P: EncodePoint>(
+        &mut self,
+        kept: Option<&KeptLabels>,
+        labels: &LS,
+        point: &P,
+    ) -> Result<(), EncodeError>
+        requires kept { IfSome kept (λ k. Keeps (LS.labels labels.now) k.now) }
+        ensures handed { HandsMembers
+            (MembersOf (LS.labels labels.now) (P.points point.now))
+            (LS.may_fault labels.now ⊎ P.may_fault point.now)
+            self.old self.new result }
+        ensures answered { result ≡ result_of self.new.refused }
+    {
         if let Some(error) = self.points.refused() {
             return Err(error);
         }
-        self.points.begin_member(&self.constants, labels);
+        self.points.begin_member(&self.constants, kept, labels);
         let visited = point.encode(&mut self.points);
         self.points.end_points(visited)
     }

@@ -12,9 +12,11 @@ ghost use Rattle.fm_encoder.specs.Points.{Point};
 ghost use Rattle.fm_encoder.specs.Labels.{LabelsClean, LabelsFault, AreFree, all_written, handed_again};
 ghost use Rattle.fm_encoder.specs.Gathered.{OwnRefusal, result_of};
 ghost use Rattle.fm_encoder.specs.Hands.{HandsPoints};
+ghost use Rattle.fm_encoder.specs.Kept.{Keeps};
 ghost use Rattle.fm_encoder.specs.inside.Steps.{FitsType, BeginsPoint, BeginsMember, PushesSample, EndsPoints};
 
 use crate::constants::ConstantLabels;
+use crate::kept::KeptLabels;
 use crate::label::LabelSetEncoder;
 use crate::label_set::EncodeLabelSet;
 use crate::own::own_refusal;
@@ -127,9 +129,11 @@ fn read_labels<LS: EncodeLabelSet>(
     encoder: &mut LabelSetEncoder,
     sink: &mut Sink,
     constants: &ConstantLabels,
+    kept: Option<&KeptLabels>,
     labels: &LS,
 ) -> Result<(), EncodeError>
-    requires { constants.now.metric_type ≡ encoder.old.metric_type }
+    requires of_type { constants.now.metric_type ≡ encoder.old.metric_type }
+    requires kept { IfSome kept (λ k. Keeps (LS.labels labels.now) k.now) }
     ensures type_kept { encoder.new.metric_type ≡ encoder.old.metric_type }
     ensures output { sink.new.output ≡ sink.old.output }
     ensures shared { OnOk result (AreShared encoder.new.labels sink.new.shared) }
@@ -139,7 +143,7 @@ fn read_labels<LS: EncodeLabelSet>(
         (λ k. OwnRefusal (LS.may_fault labels.now) k
         ⊎ LabelsFault k encoder.old.metric_type [] all) }
 {
-    constants.followed_by(encoder, labels)?;
+    constants.followed_by(encoder, kept, labels)?;
     match sink.share(encoder.text()) {
         Ok(()) => Ok(()),
         Err(_) => Err(EncodeError::Memory),
@@ -317,19 +321,21 @@ impl PointEncoder {
         self.refused
     }
 
-    // Reads the common labels of the next points, or keeps their refusal for the first of them.
+    // Reads the common labels of the next points, or keeps their refusal for the first of them. Labels that were kept are copied.
     pub(crate) fn begin_member<LS: EncodeLabelSet>(
         &mut self,
         constants: &ConstantLabels,
+        kept: Option<&KeptLabels>,
         labels: &LS,
     )
-        requires { constants.now.metric_type ≡ self.old.setting.metric_type }
+        requires of_type { constants.now.metric_type ≡ self.old.setting.metric_type }
+        requires kept { IfSome kept (λ k. Keeps (LS.labels labels.now) k.now) }
         ensures { BeginsMember
             (handed_again constants.now.labels ++ LS.labels labels.now)
             (LS.may_fault labels.now)
             self.old self.new }
     {
-        match read_labels(&mut self.labels, &mut self.sink, constants, labels) {
+        match read_labels(&mut self.labels, &mut self.sink, constants, kept, labels) {
             Ok(()) => self.deferred = None,
             Err(error) => {
                 self.labels.begin(self.labels.metric_type());

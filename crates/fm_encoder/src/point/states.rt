@@ -103,7 +103,7 @@ impl PointEncoder {
     {
         self.begin_point(MetricType::Info)?;
         let mut all = LabelSetEncoder::new(self.alloc, self.labels.metric_type());
-        if let Err(error) = labels_behind(&mut all, self.labels.text(), labels) {
+        if let Err(error) = labels_behind(&mut all, self.labels.text(), None, labels) {
             return self.refuse(error);
         }
         match labels_from(self.alloc, all.text(), self.labels.text().len()) {

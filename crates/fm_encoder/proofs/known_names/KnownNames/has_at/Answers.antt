@@ -1,4 +1,4 @@
-use Rattle.std.proofs.Common.{◌≡◌, []}
+use Rattle.std.proofs.Common.{[]}
 use Rattle.fm_encoder.proofs.KnownNamesLemmas.{known_at, at_from, follows-known}
 use Rattle.fm_encoder.proofs.known_names.KnownNames.has_at.Goals as goal
 

@@ -1,7 +1,7 @@
 use Rattle.std.proofs.Common.{sym, ◌∙◌}
 use Rattle.fm_encoder.proofs.Cases.{none_from_not}
 use Rattle.fm_encoder.proofs.MemberLemmas.{HandsMembers-one}
-use Rattle.fm_encoder.proofs.metric.MetricEncoder.encode.Goals as goal
+use Rattle.fm_encoder.proofs.metric.MetricEncoder.encode_kept.Goals as goal
 
 pub returns-clause-handed : goal.returns-clause-handed
 returns-clause-handed g c =
