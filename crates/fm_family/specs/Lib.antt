@@ -1,3 +1,4 @@
 pub use Rattle.fm_encoder.specs.Hands
 pub mod Members
 pub mod MemberLends
+pub mod inside

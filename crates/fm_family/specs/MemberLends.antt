@@ -6,14 +6,15 @@ use Rattle.std.specs.declared.hash.Hasher as hasher
 use Rattle.std.specs.declared.hash.BuildHasher as builder
 use mathlib.Core.Option.{none}
 use Rattle.fm_raw.specs.declared.error.MetricError.{MetricError}
+use Rattle.fm_encoder.specs.declared.label_set.EncodeLabelSet as set
 use Rattle.fm_family.specs.Members.{GetsOrAdds, ShowsMetric}
 use Rattle.fm_family.specs.declared.members.FamilyCore.{FamilyCore}
 use Rattle.fm_family.specs.contracts.members.FamilyCore.{the_row}
 
-module _ (L M S H : RattleType) (key : HashMembers L.Denot) (build : builder.Ghosts S.Denot H.Denot) (hash : hasher.Ghosts H.Denot) where
+module _ (L M S H : RattleType) (set : set.Ghosts L.Denot) (key : HashMembers L.Denot) (build : builder.Ghosts S.Denot H.Denot) (hash : hasher.Ghosts H.Denot) where
   -- the list's type in the logic
   abbrev pub core_row : RattleType
-  core_row = the_row L M S H (record { eq = key.eq }) (record { hash_input = key.hash_input }) build hash
+  core_row = the_row L M S H set (record { eq = key.eq }) (record { hash_input = key.hash_input }) build hash
 
   -- it is as `GetsOrAdds` says
   abbrev pub ends_with_member : MutBor (FamilyCore L.Denot M.Denot S.Denot H.Denot) → L.Denot → (Result M.Denot MetricError → Type 0) → Result (Bor M.Denot) MetricError → Fml

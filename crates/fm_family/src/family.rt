@@ -18,7 +18,7 @@ use std::time::Duration;
 
 // What the clones of a family share.
 #[derive(Drop)]
-struct Shared<LS: Eq + Hash, M, MF, S: BuildHasher> {
+struct Shared<LS: EncodeLabelSet + Eq + Hash, M, MF, S: BuildHasher> {
     core: RwLock<FamilyCore<LS, M, S>>,
     factory: MF,
 }
@@ -30,13 +30,13 @@ struct Shared<LS: Eq + Hash, M, MF, S: BuildHasher> {
 /// factory nor a closure that borrows a metric may call the same family: it would wait for ever. For the hasher `S` see
 /// `FamilyCore`.
 #[derive(Drop)]
-pub struct Family<LS: Eq + Hash, M, MF, S: BuildHasher, H: Wait> {
+pub struct Family<LS: EncodeLabelSet + Eq + Hash, M, MF, S: BuildHasher, H: Wait> {
     shared: Arc<Shared<LS, M, MF, S>, Global>,
     wait: H,
 }
 
 impl<
-    LS: Eq + Hash + Drop,
+    LS: EncodeLabelSet + Eq + Hash + Drop,
     M: Drop,
     MF: Drop,
     S: BuildHasher + Default + Drop,
@@ -51,13 +51,13 @@ impl<
     }
 }
 
-impl<LS: Eq + Hash + Drop, M: Drop, MF: Drop, S: BuildHasher + Drop, H: Wait + Drop> Family<
-    LS,
-    M,
-    MF,
-    S,
-    H,
-> {
+impl<
+    LS: EncodeLabelSet + Eq + Hash + Drop,
+    M: Drop,
+    MF: Drop,
+    S: BuildHasher + Drop,
+    H: Wait + Drop,
+> Family<LS, M, MF, S, H> {
     /// A family without members, with this factory and this hasher. Fails with `Memory` if memory runs out.
     pub fn with_hasher(wait: H, alloc: Global, factory: MF, hasher: S) -> Result<Self, MetricError>
         ensures kept { IfOk result (λ f. (arc_value f.shared).factory ≡ factory) }
@@ -82,7 +82,7 @@ impl<LS: Eq + Hash + Drop, M: Drop, MF: Drop, S: BuildHasher + Drop, H: Wait + D
 }
 
 impl<
-    LS: Clone + Eq + Hash + Drop,
+    LS: EncodeLabelSet + Clone + Eq + Hash + Drop,
     M: Drop,
     MF: MetricFactory<M> + Drop,
     S: BuildHasher + Drop,
@@ -116,7 +116,7 @@ impl<
 
 /// A family without members whose metrics are made by `try_default`.
 impl<
-    LS: Eq + Hash + Drop,
+    LS: EncodeLabelSet + Eq + Hash + Drop,
     M: TryDefault<H> + Drop,
     S: BuildHasher + Default + Drop,
     H: Wait + Clone + Drop,
@@ -128,8 +128,13 @@ impl<
 }
 
 /// Another handle of the same family. Cloning takes memory, and fails if memory runs out.
-impl<LS: Eq + Hash + Drop, M: Drop, MF: Drop, S: BuildHasher + Drop, H: Wait + Clone> Clone
-    for Family<LS, M, MF, S, H> {
+impl<
+    LS: EncodeLabelSet + Eq + Hash + Drop,
+    M: Drop,
+    MF: Drop,
+    S: BuildHasher + Drop,
+    H: Wait + Clone,
+> Clone for Family<LS, M, MF, S, H> {
     ghost is_clone = { λ f g. arc_value g.shared ≡ arc_value f.shared };
 
     fn clone(&self) -> Result<Self, AllocError> {
@@ -140,14 +145,15 @@ impl<LS: Eq + Hash + Drop, M: Drop, MF: Drop, S: BuildHasher + Drop, H: Wait + C
 }
 
 /// Shows the name of the type only, since the members are protected by the lock.
-impl<LS: Eq + Hash, M, MF, S: BuildHasher, H: Wait> Debug for Family<LS, M, MF, S, H> {
+impl<LS: EncodeLabelSet + Eq + Hash, M, MF, S: BuildHasher, H: Wait> Debug
+    for Family<LS, M, MF, S, H> {
     fn fmt<W: fmt::Write>(&self, f: &mut Formatter<W>) -> fmt::Result {
         f.debug_struct("Family").finish_non_exhaustive()
     }
 }
 
 /// The type of the family's members.
-impl<LS: Eq + Hash, M: TypedMetric, MF, S: BuildHasher, H: Wait> TypedMetric
+impl<LS: EncodeLabelSet + Eq + Hash, M: TypedMetric, MF, S: BuildHasher, H: Wait> TypedMetric
     for Family<LS, M, MF, S, H> {
     ghost TYPE = { M.TYPE };
 

@@ -3,6 +3,7 @@
 
 pub mod factory;
 pub mod family;
+mod kept_members;
 pub mod members;
 
 pub use factory::{DefaultFactory, MetricFactory};

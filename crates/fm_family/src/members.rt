@@ -9,14 +9,15 @@ ghost use Rattle.fm_family.specs.MemberLends.{ends_with_member};
 ghost use Rattle.fm_family.specs.Members.{ClonesEqual, GetsOrAdds, HoldsMetric, OffersFirst, MayFault};
 
 use crate::factory::MetricFactory;
+use crate::kept_members::KeptMembers;
 use fm_encode_error::EncodeError;
 use fm_encoder::{EncodeLabelSet, EncodePoint, MetricEncoder};
 use fm_raw::MetricError;
-use indexmap::IndexMap;
 use std::alloc::Global;
 use std::hash::{BuildHasher, Hash};
 
-/// Metrics with pairwise different label sets, in the order in which they were made.
+/// Metrics with pairwise different label sets, in the order in which they were made. The labels of each are read when it is made and
+/// kept as they are written, so that a scrape copies them.
 ///
 /// `S` makes the hashers of label sets. If only the program chooses the label sets, take a hasher with a fixed start,
 /// such as `BuildHasherDefault<FoldHasher>`: it is faster. If others can choose label values, take `RandomState`: with
@@ -27,11 +28,11 @@ use std::hash::{BuildHasher, Hash};
 /// compiler refuses `new` there ("the item `new` exists .., but its bounds are not met") and `try_default` ("no
 /// function or constant named `try_default` found").
 #[derive(Drop)]
-pub struct FamilyCore<LS: Eq + Hash, M, S: BuildHasher> {
-    members: IndexMap<LS, M, S>,
+pub struct FamilyCore<LS: EncodeLabelSet + Eq + Hash, M, S: BuildHasher> {
+    members: KeptMembers<LS, M, S>,
 }
 
-impl<LS: Eq + Hash, M, S: BuildHasher + Default> FamilyCore<LS, M, S> {
+impl<LS: EncodeLabelSet + Eq + Hash, M, S: BuildHasher + Default> FamilyCore<LS, M, S> {
     /// No metrics, with the default hasher. It takes no memory.
     pub fn new(alloc: Global) -> FamilyCore<LS, M, S>
         ensures { result.members.entries ≡ [] }
@@ -40,13 +41,13 @@ impl<LS: Eq + Hash, M, S: BuildHasher + Default> FamilyCore<LS, M, S> {
     }
 }
 
-impl<LS: Eq + Hash, M, S: BuildHasher> FamilyCore<LS, M, S> {
+impl<LS: EncodeLabelSet + Eq + Hash, M, S: BuildHasher> FamilyCore<LS, M, S> {
     /// No metrics, with this hasher. It takes no memory.
     pub fn with_hasher(alloc: Global, hasher: S) -> FamilyCore<LS, M, S>
         ensures { result.members.entries ≡ [] }
     {
         FamilyCore {
-            members: IndexMap::with_hasher(alloc, hasher),
+            members: KeptMembers::with_hasher(alloc, hasher),
         }
     }
 
@@ -77,11 +78,11 @@ impl<LS: Eq + Hash, M, S: BuildHasher> FamilyCore<LS, M, S> {
         requires { place < length self.now.members.entries }
         ensures { slice_get (values self.now.members) place ≡ Some result.now }
     {
-        &self.members[place]
+        self.members.at(place)
     }
 }
 
-impl<LS: Clone + Eq + Hash + Drop, M: Drop, S: BuildHasher> FamilyCore<LS, M, S> {
+impl<LS: EncodeLabelSet + Clone + Eq + Hash + Drop, M: Drop, S: BuildHasher> FamilyCore<LS, M, S> {
     // The index of the metric of these labels, which the factory makes if there is none.
     pub(crate) fn place_or_new<MF: MetricFactory<M>>(
         &mut self,
@@ -96,13 +97,13 @@ impl<LS: Clone + Eq + Hash + Drop, M: Drop, S: BuildHasher> FamilyCore<LS, M, S>
         ensures within { IfOk result (λ i. i < length self.new.members.entries) }
         ensures different { IsUnique LS.eq self.new.members }
     {
-        if let Some(place) = self.members.get_index_of(labels) {
+        if let Some(place) = self.members.place_of(labels) {
             return Ok(place);
         }
         let metric = factory.new_metric()?;
         let place = self.members.len();
         let key = labels.clone()?;
-        self.members.insert(key, metric)?;
+        self.members.add(key, metric)?;
         Ok(place)
     }
 
@@ -118,7 +119,7 @@ impl<LS: Clone + Eq + Hash + Drop, M: Drop, S: BuildHasher> FamilyCore<LS, M, S>
         requires ready { get LS.eq self.old.members labels.now ≡ None → MF.is_ready factory.now }
         requires clones { ClonesEqual LS.is_clone LS.eq }
         ensures* gets { sem 𝓛
-            (ends_with_member LS.row M.row S.row S.Hasher.row LS.Hash
+            (ends_with_member LS.row M.row S.row S.Hasher.row LS.EncodeLabelSet LS.Hash
             S.BuildHasher S.Hasher.Hasher self.entry
             labels.now (MF.promises factory.now) result) }
         ensures there { IsSome (get LS.eq self.old.members labels.now) → IsOk result }
@@ -146,9 +147,6 @@ impl<LS: EncodeLabelSet + Eq + Hash, M: EncodePoint, S: BuildHasher> FamilyCore<
             (members_samples encoder.old.context ms)) }
         ensures different { IsUnique LS.eq self.now.members }
     {
-        for member in &self.members {
-            encoder.encode(member.0, member.1)?;
-        }
-        Ok(())
+        self.members.encode_members(encoder)
     }
 }

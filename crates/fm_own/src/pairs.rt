@@ -5,7 +5,7 @@ ghost use Rattle.fm_raw.specs.declared.error.MetricError.TheVariants.{Memory};
 ghost use Rattle.fm_family.specs.Members.{ClonesEqual};
 
 use crate::texts::DefaultFamily;
-use fm_encoder::StaticStr;
+use fm_encoder::{EncodeLabelName, EncodeLabelValue, StaticStr};
 use fm_raw::{MetricError, TryDefault};
 use std::hash::Hash;
 use std::sync::Wait;
@@ -20,8 +20,8 @@ pub type PairFamily<V, M, H, const N: usize> = DefaultFamily<[(StaticStr, V); N]
 /// with `Memory`, and the members stay as they were. It waits as `Family::with_or_new` does. Clones of a name and of a value must
 /// equal it, as those of numbers, truth values and `StaticStr` do.
 pub fn with_pairs<
-    K: Clone + Hash + Drop,
-    V: Clone + Hash + Drop,
+    K: EncodeLabelName + Clone + Hash + Drop,
+    V: EncodeLabelValue + Clone + Hash + Drop,
     M: TryDefault<H> + Drop,
     H: Wait + Clone + Drop,
     R,

@@ -1,6 +1,7 @@
 //! Clones, other threads, and the times of metrics.
 
 use crate::support::{Job, Silent, Stamped};
+use fastmetrics::encoder::StaticStr;
 use fastmetrics::metrics::counter::{ConstCounter, Counter};
 use fastmetrics::metrics::family::{DefaultFactory, Family};
 use fastmetrics::metrics::gauge::{ConstGauge, Gauge};
@@ -66,7 +67,7 @@ fn type_and_timestamp<M: TypedMetric>() -> (MetricType, bool) {
 
 // The family of these metrics.
 type Of<M> = Family<
-    [(u8, u8); 1],
+    [(StaticStr, u8); 1],
     M,
     DefaultFactory<M, HostRuntime>,
     BuildHasherDefault<FoldHasher>,

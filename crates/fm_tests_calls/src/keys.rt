@@ -4,6 +4,7 @@ use fastmetrics::encoder::{LabelStr, StaticStr};
 use fastmetrics::metrics::counter::Counter;
 use fastmetrics::metrics::family::{DefaultFactory, Family, FamilyCore};
 use fastmetrics::metrics::info::Info;
+use fm_test_support::replies::Path;
 use fm_test_support::support::expect_document;
 use std::hash::{BuildHasherDefault, FoldHasher, RandomState};
 use std::test::Fail;
@@ -11,7 +12,10 @@ use std::test::Fail;
 type Hasher = BuildHasherDefault<FoldHasher>;
 
 // Counters by a text that others can choose.
-type Counters<S> = Family<String, Counter, DefaultFactory<Counter, HostRuntime>, S, HostRuntime>;
+type Counters<S> = Family<Path, Counter, DefaultFactory<Counter, HostRuntime>, S, HostRuntime>;
+
+// A label whose value is lent.
+type Lent<'a> = [(StaticStr, LabelStr<'a>); 1];
 
 #[test]
 fn texts_that_strangers_choose(rt: HostRuntime) -> Result<(), Fail> {
@@ -19,7 +23,9 @@ fn texts_that_strangers_choose(rt: HostRuntime) -> Result<(), Fail> {
     let factory = DefaultFactory::new(rt, alloc);
     let random = RandomState::new(&rt)?;
     let pages = Counters::<RandomState>::with_hasher(rt, alloc, factory, random)?;
-    let page = String::from_str(alloc, "/a")?;
+    let page = Path {
+        path: String::from_str(alloc, "/a")?,
+    };
     for before in [0, 1] {
         assert!(rt; pages.with_or_new(&page, |count| count.inc()) == Ok(before));
     }
@@ -30,11 +36,13 @@ fn texts_that_strangers_choose(rt: HostRuntime) -> Result<(), Fail> {
 #[test]
 fn lent_texts(rt: HostRuntime) -> Result<(), Fail> {
     let alloc = rt.alloc();
-    let mut core = FamilyCore::<LabelStr<'_>, u64, Hasher>::new(alloc);
+    let mut core = FamilyCore::<Lent<'_>, u64, Hasher>::new(alloc);
     for (text, new, want) in [("/a", 7u64, 7u64), ("/b", 8, 8), ("/a", 9, 7)] {
-        assert!(rt; core.get_or_new(&LabelStr(text), &|| Ok(new)) == Ok(&want));
+        let labels = [(StaticStr("path"), LabelStr(text))];
+        assert!(rt; core.get_or_new(&labels, &|| Ok(new)) == Ok(&want));
     }
-    assert!(rt; core.get(&LabelStr("/b")) == Some(&8) && core.len() == 2);
+    let other = [(StaticStr("path"), LabelStr("/b"))];
+    assert!(rt; core.get(&other) == Some(&8) && core.len() == 2);
     assert!(rt; LabelStr("a") < LabelStr("b") && LabelStr("a") == LabelStr("a"));
     Ok(())
 }

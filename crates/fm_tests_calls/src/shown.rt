@@ -8,6 +8,7 @@ use fastmetrics::metrics::histogram::Histogram;
 use fastmetrics::metrics::state_set::{ConstStateSet, StateSet};
 use fastmetrics::raw::{Fixed, TryDefault};
 use fastmetrics::registry::Registry;
+use fm_test_support::replies::Outcome;
 use fm_test_support::trees::labels;
 use std::alloc::Global;
 use std::fmt::Debug;
@@ -16,7 +17,7 @@ use std::test::Fail;
 use std::time::Duration;
 
 type Counters = Family<
-    u8,
+    Outcome,
     Counter,
     DefaultFactory<Counter, HostRuntime>,
     BuildHasherDefault<FoldHasher>,

@@ -1,0 +1,150 @@
+// The members of a family, each with its labels as they are written.
+ghost use Rattle.std.specs.Prelude.{◌≡◌, ◌<◌, ◌↔◌, ◌++◌, ◌⊎◌, IsTrue, OnOk, OnErr, IfSome, Some, None, Ok, Any, List, option_copied, [], ◌∷◌, length, slice_get, is_some};
+ghost use Rattle.indexmap.specs.IndexMap.{get, values, index_of, IsUnique};
+ghost use Rattle.fm_encoder.specs.Points.{Member, MembersClean, members_samples};
+ghost use Rattle.fm_encoder.specs.Output.{appended};
+ghost use Rattle.fm_encoder.specs.Gathered.{result_of};
+ghost use Rattle.fm_encoder.specs.Hands.{HandsMembers, MembersOf, OffersOf};
+ghost use Rattle.fm_family.specs.Members.{OffersFirst, MayFault};
+
+use fm_encode_error::EncodeError;
+use fm_encoder::{EncodeLabelSet, EncodePoint, KeptLabels, MetricEncoder};
+use indexmap::IndexMap;
+use std::alloc::{AllocError, Global};
+use std::hash::{BuildHasher, Hash};
+use std::marker::Model;
+
+// Metrics by label set, in the order in which they were added. Contracts see the map.
+#[derive(Drop)]
+pub(crate) struct KeptMembers<LS: EncodeLabelSet + Eq + Hash, M, S: BuildHasher> {
+    alloc: Global,
+    members: IndexMap<LS, M, S>,
+    // The labels of each member as they are written, or `None` where they are not valid in each family.
+    labels: Vec<Option<KeptLabels>>,
+}
+
+impl<LS: EncodeLabelSet + Eq + Hash, M, S: BuildHasher> Model for KeptMembers<LS, M, S> {
+    ghost use Rattle.indexmap.specs.IndexMap.{IndexMap, keys};
+    ghost use Rattle.fm_family.specs.inside.Kept.{AreKept};
+
+    ghost Value = { IndexMap LS M S };
+
+    ghost use Rattle.indexmap.specs.Layout.{hash_map_code};
+
+    ghost coded = { hash_map_code LS.code M.code S.code };
+
+    ghost view = { λ k. k.members };
+
+    ghost invariant = { λ k. AreKept LS.labels (keys k.members) k.labels.items };
+}
+
+impl<LS: EncodeLabelSet + Eq + Hash, M, S: BuildHasher> KeptMembers<LS, M, S> {
+    // No members, with this hasher. It takes no memory.
+    pub(crate) fn with_hasher(alloc: Global, hasher: S) -> KeptMembers<LS, M, S>
+        ensures { result.entries ≡ [] }
+    {
+        KeptMembers {
+            alloc,
+            members: IndexMap::with_hasher(alloc, hasher),
+            labels: Vec::new(alloc),
+        }
+    }
+
+    // How many members there are. No two of their label sets are equal.
+    pub(crate) fn len(&self) -> usize
+        ensures count { result ≡ length self.now.entries }
+        ensures different { IsUnique LS.eq self.now }
+    {
+        self.members.len()
+    }
+
+    pub(crate) fn is_empty(&self) -> bool
+        ensures { IsTrue result ↔ (self.now.entries ≡ []) }
+    {
+        self.members.is_empty()
+    }
+
+    // The metric of these labels, if there is one.
+    pub(crate) fn get(&self, labels: &LS) -> Option<&M>
+        ensures { option_copied result ≡ get LS.eq self.now labels.now }
+    {
+        self.members.get(labels)
+    }
+
+    // The index of the metric of these labels, if there is one.
+    pub(crate) fn place_of(&self, labels: &LS) -> Option<usize>
+        ensures found { is_some result ≡ is_some (get LS.eq self.now labels.now) }
+        ensures within { IfSome result (λ i. i < length self.now.entries) }
+        ensures value { IfSome result
+            (λ i. slice_get (values self.now) i ≡ get LS.eq self.now labels.now) }
+        ensures different { IsUnique LS.eq self.now }
+    {
+        self.members.get_index_of(labels)
+    }
+
+    // The metric at an index.
+    pub(crate) fn at(&self, place: usize) -> &M
+        requires { place < length self.now.entries }
+        ensures { slice_get (values self.now) place ≡ Some result.now }
+    {
+        &self.members[place]
+    }
+}
+
+impl<LS: EncodeLabelSet + Eq + Hash + Drop, M: Drop, S: BuildHasher> KeptMembers<LS, M, S> {
+    // Adds a member as the last. Its labels are new. Fails if memory runs out, and then the members stay as they were.
+    pub(crate) fn add(&mut self, labels: LS, metric: M) -> Result<(), AllocError>
+        requires new { get LS.eq self.old labels ≡ None }
+        ensures added { OnOk result
+            (self.new.entries ≡ self.old.entries ++ (labels, metric) ∷ []) }
+        ensures kept { OnErr result (self.new.entries ≡ self.old.entries) }
+        ensures different { IsUnique LS.eq self.new }
+    {
+        let count = self.members.len();
+        let kept = KeptLabels::read(self.alloc, &labels)?;
+        self.labels.push(kept)?;
+        match self.members.insert(labels, metric) {
+            Ok(_) => Ok(()),
+            Err(_) => {
+                self.labels.truncate(count);
+                Err(AllocError)
+            }
+        }
+    }
+}
+
+impl<LS: EncodeLabelSet + Eq + Hash, M: EncodePoint, S: BuildHasher> KeptMembers<LS, M, S> {
+    // Encodes the points of the member at an index under its labels.
+    fn encode_at(&self, place: usize, encoder: &mut MetricEncoder) -> Result<(), EncodeError>
+        requires { place < length self.now.entries }
+        ensures handed { (pair : LS × M) × (slice_get self.now.entries place ≡ Some pair)
+            × HandsMembers (MembersOf (LS.labels pair.0) (M.points pair.1))
+            (MayFault LS.may_fault M.may_fault pair) encoder.old encoder.new result }
+        ensures answered { result ≡ result_of encoder.new.refused }
+    {
+        let Some((labels, metric)) = self.members.get_index(place) else {
+            unreachable!()
+        };
+        encoder.encode_kept(self.labels[place].as_ref(), labels, metric)
+    }
+
+    // Encodes each member's points under its labels, in order, up to the first error, which is returned.
+    pub(crate) fn encode_members(&self, encoder: &mut MetricEncoder) -> Result<(), EncodeError>
+        ensures offered { HandsMembers (OffersFirst LS.labels M.points self.now.entries)
+            (Any (MayFault LS.may_fault M.may_fault) self.now.entries)
+            encoder.old encoder.new result }
+        ensures all { encoder.old.refused ≡ None → encoder.new.refused ≡ None → result ≡ Ok tt
+            → (ms : List Member)
+            × OffersOf LS.labels M.points self.now.entries ms
+            × MembersClean encoder.old.context ms
+            × (encoder.new.output
+            ≡ appended encoder.old.context.setting.name encoder.old.output
+            (members_samples encoder.old.context ms)) }
+        ensures different { IsUnique LS.eq self.now }
+    {
+        for place in 0..self.members.len() {
+            self.encode_at(place, encoder)?;
+        }
+        Ok(())
+    }
+}
