@@ -6,6 +6,7 @@ ghost use Rattle.fm_exposition.specs.Rows.{ended, unit_row, head_rows};
 ghost use Rattle.fm_writer.specs.inside.Grown.{Grows};
 
 use crate::output::Output;
+use crate::plain::is_plain;
 use crate::rendering::append_escaped;
 use fm_grammar::MetricType;
 use std::alloc::AllocError;
@@ -30,8 +31,12 @@ fn append_help_row<O: Output>(text: &mut O, name: &str, help: &str) -> Result<()
     ensures { OnOk result (Grows (O.stands_for text.old) (O.stands_for text.new)
         (ended (help_line name.now help.now))) }
 {
+    let help = help.as_bytes();
     text.put_three(b"# HELP ", name.as_bytes(), b" ")?;
-    append_escaped(text, help.as_bytes())?;
+    if is_plain(help) {
+        return text.put_three(help, b"\n", b"");
+    }
+    append_escaped(text, help)?;
     text.put(b"\n")
 }
 

@@ -10,7 +10,7 @@ ghost use Rattle.fm_writer.specs.inside.LabelTexts.{part_in, label_in, labels_in
 use crate::growing::GrowingText;
 use crate::label_list::append_placed_list;
 use crate::output::Output;
-use crate::rendering::is_plain;
+use crate::plain::is_plain;
 use std::alloc::{AllocError, Global};
 use std::marker::Model;
 

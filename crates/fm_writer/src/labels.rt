@@ -8,7 +8,8 @@ ghost use Rattle.fm_writer.specs.inside.Grown.{Grows};
 
 use crate::label_text::LabelText;
 use crate::output::Output;
-use crate::rendering::{append_escaped, is_plain};
+use crate::plain::is_plain;
+use crate::rendering::append_escaped;
 use std::alloc::AllocError;
 
 // Labels of samples, the common ones or their own.

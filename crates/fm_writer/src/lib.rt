@@ -8,6 +8,7 @@ pub mod label_text;
 mod labels;
 pub mod lines;
 mod output;
+mod plain;
 mod rendering;
 pub mod sink;
 mod writing;

@@ -1,5 +1,5 @@
 // The texts of the parts of a sample's line, appended to an output.
-ghost use Rattle.std.specs.Prelude.{◌≡◌, ◌⊎◌, ◌≤◌, ◌++◌, [], ◌∷◌, length, take, codes, IsTrue, OnOk, None};
+ghost use Rattle.std.specs.Prelude.{◌≡◌, ◌≤◌, ◌++◌, length, take, codes, OnOk, None};
 ghost use Rattle.std.specs.Option.{option_map};
 ghost use Rattle.fm_grammar.specs.Spelling.{escape, escaped, value_text, time_text, exemplar_text};
 ghost use Rattle.fm_exposition.specs.Rows.{sample_row};
@@ -8,6 +8,7 @@ ghost use Rattle.fm_writer.specs.inside.Grown.{Grows};
 
 use crate::labels::{LabelSource, append_in_braces, append_joined_list};
 use crate::output::Output;
+use crate::plain::has_escape;
 use fm_exposition::{Exemplar, Value};
 use fm_grammar::SampleKind;
 use fm_raw::fixed::{FixedBuffer, FixedSum};
@@ -27,14 +28,6 @@ fn append_escape<O: Output>(text: &mut O, byte: u8) -> Result<(), AllocError>
     }
 }
 
-// Whether a byte is written with an escape.
-#[tactic(auto, unfolding(fm_grammar::specs::Spelling::escape))]
-fn has_escape(byte: u8) -> bool
-    ensures { IsTrue result ⊎ (escape byte ≡ byte ∷ []) }
-{
-    (byte == b'\n') | (byte == b'"') | (byte == b'\\')
-}
-
 // How many bytes come before the first one that is written with an escape.
 fn plain_len(raw: &[u8]) -> usize
     ensures within { result ≤ length raw.now }
@@ -46,17 +39,6 @@ fn plain_len(raw: &[u8]) -> usize
         }
     }
     raw.len()
-}
-
-// Whether each byte of a text is written as it is. It tests all bytes, without an early end, so that several are tested at once.
-pub(crate) fn is_plain(raw: &[u8]) -> bool
-    ensures { IsTrue result → escaped raw.now ≡ raw.now }
-{
-    let mut escapes = false;
-    for byte in raw {
-        escapes |= has_escape(*byte);
-    }
-    !escapes
 }
 
 // Appends a text with its escapes. What is between two of them is appended at once.
