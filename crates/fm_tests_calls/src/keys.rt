@@ -1,6 +1,8 @@
 //! Label sets as the keys of families: with random hashers, of borrowed texts, and of texts of the program.
+ghost use Rattle.std.specs.Prelude.{[], ◌∷◌, codes};
+ghost use Rattle.fastmetrics.specs.Labels.{NamePiece, ValuePiece};
 
-use fastmetrics::encoder::{LabelStr, StaticStr};
+use fastmetrics::encoder::{EncodeError, EncodeLabelSet, LabelSetEncoder, LabelStr, StaticStr};
 use fastmetrics::metrics::counter::Counter;
 use fastmetrics::metrics::family::{DefaultFactory, Family, FamilyCore};
 use fastmetrics::metrics::info::Info;
@@ -15,7 +17,16 @@ type Hasher = BuildHasherDefault<FoldHasher>;
 type Counters<S> = Family<Path, Counter, DefaultFactory<Counter, HostRuntime>, S, HostRuntime>;
 
 // A label whose value is lent.
-type Lent<'a> = [(StaticStr, LabelStr<'a>); 1];
+#[derive(Clone, Copy, PartialEq, Eq, Hash)]
+struct Lent<'a>(LabelStr<'a>);
+
+impl EncodeLabelSet for Lent<'_> {
+    ghost labels = { λ lent. (NamePiece (codes "path") ∷ ValuePiece lent.0.0.now ∷ []) ∷ [] };
+
+    fn encode(&self, encoder: &mut LabelSetEncoder) -> Result<(), EncodeError> {
+        encoder.encode(&(LabelStr("path"), self.0))
+    }
+}
 
 #[test]
 fn texts_that_strangers_choose(rt: HostRuntime) -> Result<(), Fail> {
@@ -38,11 +49,9 @@ fn lent_texts(rt: HostRuntime) -> Result<(), Fail> {
     let alloc = rt.alloc();
     let mut core = FamilyCore::<Lent<'_>, u64, Hasher>::new(alloc);
     for (text, new, want) in [("/a", 7u64, 7u64), ("/b", 8, 8), ("/a", 9, 7)] {
-        let labels = [(StaticStr("path"), LabelStr(text))];
-        assert!(rt; core.get_or_new(&labels, &|| Ok(new)) == Ok(&want));
+        assert!(rt; core.get_or_new(&Lent(LabelStr(text)), &|| Ok(new)) == Ok(&want));
     }
-    let other = [(StaticStr("path"), LabelStr("/b"))];
-    assert!(rt; core.get(&other) == Some(&8) && core.len() == 2);
+    assert!(rt; core.get(&Lent(LabelStr("/b"))) == Some(&8) && core.len() == 2);
     assert!(rt; LabelStr("a") < LabelStr("b") && LabelStr("a") == LabelStr("a"));
     Ok(())
 }
