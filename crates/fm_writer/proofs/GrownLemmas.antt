@@ -20,6 +20,10 @@ grown_nothing a = record { grows = λ front is. subst (λ (t : Text). a t) (sym 
 
 pub ruleset grown = (grown_then, grown_nothing)
 
+-- two pieces at once, and what comes after them
+pub grown_two : (a b c : Text → Type 0) (x y rest : Text) → Grows a b (x ++ y) → Grows b c rest → Grows a c (x ++ (y ++ rest))
+grown_two a b c x y rest start end = subst (λ (t : Text). Grows a c t) (append_assoc x y rest) (grown_then a b c (x ++ y) rest start end)
+
 -- a text that grows, seen as an output
 pub grows_text : (a b text : Text) → Grown a b text → Grows (λ t. a ≡ t) (λ t. b ≡ t) text
 grows_text a b text grown = record { grows = λ front is. grown.bytes ∙ ap (λ (t : Text). t ++ text) is }
@@ -95,15 +99,18 @@ pub list_whole : (a b : Text → Type 0) (first : Label) (others labels : List L
 list_whole a b first others labels is g = rw (is, label_list_is first others) g
 
 -- the texts of two lists that are not empty, with a comma between them, are the text of both
-pub joined_whole : (a b : Text → Type 0) (front back : List Label) → ◌<◌ 0 (length front) → ◌<◌ 0 (length back) → Grows a b (label_list_text front ++ (codes "," ++ label_list_text back)) → Grows a b (label_list_text (front ++ back))
-joined_whole a b front [] some more g = absurd (omega (arith, more))
-joined_whole a b front (first ∷ others) some more g =
+pub joined_whole : (a b : Text → Type 0) (front back : List Label) (after : Text) → ◌<◌ 0 (length front) → ◌<◌ 0 (length back) → Grows a b (label_list_text front ++ (codes "," ++ (label_list_text back ++ after))) → Grows a b (label_list_text (front ++ back) ++ after)
+joined_whole a b front [] after some more g = absurd (omega (arith, more))
+joined_whole a b front (first ∷ others) after some more g =
     let further : further_labels (first ∷ others) ≡ codes "," ++ label_list_text (first ∷ others) = ap (λ (t : Text). codes "," ++ t) (sym (label_list_is first others)) in
-    rw (list_joined front (first ∷ others) some, further) g
+    let list : label_list_text (front ++ first ∷ others) ≡ label_list_text front ++ (codes "," ++ label_list_text (first ∷ others)) = list_joined front (first ∷ others) some ∙ ap (λ (t : Text). label_list_text front ++ t) further in
+    let whole : label_list_text (front ++ first ∷ others) ++ after ≡ label_list_text front ++ (codes "," ++ (label_list_text (first ∷ others) ++ after)) =
+    ap (λ (t : Text). t ++ after) list ∙ append_assoc (label_list_text front) (codes "," ++ label_list_text (first ∷ others)) after ∙ ap (λ (t : Text). label_list_text front ++ t) (append_assoc (codes ",") (label_list_text (first ∷ others)) after) in
+    rw whole g
 
-pub joined_nothing : (a b : Text → Type 0) (front back : List Label) → length back ≡ 0 → Grows a b (label_list_text front) → Grows a b (label_list_text (front ++ back))
-joined_nothing a b front [] none g = rw (append-nil front) g
-joined_nothing a b front (first ∷ others) none g = absurd (omega (arith, none))
+pub joined_nothing : (a b : Text → Type 0) (front back : List Label) (after : Text) → length back ≡ 0 → Grows a b (label_list_text front ++ after) → Grows a b (label_list_text (front ++ back) ++ after)
+joined_nothing a b front [] after none g = rw (append-nil front) g
+joined_nothing a b front (first ∷ others) after none g = absurd (omega (arith, none))
 
 -- a block of two lists
 pub block_neither : (front back : List Label) → length front ≡ 0 → length back ≡ 0 → label_block_text (front ++ back) ≡ []

@@ -14,7 +14,7 @@ after_value s = time_text s.time ++ (exemplar_text s.exemplar ++ codes "\n")
 bare_is : (name suffix value time exemplar : Text) → (name ++ (suffix ++ codes " ")) ++ (value ++ (time ++ (exemplar ++ codes "\n"))) ≡ (name ++ (suffix ++ (codes " " ++ (value ++ (time ++ exemplar))))) ++ codes "\n"
 bare_is name suffix value time exemplar = simp append_assoc
 
-braced_is : (name suffix list value time exemplar : Text) → (name ++ (suffix ++ codes "{")) ++ (list ++ (codes "} " ++ (value ++ (time ++ (exemplar ++ codes "\n"))))) ≡ (name ++ (suffix ++ ((codes "{" ++ (list ++ codes "}")) ++ (codes " " ++ (value ++ (time ++ exemplar)))))) ++ codes "\n"
+braced_is : (name suffix list value time exemplar : Text) → (name ++ (suffix ++ codes "{")) ++ ((list ++ codes "} ") ++ (value ++ (time ++ (exemplar ++ codes "\n")))) ≡ (name ++ (suffix ++ ((codes "{" ++ (list ++ codes "}")) ++ (codes " " ++ (value ++ (time ++ exemplar)))))) ++ codes "\n"
 braced_is name suffix list value time exemplar = simp append_assoc
 
 pub row_bare : (a b c : Text → Type 0) (name : Text) (s : Sample) → label_block_text s.labels ≡ [] → Grows a b (name ++ (suffix_of s.kind ++ codes " ")) → Grows b c (value_text s.value ++ after_value s) → Grows a c (sample_row name s)
@@ -23,10 +23,10 @@ row_bare a b c name s none start end =
     let whole : Grows a c ((name ++ (suffix_of s.kind ++ codes " ")) ++ (value_text s.value ++ after_value s)) = grown_then a b c _ _ start end in
     rw (none, ← bare_is name (suffix_of s.kind) (value_text s.value) (time_text s.time) (exemplar_text s.exemplar)) whole
 
-pub row_braced : (a b c d e : Text → Type 0) (name : Text) (s : Sample) → label_block_text s.labels ≡ in_braces s.labels → Grows a b (name ++ (suffix_of s.kind ++ codes "{")) → Grows b c (label_list_text s.labels) → Grows c d (codes "} ") → Grows d e (value_text s.value ++ after_value s) → Grows a e (sample_row name s)
+pub row_braced : (a b c d : Text → Type 0) (name : Text) (s : Sample) → label_block_text s.labels ≡ in_braces s.labels → Grows a b (name ++ (suffix_of s.kind ++ codes "{")) → Grows b c (label_list_text s.labels ++ codes "} ") → Grows c d (value_text s.value ++ after_value s) → Grows a d (sample_row name s)
 unfolding sample_line in_braces
-row_braced a b c d e name s some start list brace end =
-    let whole : Grows a e ((name ++ (suffix_of s.kind ++ codes "{")) ++ (label_list_text s.labels ++ (codes "} " ++ (value_text s.value ++ after_value s)))) = grown_then a b e _ _ start (grown_then b c e _ _ list (grown_then c d e _ _ brace end)) in
+row_braced a b c d name s some start list end =
+    let whole : Grows a d ((name ++ (suffix_of s.kind ++ codes "{")) ++ ((label_list_text s.labels ++ codes "} ") ++ (value_text s.value ++ after_value s))) = grown_then a b d _ _ start (grown_then b c d _ _ list end) in
     rw (some, ← braced_is name (suffix_of s.kind) (label_list_text s.labels) (value_text s.value) (time_text s.time) (exemplar_text s.exemplar)) whole
 
 -- three pieces at once, and what comes after them, with or without the line feed

@@ -8,7 +8,10 @@ use std::marker::Model;
 // How many bytes a text has room for at first.
 const FIRST_ROOM: usize = 64;
 
-// Lengthens a list of bytes to this length or to twice its length, whichever is greater.
+// How many bytes a text is filled up with at most. What was filled is then still in the processor's cache when it is written to.
+const MOST_ROOM: usize = 4096;
+
+// Lengthens a list of bytes to this length or, if that is greater, to twice its length or by the most room.
 #[cold]
 fn lengthen(bytes: &mut Vec<u8>, at_least: usize) -> Result<(), AllocError>
     requires { length bytes.old.items ≤ at_least }
@@ -16,8 +19,8 @@ fn lengthen(bytes: &mut Vec<u8>, at_least: usize) -> Result<(), AllocError>
     ensures longer { length bytes.old.items ≤ length bytes.new.items }
     ensures enough { OnOk result (at_least ≤ length bytes.new.items) }
 {
-    let doubled = bytes.len().saturating_mul(2).max(FIRST_ROOM);
-    bytes.resize(doubled.max(at_least), 0)
+    let room = bytes.len().max(FIRST_ROOM).min(MOST_ROOM);
+    bytes.resize(bytes.len().saturating_add(room).max(at_least), 0)
 }
 
 // Where three pieces end that follow this number of bytes.

@@ -203,16 +203,21 @@ fn pairs_at<'a>(
     Ok(pairs)
 }
 
-// Appends the labels' list, given the list without the quote at its end, and whether it is empty.
+// Appends the labels' list, given the list without the quote at its end, and whether it is empty, and the text that comes after it.
 #[tactic(auto, using(crate::proofs::GrownLemmas::grown))]
-fn append_closed<O: Output>(text: &mut O, list: &[u8], is_empty: bool) -> Result<(), AllocError>
+fn append_closed<O: Output>(
+    text: &mut O,
+    list: &[u8],
+    is_empty: bool,
+    after: &[u8],
+) -> Result<(), AllocError>
     ensures { OnOk result (Grows (O.stands_for text.old) (O.stands_for text.new)
-        (list.now ++ (if is_empty then [] else codes "\""))) }
+        (list.now ++ ((if is_empty then [] else codes "\"") ++ after.now))) }
 {
     if is_empty {
-        text.put(list)
+        text.put_three(list, b"", after)
     } else {
-        text.put_three(list, b"\"", b"")
+        text.put_three(list, b"\"", after)
     }
 }
 
@@ -368,18 +373,25 @@ impl LabelText {
         pairs_at(alloc, self.text.as_slice(), &self.places[from..])
     }
 
-    /// Appends the labels with commas between them. Fails if memory runs out.
-    pub(crate) fn append_to<O: Output>(&self, text: &mut O) -> Result<(), AllocError>
+    /// Appends the labels with commas between them, and the text that comes after them. Fails if memory runs out.
+    #[tactic(auto, using(crate::proofs::GrownLemmas::grown))]
+    pub(crate) fn append_before<O: Output>(
+        &self,
+        text: &mut O,
+        after: &[u8],
+    ) -> Result<(), AllocError>
         ensures { OnOk result (Grows (O.stands_for text.old) (O.stands_for text.new)
-            (label_list_text self.now.labels)) }
+            (label_list_text self.now.labels ++ after.now)) }
     {
         if !may_take_name(self.is_listed, self.name, self.value) {
-            return append_placed_list(text, self.text.as_slice(), &self.places);
+            append_placed_list(text, self.text.as_slice(), &self.places)?;
+            return text.put(after);
         }
         append_closed(
             text,
             self.text.as_slice(),
             self.places.as_slice().is_empty(),
+            after,
         )
     }
 }

@@ -23,11 +23,11 @@ pub(crate) trait LabelSource<O: Output> {
     fn len(&self) -> usize
         ensures { result ≡ length (labels self.now) };
 
-    // Appends the labels with commas between them. Fails if memory runs out.
-    fn append_to(&self, text: &mut O) -> Result<(), AllocError>
+    // Appends the labels with commas between them, and the text that comes after them. Fails if memory runs out.
+    fn append_before(&self, text: &mut O, after: &[u8]) -> Result<(), AllocError>
         requires { is_ready self.now }
         ensures { OnOk result (Grows (O.stands_for text.old) (O.stands_for text.new)
-            (label_list_text (labels self.now))) };
+            (label_list_text (labels self.now) ++ after.now)) };
 }
 
 impl<O: Output> LabelSource<O> for LabelText {
@@ -37,8 +37,8 @@ impl<O: Output> LabelSource<O> for LabelText {
         self.len()
     }
 
-    fn append_to(&self, text: &mut O) -> Result<(), AllocError> {
-        self.append_to(text)
+    fn append_before(&self, text: &mut O, after: &[u8]) -> Result<(), AllocError> {
+        self.append_before(text, after)
     }
 }
 
@@ -60,8 +60,10 @@ impl<O: Output> LabelSource<O> for Rendered<'_, O> {
         self.labels.len()
     }
 
-    fn append_to(&self, text: &mut O) -> Result<(), AllocError> {
-        text.put_output(self.text)
+    #[tactic(auto, using(crate::proofs::GrownLemmas::grown))]
+    fn append_before(&self, text: &mut O, after: &[u8]) -> Result<(), AllocError> {
+        text.put_output(self.text)?;
+        text.put(after)
     }
 }
 
@@ -73,8 +75,10 @@ impl<O: Output> LabelSource<O> for &[(String, String)] {
         <[(String, String)]>::len(self)
     }
 
-    fn append_to(&self, text: &mut O) -> Result<(), AllocError> {
-        append_label_list(text, self)
+    #[tactic(auto, using(crate::proofs::GrownLemmas::grown))]
+    fn append_before(&self, text: &mut O, after: &[u8]) -> Result<(), AllocError> {
+        append_label_list(text, self)?;
+        text.put(after)
     }
 }
 
@@ -185,41 +189,42 @@ pub(crate) fn append_in_braces<O: Output>(
     text.put(b"}")
 }
 
-// Appends two lists of labels with a comma between them. Neither is empty.
-#[tactic(auto, using(crate::proofs::GrownLemmas::grown))]
+// Appends two lists of labels with a comma between them, and the text that comes after them. Neither list is empty.
+#[tactic(auto, using(crate::proofs::GrownLemmas::grown_two))]
 fn append_both<O: Output, F: LabelSource<O>, G: LabelSource<O>>(
     text: &mut O,
     common: &F,
     own: &G,
+    after: &[u8],
 ) -> Result<(), AllocError>
     requires common { F.is_ready common.now }
     requires own { G.is_ready own.now }
     ensures { OnOk result (Grows (O.stands_for text.old) (O.stands_for text.new)
         (label_list_text (F.labels common.now)
-        ++ (codes "," ++ label_list_text (G.labels own.now)))) }
+        ++ (codes "," ++ (label_list_text (G.labels own.now) ++ after.now)))) }
 {
-    common.append_to(text)?;
-    text.put(b",")?;
-    own.append_to(text)
+    common.append_before(text, b",")?;
+    own.append_before(text, after)
 }
 
-// Appends common labels and further ones with commas between them.
+// Appends common labels and further ones with commas between them, and the text that comes after them.
 #[tactic(auto, using(fm_exposition::proofs::RowLemmas::joined))]
 pub(crate) fn append_joined_list<O: Output, F: LabelSource<O>, G: LabelSource<O>>(
     text: &mut O,
     common: &F,
     own: &G,
+    after: &[u8],
 ) -> Result<(), AllocError>
     requires common { F.is_ready common.now }
     requires own { G.is_ready own.now }
     ensures { OnOk result (Grows (O.stands_for text.old) (O.stands_for text.new)
-        (label_list_text (F.labels common.now ++ G.labels own.now))) }
+        (label_list_text (F.labels common.now ++ G.labels own.now) ++ after.now)) }
 {
     if own.len() == 0 {
-        common.append_to(text)
+        common.append_before(text, after)
     } else if common.len() == 0 {
-        own.append_to(text)
+        own.append_before(text, after)
     } else {
-        append_both(text, common, own)
+        append_both(text, common, own, after)
     }
 }

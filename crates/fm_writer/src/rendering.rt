@@ -165,7 +165,6 @@ pub(crate) fn append_sample_row<O: Output, F: LabelSource<O>, G: LabelSource<O>>
         return append_reading(text, value, time, exemplar);
     }
     text.put_three(name, suffix, b"{")?;
-    append_joined_list(text, common, own)?;
-    text.put(b"} ")?;
+    append_joined_list(text, common, own, b"} ")?;
     append_reading(text, value, time, exemplar)
 }

@@ -1,4 +1,4 @@
-use Rattle.std.proofs.Common.{◌≡◌, ◌<◌, ◌++◌, arith, length}
+use Rattle.std.proofs.Common.{◌≡◌, ◌++◌, arith}
 use Rattle.fm_grammar.specs.Spelling.{label_block_text, in_braces}
 use Rattle.fm_exposition.proofs.ResultLemmas.{on_ok_more}
 use Rattle.fm_writer.proofs.GrownLemmas.{block_neither, block_front, block_back}
@@ -21,4 +21,4 @@ returns g c =
       | else-len-eq0-via-then-len-eq0+else-len-eq0-2 w ↦ block_back front back (omega (arith, w.len-then-len-eq0.ensures, w.if-len-eq0-2.false))
       | else-len-eq0-via-else-len-eq0 w ↦ block_front front back (omega (arith, c.len.ensures, w.if-len-eq0.false))
     ] in
-    on_ok_more c.append_reading-2.result _ _ (λ end. row_braced _ _ _ _ _ c.args.name.now _ block (rw (c.in_ok-put_three-2.was, c.as_bytes-name.ensures.value, c.as_bytes-suffix.ensures.value, c.suffix.ensures) at c.put_three-2.ensures) (rw c.in_ok-append_joined_list.was at c.append_joined_list.ensures) (rw c.in_ok-put.was at c.put.ensures) end) c.append_reading-2.ensures
+    on_ok_more c.append_reading-2.result _ _ (λ end. row_braced _ _ _ _ c.args.name.now _ block (rw (c.in_ok-put_three-2.was, c.as_bytes-name.ensures.value, c.as_bytes-suffix.ensures.value, c.suffix.ensures) at c.put_three-2.ensures) (rw c.in_ok-append_joined_list.was at c.append_joined_list.ensures) end) c.append_reading-2.ensures
