@@ -33,6 +33,7 @@ pub use Rattle.fm_registry_calls.specs.Loan
 pub use Rattle.fm_registry_calls.specs.Listing
 pub use Rattle.fm_registry_calls.specs.Running
 pub use Rattle.fm_encoder.specs.Labels
+pub use Rattle.fm_encoder.specs.Kept
 pub use Rattle.fm_encoder.specs.Points
 pub use Rattle.fm_encoder.specs.Gathered
 pub use Rattle.fm_encoder.specs.Buckets

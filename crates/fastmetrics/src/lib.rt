@@ -14,10 +14,10 @@ pub mod encoder {
     pub use fm_core::encoder::{
         CounterValueEncoder, EncodeCounterValue, EncodeError, EncodeExemplar, EncodeGaugeValue,
         EncodeLabel, EncodeLabelName, EncodeLabelSet, EncodeLabelValue, EncodeMetric, EncodePoint,
-        EncodeUnknownValue, ExemplarEncoder, GaugeValueEncoder, LabelEncoder, LabelSetEncoder,
-        LabelSlice, LabelStr, LabeledExemplar, MetricEncoder, MetricFamilyEncoder, PointEncoder,
-        StaticStr, UnknownValueEncoder, exemplar, label, label_set, label_value, metric, point,
-        value,
+        EncodeUnknownValue, ExemplarEncoder, GaugeValueEncoder, KeptLabels, LabelEncoder,
+        LabelSetEncoder, LabelSlice, LabelStr, LabeledExemplar, MetricEncoder, MetricFamilyEncoder,
+        PointEncoder, StaticStr, UnknownValueEncoder, exemplar, label, label_set, label_value,
+        metric, point, value,
     };
     pub use fm_own::{LabelValue, encode_labels};
 }
