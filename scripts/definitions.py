@@ -89,7 +89,7 @@ class Module:
                 self.note_part(text, current)
 
     def name_of(self, text):
-        words = [w for w in re.split(r"\s+", text) if w not in ("abbrev", "pub", "data", "record", "ghost", "opaque")]
+        words = [w for w in re.split(r"\s+", text) if w not in ("abbrev", "unfoldable", "pub", "data", "record", "ghost", "opaque")]
         return words[0]
 
     def note_part(self, text, current):

@@ -3,8 +3,10 @@
 
     scripts/misplaced.py [CRATE..]
 
+It fails where there are some.
+
 A public clause is an `ensures` or `requires` of a public function or trait, a ghost member of a public trait or of an implementation of one,
-and the `Value` of a model. Clauses of `pub(crate)` functions count as private. Test crates are left out.
+and the `Value` of a model. Clauses of `pub(crate)` functions count as private. Test crates and programs are left out.
 """
 import re
 import sys
@@ -94,16 +96,19 @@ def home(start):
 
 
 def main():
+    found = False
     crates = sorted(it for it in (TOP / "crates").iterdir() if (it / "src").is_dir())
     starts = {home(it) for crate in crates for path in crate.glob("src/**/*.rt") for it in Source(path).cited()}
     public = reach(starts)
-    chosen = [it for it in crates if it.name in sys.argv[1:] or len(sys.argv) == 1 and not it.name.startswith("fm_test")]
+    chosen = [it for it in crates if it.name in sys.argv[1:] or len(sys.argv) == 1 and (it / "src/lib.rt").exists() and not it.name.startswith("fm_test")]
     for crate in chosen:
         for path in sorted(crate.glob("specs/**/*.antt")):
             name = str(path.relative_to(TOP / "crates"))[: -len(".antt")].replace("/", ".")
             for word in module(name).definitions:
-                if "/inside/" not in str(path) and word not in ("mutual", "unfoldable") and word.isidentifier() and (name, word) not in public:
-                    print(name, word)
+                if "/inside/" not in str(path) and word != "mutual" and word.isidentifier() and (name, word) not in public:
+                    print(f"belongs into specs/inside: {name} {word}")
+                    found = True
+    sys.exit(1 if found else 0)
 
 
 if __name__ == "__main__":

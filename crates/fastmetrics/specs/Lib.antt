@@ -38,6 +38,7 @@ pub use Rattle.fm_encoder.specs.Points
 pub use Rattle.fm_encoder.specs.Gathered
 pub use Rattle.fm_encoder.specs.Buckets
 pub use Rattle.fm_encoder.specs.Hands
+pub use Rattle.fm_encoder.specs.Takes
 pub use Rattle.fm_encoder.specs.Offers
 pub use Rattle.fm_registry.specs.HasBook
 pub use Rattle.fm_registry.specs.Building

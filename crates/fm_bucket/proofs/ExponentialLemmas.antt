@@ -5,7 +5,8 @@ use Rattle.std.specs.List.{range_with_len}
 use Rattle.std.proofs.Math.Nat.{pow-le-pow_left, pow-le-pow_right, pow-suc, pow-zero, one-le-pow, min-eq_right, mul-le-mul_left, mul-mod_right, mul_comm, mul_assoc}
 use Rattle.std.proofs.lemmas.Int.{ints}
 use Rattle.std.proofs.lemmas.Bool.{cases_lt}
-use Rattle.fm_bucket.specs.Bounds.{exponential_bounds, FitExponential}
+use Rattle.fm_bucket.specs.Bounds.{exponential_bounds}
+use Rattle.fm_bucket.specs.inside.Fits.{FitExponential}
 use Rattle.fm_bucket.proofs.LinearLemmas.{map_shifted}
 
 -- a number above zero is its magnitude

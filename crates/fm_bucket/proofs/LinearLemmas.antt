@@ -7,7 +7,8 @@ use Rattle.std.proofs.Math.IntN.{suc_ℤ-*ℤ, *ℤ_comm, *ℤ-zero}
 use Rattle.std.proofs.Math.Nat.{le-div_iff_mul-le, div-lt_iff_lt-mul, mul_comm}
 use Rattle.std.proofs.lemmas.Int.{ints, to_z-of_z}
 use Rattle.fm_raw.specs.Signed.{IsSigned}
-use Rattle.fm_bucket.specs.Bounds.{linear_bounds, FitLinear}
+use Rattle.fm_bucket.specs.Bounds.{linear_bounds}
+use Rattle.fm_bucket.specs.inside.Fits.{FitLinear}
 
 -- a list made by index, from the second index on
 pub map_shifted : (f g : ℕ → ℤ) (a b n : ℕ) → ((i : ℕ) → f (a + i) ≡ g (b + i)) → map f (range_with_len a n) ≡ map g (range_with_len b n)

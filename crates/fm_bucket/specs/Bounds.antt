@@ -1,7 +1,6 @@
 -- Lists of bounds by index, and when such bounds are refused.
 use Rattle.std.specs.Prelude.{ℕ, ◌-◌, ◌*◌, ◌^◌, ◌<◌, ◌≤◌, ◌≡◌, ◌≢◌, ℤ, pos, ◌+ℤ◌, ◌*ℤ◌, ◌≤ℤ◌, ◌<ℤ◌, List, [], ◌∷◌, map}
 use Rattle.std.specs.List.{range_with_len}
-use Rattle.fm_raw.specs.Signed.{IsSigned}
 use Rattle.fm_bucket.specs.declared.error.BucketError.{BucketError}
 use Rattle.fm_bucket.specs.declared.error.BucketError.TheVariants.{NonPositiveWidth, ZeroCount, Overflow, NonPositiveStart, FactorTooSmall, NoWholeFactor}
 
@@ -16,13 +15,6 @@ exponential_bounds start factor count = map (λ i. start *ℤ pos (factor ^ i)) 
 -- 5, 10, 25, 50, 100, 250 and 500 thousandths, and 1, 2.5, 5 and 10
 abbrev pub default_bounds : List ℤ
 default_bounds = map pos (5000 ∷ 10000 ∷ 25000 ∷ 50000 ∷ 100000 ∷ 250000 ∷ 500000 ∷ 1000000 ∷ 2500000 ∷ 5000000 ∷ 10000000 ∷ [])
-
--- each of the bounds fits in 64 bits
-abbrev pub FitLinear : ℤ → ℤ → ℕ → Type 0
-FitLinear start width count = (i : ℕ) → i < count → IsSigned 63 (start +ℤ width *ℤ pos i)
-
-abbrev pub FitExponential : ℕ → ℕ → ℕ → Type 0
-FitExponential start factor count = (i : ℕ) → i < count → start * factor ^ i < 2 ^ 63
 
 -- there is such a list of bounds with equal steps
 pub record IsLinear (start width : ℤ) (count : ℕ) : Type 0 where

@@ -3,3 +3,4 @@ pub use Rattle.fm_raw.specs.Signed
 pub mod BucketErrors
 pub mod BoundTests
 pub mod Bounds
+pub mod inside

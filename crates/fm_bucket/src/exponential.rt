@@ -17,7 +17,8 @@ pub struct ExponentialBuckets {
 
 impl Model for ExponentialBuckets {
     ghost use Rattle.std.specs.Prelude.{List, ℤ, pos};
-    ghost use Rattle.fm_bucket.specs.Bounds.{exponential_bounds, FitExponential};
+    ghost use Rattle.fm_bucket.specs.Bounds.{exponential_bounds};
+    ghost use Rattle.fm_bucket.specs.inside.Fits.{FitExponential};
 
     ghost Value = { List ℤ };
 

@@ -17,7 +17,8 @@ pub struct LinearBuckets {
 
 impl Model for LinearBuckets {
     ghost use Rattle.std.specs.Prelude.{List, ℤ};
-    ghost use Rattle.fm_bucket.specs.Bounds.{linear_bounds, FitLinear};
+    ghost use Rattle.fm_bucket.specs.Bounds.{linear_bounds};
+    ghost use Rattle.fm_bucket.specs.inside.Fits.{FitLinear};
 
     ghost Value = { List ℤ };
 

@@ -88,7 +88,7 @@ impl<N: EncodeCounterValue> EncodePoint for ConstCounter<N> {
 impl<N: EncodeCounterValue + Send + Sync + Drop> EncodeMetric for ConstCounter<N> {
     ghost types = { λ _ t. t ≡ Counter };
 
-    ghost offers = { λ c ms. ms ≡ record {
+    ghost offers = { λ c _ ms. ms ≡ record {
       labels = [];
       point = CounterPoint (N.numbers c.total) [] (option_map millis c.created);
     } ∷ [] };

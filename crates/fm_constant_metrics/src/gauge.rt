@@ -63,7 +63,7 @@ impl<N: EncodeGaugeValue> EncodePoint for ConstGauge<N> {
 impl<N: EncodeGaugeValue + Send + Sync + Drop> EncodeMetric for ConstGauge<N> {
     ghost types = { λ _ t. t ≡ Gauge };
 
-    ghost offers = { λ g ms. ms
+    ghost offers = { λ g _ ms. ms
         ≡ record { labels = []; point = GaugePoint (N.numbers g.value) } ∷ [] };
 
     ghost may_fault = { λ g. N.may_fault g.value };

@@ -50,7 +50,7 @@ impl<LS: EncodeLabelSet> EncodePoint for Info<LS> {
 impl<LS: EncodeLabelSet + Send + Sync + Drop> EncodeMetric for Info<LS> {
     ghost types = { λ _ t. t ≡ InfoType };
 
-    ghost offers = { λ i ms. ms
+    ghost offers = { λ i _ ms. ms
         ≡ record { labels = []; point = InfoPoint (LS.labels i.labels) } ∷ [] };
 
     ghost may_fault = { λ i. LS.may_fault i.labels };

@@ -53,7 +53,7 @@ impl<T: UnknownValue + EncodeUnknownValue> EncodePoint for Unknown<T> {
 impl<T: UnknownValue + EncodeUnknownValue + Drop> EncodeMetric for Unknown<T> {
     ghost types = { λ _ t. t ≡ UnknownType };
 
-    ghost offers = { λ u ms. ms
+    ghost offers = { λ u _ ms. ms
         ≡ record { labels = []; point = UnknownPoint (T.numbers u.value) } ∷ [] };
 
     ghost may_fault = { λ u. T.may_fault u.value };

@@ -20,7 +20,7 @@ use Rattle.fm_registry.specs.declared.listing.ListedMetric.{ListedMetric}
 use Rattle.fm_core.specs.Families.{Heading, FaultUnder}
 use Rattle.fm_core.specs.Admits.{IsFamilyOf, Admits, AdmitsNext, FaultOf, Fault}
 
-module _ {M : Type 0} (Offers : M → List Member → Type 0) (Stamps : M → Option ℕ → Type 0) (Empty : M → Type 0) where
+module _ {M : Type 0} (Offers : M → Option ℕ → List Member → Type 0) (Stamps : M → Option ℕ → Type 0) (Empty : M → Type 0) where
   Admits-left_out : (ls : List (Listed M)) (l : Listed M) (e : Exposition) → Admits Offers Stamps Empty ls e → Empty l.registration.metric → Admits Offers Stamps Empty (ls ++ l ∷ []) e
   Admits-left_out [] l e h empty = inl (empty, h)
   Admits-left_out (x ∷ ls) l e (inl h) empty = inl (h.0, Admits-left_out ls l e h.1 empty)
@@ -78,7 +78,7 @@ module _ {M : Type 0} where
   names_differ t b ls reads is = subst (λ (ms : List (Listed M)). AllDifferent (map listed_name ms)) (sym is) (printed_names-different b reads.book)
 
   -- a fault in one metric of the list
-  pub Fault-at : (k : EncodeError) (Offers : M → List Member → Type 0) (Stamps : M → Option ℕ → Type 0) (MayFault : M → Type 0) (xs : List (ListedMetric M)) (i : ℕ) (x : ListedMetric M) → i < length xs → x ≡ get_or xs i x → FaultOf k Offers Stamps MayFault (seen_listed x) → Fault k Offers Stamps MayFault (seen_list xs)
+  pub Fault-at : (k : EncodeError) (Offers : M → Option ℕ → List Member → Type 0) (Stamps : M → Option ℕ → Type 0) (MayFault : M → Type 0) (xs : List (ListedMetric M)) (i : ℕ) (x : ListedMetric M) → i < length xs → x ≡ get_or xs i x → FaultOf k Offers Stamps MayFault (seen_listed x) → Fault k Offers Stamps MayFault (seen_list xs)
   Fault-at k Offers Stamps MayFault [] i x within is fault = absurd (omega arith)
   Fault-at k Offers Stamps MayFault (y ∷ xs) zero x within is fault = inl (subst (λ (z : ListedMetric M). FaultOf k Offers Stamps MayFault (seen_listed z)) is fault)
   Fault-at k Offers Stamps MayFault (y ∷ xs) (suc i) x within is fault = inr (Fault-at k Offers Stamps MayFault xs i x (omega arith) is fault)
@@ -94,13 +94,13 @@ refused_answer : (r : Result (Unit {0}) EncodeError) (refused : Option EncodeErr
 refused_answer r None P is h = subst (λ s. IfErr s P) (sym is) tt
 refused_answer r (Some k) P is h = subst (λ s. IfErr s P) (sym is) (h k refl)
 
-pub refused_under : (Offers : List Member → Type 0) (Stamps : Option ℕ → Type 0) (MayFault : Type 0) (above heading : Heading) (r : Result (Unit {0}) EncodeError) (refused : Option EncodeError) → above ≡ heading → r ≡ result_of refused
+pub refused_under : (Offers : Option ℕ → List Member → Type 0) (Stamps : Option ℕ → Type 0) (MayFault : Type 0) (above heading : Heading) (r : Result (Unit {0}) EncodeError) (refused : Option EncodeError) → above ≡ heading → r ≡ result_of refused
     → ((k : EncodeError) → refused ≡ Some k → (k ≡ Memory) ⊎ FaultUnder Offers Stamps k MayFault above) → IfErr r (λ k. (k ≡ Memory) ⊎ FaultUnder Offers Stamps k MayFault heading)
 refused_under Offers Stamps MayFault above heading r refused same is faults =
     refused_answer r refused (λ k. (k ≡ Memory) ⊎ FaultUnder Offers Stamps k MayFault heading) is (λ k e. subst (λ d. (k ≡ Memory) ⊎ FaultUnder Offers Stamps k MayFault d) same (faults k e))
 
 -- no refusal in collecting is the writer's
-pub refusal-not_writing : {M : Type 0} (k : EncodeError) (Offers : M → List Member → Type 0) (Stamps : M → Option ℕ → Type 0) (MayFault : M → Type 0) (l : Listed M) → (k ≡ Memory) ⊎ FaultOf k Offers Stamps MayFault l → ¬ (IsWritersFault k)
+pub refusal-not_writing : {M : Type 0} (k : EncodeError) (Offers : M → Option ℕ → List Member → Type 0) (Stamps : M → Option ℕ → Type 0) (MayFault : M → Type 0) (l : Listed M) → (k ≡ Memory) ⊎ FaultOf k Offers Stamps MayFault l → ¬ (IsWritersFault k)
 refusal-not_writing k Offers Stamps MayFault l (inl memory) writing = subst IsWritersFault memory writing
 refusal-not_writing k Offers Stamps MayFault l (inr fault) writing =
     MetricHasFault-not_writing k (Offers l.registration.metric) (Stamps l.registration.metric) (MayFault l.registration.metric) (listed_name l) l.registration.metric_type l.labels fault writing

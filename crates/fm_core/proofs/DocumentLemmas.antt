@@ -7,7 +7,8 @@ use Rattle.fm_grammar.specs.Reading.{IsNewName}
 use Rattle.fm_grammar.proofs.States.{exposition_push}
 use Rattle.fm_registry_calls.specs.Registration.{printed_unit}
 use Rattle.fm_registry_calls.specs.Listing.{listed_name, IsListable}
-use Rattle.fm_exposition.specs.Rows.{sample_rows, family_rows, families_rows}
+use Rattle.fm_exposition.specs.Rows.{sample_rows}
+use Rattle.fm_exposition.specs.inside.DocumentRows.{family_rows, families_rows}
 use Rattle.fm_encode_error.specs.declared.EncodeError.{EncodeError}
 use Rattle.fm_encode_error.specs.declared.EncodeError.TheVariants.{Memory}
 use Rattle.fm_writer.specs.Output.{Output, OutputText, appended, with_lines}
@@ -24,7 +25,7 @@ use Rattle.fm_core.proofs.OfferedLemmas.{Ends, Makes, offered_made}
 use Rattle.fm_core.proofs.CollectLemmas.{Admits-next, next_new}
 
 -- a heading's lines, and then those of the samples that the metric offered, are the lines of its family
-AddsRows-family : (Offers : List Member → Type 0) (Stamps : Option ℕ → Type 0) (MayBeEmpty : Type 0) (heading : Heading) (old : Text) (output : Output) → IsListable heading → Offered Offers Stamps (listed_name heading) heading.registration.metric_type heading.labels (OutputText (old ++ heading_rows heading)) output → AddsRows Offers Stamps MayBeEmpty heading old (text_in output)
+AddsRows-family : (Offers : Option ℕ → List Member → Type 0) (Stamps : Option ℕ → Type 0) (MayBeEmpty : Type 0) (heading : Heading) (old : Text) (output : Output) → IsListable heading → Offered Offers Stamps (listed_name heading) heading.registration.metric_type heading.labels (OutputText (old ++ heading_rows heading)) output → AddsRows Offers Stamps MayBeEmpty heading old (text_in output)
 AddsRows-family Offers Stamps MayBeEmpty heading old output heads offered =
     let rows = sample_rows (listed_name heading) offered.samples in
     let family : Family = record { name = listed_name heading; metric_type = heading.registration.metric_type; help = heading.registration.help; unit = printed_unit heading.registration.unit; samples = offered.samples } in
@@ -42,10 +43,10 @@ still_text name old new text samples was is =
     now ∙ ap OutputText (sym (ap text_in now))
 
 -- what an encoder makes of a metric whose family it has begun
-pub family_added : (Offers : List Member → Type 0) (Stamps : Option ℕ → Type 0) (MayBeEmpty MayFault : Type 0) (heading : Heading) (stamp : Option ℕ) (old begun new : GatheredMembers) (visited made : Result (Unit {0}) EncodeError)
+pub family_added : (Offers : Option ℕ → List Member → Type 0) (Stamps : Option ℕ → Type 0) (MayBeEmpty MayFault : Type 0) (heading : Heading) (stamp : Option ℕ) (old begun new : GatheredMembers) (visited made : Result (Unit {0}) EncodeError)
     → IsListable heading → HasLines old → Stamps stamp
     → begun ≡ record { context = context_at (listed_name heading) heading.registration.metric_type heading.labels stamp; output = with_lines old.output (heading_rows heading); refused = old.refused }
-    → HandsMembers Offers MayFault begun new visited
+    → HandsMembers (Offers begun.context.setting.time) MayFault begun new visited
     → MatchResult made (λ _. (new.refused ≡ None) × (visited ≡ Ok tt)) (λ k. (new.refused ≡ Some k) ⊎ ((e : EncodeError) × (new.refused ≡ None) × (visited ≡ Err e) × (k ≡ own_refusal e)))
     → MatchResult made (λ _. HasLines new × AddsRows Offers Stamps MayBeEmpty heading (text_in old.output) (text_in new.output)) (λ k. (k ≡ Memory) ⊎ FaultUnder Offers Stamps k MayFault heading)
 family_added Offers Stamps MayBeEmpty MayFault heading stamp old begun new visited made heads lines stamped is hands ends =
@@ -69,7 +70,7 @@ family_added Offers Stamps MayBeEmpty MayFault heading stamp old begun new visit
     added (Ok x) h m = (record { text = still_text (listed_name heading) headed_output new.output _ m.1.samples refl m.1.is; accepting = h.0 }, AddsRows-family Offers Stamps MayBeEmpty heading (text_in old.output) new.output heads m.1)
     added (Err k) h m = m
 
-module _ {M : Type 0} (Offers : M → List Member → Type 0) (Stamps : M → Option ℕ → Type 0) (Empty : M → Type 0) where
+module _ {M : Type 0} (Offers : M → Option ℕ → List Member → Type 0) (Stamps : M → Option ℕ → Type 0) (Empty : M → Type 0) where
   pub IsTextOf-none : IsTextOf Offers Stamps Empty [] []
   IsTextOf-none = record { exposition = []; admitted = refl; is_exposition = record { well_formed = tt; different = tt }; rows = refl }
 

@@ -8,7 +8,7 @@ use Rattle.fm_registry_calls.specs.Listing.{Listed, listed_name}
 use Rattle.fm_encoder.specs.Points.{Member}
 use Rattle.fm_encoder.specs.Offers.{AdmitsSamples, MetricHasFault}
 
-module _ {M : Type 0} (Offers : M → List Member → Type 0) (Stamps : M → Option ℕ → Type 0) where
+module _ {M : Type 0} (Offers : M → Option ℕ → List Member → Type 0) (Stamps : M → Option ℕ → Type 0) where
   -- the family of a listed metric: its printed name, its type, help and unit, and samples that the metric admits
   abbrev pub IsFamilyOf : Listed M → Family → Type 0
   IsFamilyOf l family =
@@ -17,12 +17,11 @@ module _ {M : Type 0} (Offers : M → List Member → Type 0) (Stamps : M → Op
       × AdmitsSamples (Offers l.registration.metric) (Stamps l.registration.metric)
       (listed_name l) l.registration.metric_type l.labels family.samples
 
-module _ {M : Type 0} (Offers : M → List Member → Type 0) (Stamps : M → Option ℕ → Type 0) (Empty : M → Type 0) where
+module _ {M : Type 0} (Offers : M → Option ℕ → List Member → Type 0) (Stamps : M → Option ℕ → Type 0) (Empty : M → Type 0) where
   -- The families are those of the listed metrics in order, some left out whose metrics may be empty.
   abbrev pub Admits : List (Listed M) → Exposition → Type 0
   Admits [] families = families ≡ []
-  Admits (listed ∷ more) families =
-      (Empty listed.registration.metric × Admits more families)
+  Admits (listed ∷ more) families = (Empty listed.registration.metric × Admits more families)
       ⊎ ((family : Family) × (rest : Exposition) × (families ≡ family ∷ rest) × IsFamilyOf Offers Stamps listed family × Admits more rest)
 
   -- one listed metric more: it may be empty and adds nothing, or adds its family
@@ -31,7 +30,7 @@ module _ {M : Type 0} (Offers : M → List Member → Type 0) (Stamps : M → Op
       (Empty listed.registration.metric × (new ≡ old))
       ⊎ ((family : Family) × (new ≡ old ++ family ∷ []) × IsFamilyOf Offers Stamps listed family)
 
-module _ {M : Type 0} (k : EncodeError) (Offers : M → List Member → Type 0) (Stamps : M → Option ℕ → Type 0) (MayFault : M → Type 0) where
+module _ {M : Type 0} (k : EncodeError) (Offers : M → Option ℕ → List Member → Type 0) (Stamps : M → Option ℕ → Type 0) (MayFault : M → Type 0) where
   -- the fault is in this metric
   abbrev pub FaultOf : Listed M → Type 0
   FaultOf l =

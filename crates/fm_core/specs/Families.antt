@@ -1,6 +1,6 @@
 -- What the encoder of families has gathered, and what it does with one metric more.
 use Rattle.std.specs.Prelude.{◌≡◌, ℕ, List, Option, Some, None, ◌⊎◌}
-use Rattle.fm_grammar.specs.Exposition.{Family, Exposition}
+use Rattle.fm_grammar.specs.Exposition.{Exposition}
 use Rattle.fm_raw.specs.declared.metadata.Metadata.{Metadata}
 use Rattle.fm_encode_error.specs.declared.EncodeError.{EncodeError}
 use Rattle.fm_encode_error.specs.declared.EncodeError.TheVariants.{Memory}
@@ -8,7 +8,7 @@ use Rattle.fm_registry_calls.specs.Texts.{Text, Labels}
 use Rattle.fm_registry_calls.specs.Listing.{Listed}
 use Rattle.fm_encoder.specs.Points.{Member}
 use Rattle.fm_registry.specs.View.{seen_metric}
-use Rattle.fm_core.specs.Admits.{IsFamilyOf, AdmitsNext, FaultOf}
+use Rattle.fm_core.specs.Admits.{AdmitsNext, FaultOf}
 
 -- the namespace and the labels of the current registry, the families so far, and the refusal
 pub record GatheredFamilies : Type 0 where
@@ -30,10 +30,7 @@ abbrev pub next_heading : GatheredFamilies → Metadata → Heading
 next_heading gathered metadata = heading_in gathered.namespace gathered.labels metadata
 
 -- what one metric makes under a heading, as `Admits` says it of each metric of a list
-module _ (Offers : List Member → Type 0) (Stamps : Option ℕ → Type 0) where
-  abbrev pub IsFamilyUnder : Heading → Family → Type 0
-  IsFamilyUnder = IsFamilyOf (λ _. Offers) (λ _. Stamps)
-
+module _ (Offers : Option ℕ → List Member → Type 0) (Stamps : Option ℕ → Type 0) where
   abbrev pub AddsFamily : Type 0 → Heading → Exposition → Exposition → Type 0
   AddsFamily MayBeEmpty = AdmitsNext (λ _. Offers) (λ _. Stamps) (λ _. MayBeEmpty)
 
@@ -42,7 +39,7 @@ module _ (Offers : List Member → Type 0) (Stamps : Option ℕ → Type 0) wher
 
 -- An encoder that had refused does not change. Otherwise it adds the family of the metric, unless the metric is empty, or refuses
 -- for want of memory or for a fault in the metric.
-pub record EncodesFamily (Offers : List Member → Type 0) (Stamps : Option ℕ → Type 0) (MayBeEmpty MayFault : Type 0) (heading : Heading) (old new : GatheredFamilies) : Type 0 where
+pub record EncodesFamily (Offers : Option ℕ → List Member → Type 0) (Stamps : Option ℕ → Type 0) (MayBeEmpty MayFault : Type 0) (heading : Heading) (old new : GatheredFamilies) : Type 0 where
   pub namespace_kept : new.namespace ≡ old.namespace
   pub labels_kept : new.labels ≡ old.labels
   pub kept : (k : EncodeError) → old.refused ≡ Some k → new ≡ old

@@ -6,7 +6,7 @@ ghost use Rattle.fm_grammar.specs.Exposition.{Exposition};
 ghost use Rattle.fm_grammar.specs.Reading.{IsExposition};
 ghost use Rattle.fm_grammar.specs.WellFormed.{AreMillis};
 ghost use Rattle.fm_encode_error.specs.declared.EncodeError.{EncodeError};
-ghost use Rattle.fm_exposition.specs.Rows.{document_rows};
+ghost use Rattle.fm_exposition.specs.inside.DocumentRows.{document_rows};
 ghost use Rattle.fm_exposition.specs.Samples.{labels_of};
 ghost use Rattle.fm_exposition.specs.Written.{AppendsDocument, BeginsDocument, IsWritersFault};
 ghost use Rattle.fm_registry_calls.specs.Listing.{listed_name, order, IsListable};

@@ -13,10 +13,10 @@ ghost use Rattle.fm_registry_calls.specs.Texts.{printed_name};
 ghost use Rattle.fm_registry_calls.specs.Registration.{printed_unit};
 ghost use Rattle.fm_registry_calls.specs.Listing.{listed_name, IsListable};
 ghost use Rattle.fm_encoder.specs.Points.{millis};
-ghost use Rattle.fm_encoder.specs.Gathered.{result_of};
+ghost use Rattle.fm_encoder.specs.Takes.{Takes};
 ghost use Rattle.fm_encoder.specs.Offers.{AdmitsSamples, MetricHasFault};
-ghost use Rattle.fm_core.specs.Families.{next_heading, IsFamilyUnder, FaultUnder, EncodesFamily};
-ghost use Rattle.fm_core.specs.inside.Offered.{Offered};
+ghost use Rattle.fm_core.specs.Families.{next_heading, FaultUnder, EncodesFamily};
+ghost use Rattle.fm_core.specs.inside.Offered.{IsFamilyUnder, Offered};
 
 use fm_encode_error::EncodeError;
 use fm_encoder::{EncodeMetric, MetricEncoder};
@@ -269,7 +269,7 @@ impl<'a> MetricFamilyEncoder<'a> {
 
     fn refuse(&mut self, error: EncodeError) -> Result<(), EncodeError>
         ensures refused { self.new ≡ record self.old { refused = Some error } }
-        ensures answered { result ≡ result_of self.new.refused }
+        ensures answered { result ≡ Err error }
     {
         self.refused = Some(error);
         Err(error)
@@ -286,10 +286,9 @@ impl<'a> MetricFamilyEncoder<'a> {
         requires heading { IsListable (next_heading self.old metadata.now) }
         requires new_name { IsNewName
             (listed_name (next_heading self.old metadata.now)) self.old.families }
-        ensures encoded { EncodesFamily (offers metric.now) (stamps metric.now)
+        ensures { Takes (EncodesFamily (offers metric.now) (stamps metric.now)
             (may_be_empty metric.now) (may_fault metric.now)
-            (next_heading self.old metadata.now) self.old self.new }
-        ensures answered { result ≡ result_of self.new.refused }
+            (next_heading self.old metadata.now) self.old self.new) self.new.refused result }
     {
         if let Some(error) = self.refused {
             return Err(error);

@@ -18,7 +18,8 @@ use Rattle.fm_encoder.specs.Points.{HandedExemplar, Setting, Point, ExemplarClea
 use Rattle.fm_encoder.specs.Gathered.{GatheredPoints, OwnRefusal, result_of}
 use Rattle.fm_encoder.specs.Hands.{SamePlace, HandsPoints, points_samples}
 use Rattle.fm_encoder.specs.inside.Steps.{FitsType, PushesSample, PushesSamples}
-use Rattle.fm_encoder.specs.Buckets.{HasBuckets, HasTotals, slots_of, BeginsBuckets, PushesBucket, PushesBuckets}
+use Rattle.fm_encoder.specs.Buckets.{slots_of}
+use Rattle.fm_encoder.specs.inside.BucketSteps.{HasBuckets, HasTotals, BeginsBuckets, PushesBucket, PushesBuckets}
 use Rattle.std.proofs.lemmas.List.{take_more, length-map}
 use Rattle.std.proofs.lemmas.List.Sums.{sum_by-append, sum_by-cons, sum_by_more_le}
 use Rattle.std.proofs.lemmas.List.Elements.{Contains-get_or}

@@ -64,6 +64,6 @@ MembersFault-not_writing k context (member ∷ members) (inl (inr fault)) = Poin
 MembersFault-not_writing k context (member ∷ members) (inr fault) = MembersFault-not_writing k context members fault
 
 -- no metric has a fault that is the writer's
-pub MetricHasFault-not_writing : (k : EncodeError) (Offers : List Member → Type 0) (Stamps : Option ℕ → Type 0) (MayFault : Type 0) (name : Text) (type : MetricType) (constants : List Label) → MetricHasFault k Offers Stamps MayFault name type constants → ¬ (IsWritersFault k)
+pub MetricHasFault-not_writing : (k : EncodeError) (Offers : Option ℕ → List Member → Type 0) (Stamps : Option ℕ → Type 0) (MayFault : Type 0) (name : Text) (type : MetricType) (constants : List Label) → MetricHasFault k Offers Stamps MayFault name type constants → ¬ (IsWritersFault k)
 MetricHasFault-not_writing k Offers Stamps MayFault name type constants (inl (is, fault)) = is_other k MetricFault is (λ never. never)
-MetricHasFault-not_writing k Offers Stamps MayFault name type constants (inr (members, stamp, offered, stamped, fault)) = MembersFault-not_writing k (context_at name type constants stamp) members fault
+MetricHasFault-not_writing k Offers Stamps MayFault name type constants (inr (members, stamp, stamped, offered, fault)) = MembersFault-not_writing k (context_at name type constants stamp) members fault

@@ -4,7 +4,8 @@ use Rattle.fm_grammar.specs.declared.MetricType.{MetricType}
 use Rattle.fm_grammar.specs.declared.MetricType.TheVariants.{Histogram, GaugeHistogram, Summary}
 use Rattle.fm_grammar.specs.Exposition.{Label}
 use Rattle.fm_encoder.specs.Kept.{Keeps}
-use Rattle.fm_encoder.specs.Labels.{HandedLabel, AreFree, label_names, LabelClean, LabelsClean, written, all_written}
+use Rattle.fm_encoder.specs.Labels.{HandedLabel, label_names, LabelClean, LabelsClean, written, all_written}
+use Rattle.fm_encoder.specs.inside.FreeLabels.{AreFree}
 use Rattle.fm_encoder.proofs.NameLemmas.{AreFree-written, AreFree-named, AreFree-left, AreFree-right}
 
 -- a valid label is valid in a family of another type that doesn't reserve its name

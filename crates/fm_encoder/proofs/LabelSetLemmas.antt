@@ -4,10 +4,10 @@ use Rattle.fm_grammar.specs.declared.MetricType.{MetricType}
 use Rattle.fm_encode_error.specs.declared.EncodeError.{EncodeError}
 use Rattle.fm_encode_error.specs.declared.EncodeError.TheVariants.{Memory}
 use Rattle.fm_grammar.specs.Exposition.{Label}
-use Rattle.fm_encoder.specs.Labels.{HandedLabel, NamePiece, ValuePiece, NameFits, CannotBegin, IsMalformed, PieceFault, LabelFault, pieces_of, written}
+use Rattle.fm_encoder.specs.Labels.{HandedLabel, NamePiece, ValuePiece, NameFits, CannotBegin, IsMalformed, PieceFault, LabelFault, written}
+use Rattle.fm_encoder.specs.inside.Steps.{pieces_of, EndsLabel}
 use Rattle.fm_encoder.specs.Gathered.{GatheredPieces, GatheredLabels, OwnRefusal, own_refusal, result_of}
 use Rattle.fm_encoder.specs.Hands.{HandsPieces, HandsLabels}
-use Rattle.fm_encoder.specs.inside.Steps.{EndsLabel}
 use Rattle.fm_encoder.proofs.Cases.{option_cases, answer_cases}
 
 -- what a label set encoder shows of its label encoder

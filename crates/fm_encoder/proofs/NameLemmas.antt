@@ -8,7 +8,8 @@ use Rattle.fm_grammar.specs.Exposition.{Text, Label}
 use Rattle.fm_grammar.specs.Names.{IsLowerLetter, IsDigit, IsWord, BeginsWithLetter, further_words, IsSnakeCase, IsLabelByte, IsLabelName, AllDifferent}
 use Rattle.fm_grammar.specs.WellFormed.{AreLabels}
 use Rattle.fm_exposition.specs.Samples.{labels_of}
-use Rattle.fm_encoder.specs.Labels.{HandedLabel, NamePiece, ValuePiece, IsReserved, AreFree, label_names, NameFits, LabelClean, LabelsClean, written, all_written, handed_again}
+use Rattle.fm_encoder.specs.Labels.{HandedLabel, NamePiece, ValuePiece, IsReserved, label_names, NameFits, LabelClean, LabelsClean, written, all_written, handed_again}
+use Rattle.fm_encoder.specs.inside.FreeLabels.{AreFree}
 
 abbrev pub Pairs : Type 0
 Pairs = List (String Global × String Global)

@@ -7,6 +7,7 @@ pub mod Points
 pub mod States
 pub mod Gathered
 pub mod Hands
+pub mod Takes
 pub mod Buckets
 pub mod Offers
 pub mod inside

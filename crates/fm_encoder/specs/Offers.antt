@@ -11,15 +11,14 @@ use Rattle.fm_encoder.specs.Points.{Member, Context, MembersClean, MembersFault,
 abbrev pub context_at : Text → MetricType → List Label → Option ℕ → Context
 context_at n type labels stamp = record { setting = record { name = n; metric_type = type; time = stamp }; constants = labels }
 
--- the samples are those of a valid offer that the metric admits, with a timestamp that it admits
-abbrev pub AdmitsSamples : (List Member → Type 0) → (Option ℕ → Type 0) → Text → MetricType → List Label → List Sample → Type 0
+-- the samples are those of a valid offer that the metric admits under a timestamp that it admits
+abbrev pub AdmitsSamples : (Option ℕ → List Member → Type 0) → (Option ℕ → Type 0) → Text → MetricType → List Label → List Sample → Type 0
 AdmitsSamples Offers Stamps name type constants samples =
-    (members : List Member) × (stamp : Option ℕ) × Offers members × Stamps stamp
+    (members : List Member) × (stamp : Option ℕ) × Stamps stamp × Offers stamp members
     × MembersClean (context_at name type constants stamp) members
     × (samples ≡ members_samples (context_at name type constants stamp) members)
 
 -- The fault is in an offer that the metric admits, or the metric declares that it may return an error of its own.
-abbrev pub MetricHasFault : EncodeError → (List Member → Type 0) → (Option ℕ → Type 0) → Type 0 → Text → MetricType → List Label → Type 0
-MetricHasFault k Offers Stamps MayFault name type constants =
-    ((k ≡ MetricFault) × MayFault)
-    ⊎ ((members : List Member) × (stamp : Option ℕ) × Offers members × Stamps stamp × MembersFault k (context_at name type constants stamp) members)
+abbrev pub MetricHasFault : EncodeError → (Option ℕ → List Member → Type 0) → (Option ℕ → Type 0) → Type 0 → Text → MetricType → List Label → Type 0
+MetricHasFault k Offers Stamps MayFault name type constants = ((k ≡ MetricFault) × MayFault)
+    ⊎ ((members : List Member) × (stamp : Option ℕ) × Stamps stamp × Offers stamp members × MembersFault k (context_at name type constants stamp) members)

@@ -6,8 +6,9 @@ ghost use Rattle.fm_grammar.specs.WellFormed.{IsBetween, IsExemplar, AreMillis};
 ghost use Rattle.fm_exposition.specs.Samples.{labels_of, exemplar_of};
 ghost use Rattle.fm_encoder.specs.Labels.{LabelsClean, LabelsFault, all_written};
 ghost use Rattle.fm_encoder.specs.Points.{HandedExemplar, ExemplarPartsClean, ExemplarPartsFault, ExemplarClean, ExemplarFault, written_as, written_exemplar, millis};
-ghost use Rattle.fm_encoder.specs.Gathered.{OwnRefusal, result_of};
+ghost use Rattle.fm_encoder.specs.Gathered.{OwnRefusal};
 ghost use Rattle.fm_encoder.specs.Hands.{HandsExemplars};
+ghost use Rattle.fm_encoder.specs.Takes.{TakesExemplars};
 
 use crate::label::LabelSetEncoder;
 use crate::label_set::EncodeLabelSet;
@@ -96,11 +97,10 @@ impl ExemplarEncoder {
         value: Fixed,
         time: Option<Duration>,
     ) -> Result<(), EncodeError>
-        ensures handed { HandsExemplars
+        ensures { TakesExemplars
             (record { labels = LS.labels labels.now; value = value; time = option_map millis time }
             ∷ [])
             (LS.may_fault labels.now) self.old self.new result }
-        ensures answered { result ≡ result_of self.new.refused }
     {
         if let Some(error) = self.refused {
             return Err(error);

@@ -3,7 +3,8 @@ ghost use Rattle.std.specs.Prelude.{◌≡◌, ◌↔◌, IsTrue, IfOk, ℕ, Lis
 ghost use Rattle.fm_encode_error.specs.declared.EncodeError.{EncodeError};
 ghost use Rattle.fm_encoder.specs.Labels.{HandedLabel, NamePiece, ValuePiece, written};
 ghost use Rattle.fm_encoder.specs.Gathered.{GatheredPieces, GatheredLabels, result_of, own_refusal};
-ghost use Rattle.fm_encoder.specs.Hands.{HandsPieces, HandsLabels};
+ghost use Rattle.fm_encoder.specs.Hands.{HandsPieces};
+ghost use Rattle.fm_encoder.specs.Takes.{Takes, TakesPieces, TakesLabels};
 ghost use Rattle.fm_encoder.specs.inside.Steps.{EndsLabel};
 
 use crate::known_names::KnownNames;
@@ -77,7 +78,7 @@ pub struct LabelEncoder {
 }
 
 impl Model for LabelEncoder {
-    ghost use Rattle.fm_encoder.specs.Labels.{pieces_of};
+    ghost use Rattle.fm_encoder.specs.inside.Steps.{pieces_of};
     ghost use Rattle.fm_encoder.specs.inside.KnownNames.{AreKnown};
     ghost use Rattle.fm_encoder.specs.Gathered.{GatheredPieces};
 
@@ -132,8 +133,7 @@ impl LabelEncoder {
     /// label has the name (`DuplicateLabel`); memory runs out (`Memory`).
     #[tactic(auto, using(crate::proofs::KnownNamesLemmas::fits_known, crate::proofs::KnownNamesLemmas::may_follow, crate::proofs::KnownNamesLemmas::learnt_known, crate::proofs::KnownNamesLemmas::learnt_still))]
     pub fn encode_label_name(&mut self, name: &str) -> Result<(), EncodeError>
-        ensures handed { HandsPieces (NamePiece name.now ∷ []) ⊥ self.old self.new result }
-        ensures answered { result ≡ result_of self.new.refused }
+        ensures { TakesPieces (NamePiece name.now ∷ []) ⊥ self.old self.new result }
     {
         if let Some(error) = self.refused {
             return Err(error);
@@ -170,8 +170,7 @@ impl LabelEncoder {
     /// Takes the label's value as it is. Fails with `MalformedLabel` if the label has no name yet or already has a value, and
     /// with `Memory` if memory runs out.
     pub fn encode_str_value(&mut self, value: &str) -> Result<(), EncodeError>
-        ensures handed { HandsPieces (ValuePiece value.now ∷ []) ⊥ self.old self.new result }
-        ensures answered { result ≡ result_of self.new.refused }
+        ensures { TakesPieces (ValuePiece value.now ∷ []) ⊥ self.old self.new result }
     {
         if let Some(error) = self.refused {
             return Err(error);
@@ -203,8 +202,7 @@ impl LabelEncoder {
 
     // Ends the current label, after the visited source returned `visited`.
     fn end_label(&mut self, visited: Result<(), EncodeError>) -> Result<(), EncodeError>
-        ensures ended { EndsLabel visited self.old self.new }
-        ensures answered { result ≡ result_of self.new.refused }
+        ensures { Takes (EndsLabel visited self.old self.new) self.new.refused result }
     {
         if let Some(error) = self.refused {
             return Err(error);
@@ -290,9 +288,8 @@ impl LabelSetEncoder {
     /// Takes one more label. Besides the errors of its name and its value: a name without a value is refused as
     /// `MalformedLabel`, and the label's own error becomes `Memory` or `MetricFault`.
     pub fn encode<L: EncodeLabel>(&mut self, label: &L) -> Result<(), EncodeError>
-        ensures handed { HandsLabels (L.pieces label.now ∷ []) (L.may_fault label.now)
+        ensures { TakesLabels (L.pieces label.now ∷ []) (L.may_fault label.now)
             self.old self.new result }
-        ensures answered { result ≡ result_of self.new.refused }
     {
         let visited = label.encode(&mut self.label);
         self.label.end_label(visited)

@@ -2,8 +2,7 @@
 ghost use Rattle.std.specs.Prelude.{◌≡◌, [], ◌∷◌, false, decimal};
 ghost use Rattle.std.specs.Fmt.{signed_decimal};
 ghost use Rattle.fm_encoder.specs.Labels.{ValuePiece};
-ghost use Rattle.fm_encoder.specs.Gathered.{result_of};
-ghost use Rattle.fm_encoder.specs.Hands.{HandsPieces};
+ghost use Rattle.fm_encoder.specs.Takes.{TakesPieces};
 
 use crate::label::{EncodeLabelValue, LabelEncoder};
 use fm_encode_error::EncodeError;
@@ -11,8 +10,7 @@ use itoa::{Buffer, Integer};
 
 impl LabelEncoder {
     fn encode_integer_value<I: Integer>(&mut self, value: I) -> Result<(), EncodeError>
-        ensures handed { HandsPieces (ValuePiece (I.text value) ∷ []) ⊥ self.old self.new result }
-        ensures answered { result ≡ result_of self.new.refused }
+        ensures { TakesPieces (ValuePiece (I.text value) ∷ []) ⊥ self.old self.new result }
     {
         let mut buffer = Buffer::new();
         self.encode_str_value(buffer.format(value))
@@ -20,102 +18,90 @@ impl LabelEncoder {
 
     /// Takes the number in decimal as the label's value. It fails as `encode_str_value` does.
     pub fn encode_i8_value(&mut self, value: i8) -> Result<(), EncodeError>
-        ensures handed { HandsPieces (ValuePiece (signed_decimal value) ∷ []) ⊥
+        ensures { TakesPieces (ValuePiece (signed_decimal value) ∷ []) ⊥
             self.old self.new result }
-        ensures answered { result ≡ result_of self.new.refused }
     {
         self.encode_integer_value(value)
     }
 
     /// Takes the number in decimal as the label's value. It fails as `encode_str_value` does.
     pub fn encode_i16_value(&mut self, value: i16) -> Result<(), EncodeError>
-        ensures handed { HandsPieces (ValuePiece (signed_decimal value) ∷ []) ⊥
+        ensures { TakesPieces (ValuePiece (signed_decimal value) ∷ []) ⊥
             self.old self.new result }
-        ensures answered { result ≡ result_of self.new.refused }
     {
         self.encode_integer_value(value)
     }
 
     /// Takes the number in decimal as the label's value. It fails as `encode_str_value` does.
     pub fn encode_i32_value(&mut self, value: i32) -> Result<(), EncodeError>
-        ensures handed { HandsPieces (ValuePiece (signed_decimal value) ∷ []) ⊥
+        ensures { TakesPieces (ValuePiece (signed_decimal value) ∷ []) ⊥
             self.old self.new result }
-        ensures answered { result ≡ result_of self.new.refused }
     {
         self.encode_integer_value(value)
     }
 
     /// Takes the number in decimal as the label's value. It fails as `encode_str_value` does.
     pub fn encode_i64_value(&mut self, value: i64) -> Result<(), EncodeError>
-        ensures handed { HandsPieces (ValuePiece (signed_decimal value) ∷ []) ⊥
+        ensures { TakesPieces (ValuePiece (signed_decimal value) ∷ []) ⊥
             self.old self.new result }
-        ensures answered { result ≡ result_of self.new.refused }
     {
         self.encode_integer_value(value)
     }
 
     /// Takes the number in decimal as the label's value. It fails as `encode_str_value` does.
     pub fn encode_i128_value(&mut self, value: i128) -> Result<(), EncodeError>
-        ensures handed { HandsPieces (ValuePiece (signed_decimal value) ∷ []) ⊥
+        ensures { TakesPieces (ValuePiece (signed_decimal value) ∷ []) ⊥
             self.old self.new result }
-        ensures answered { result ≡ result_of self.new.refused }
     {
         self.encode_integer_value(value)
     }
 
     /// Takes the number in decimal as the label's value. It fails as `encode_str_value` does.
     pub fn encode_isize_value(&mut self, value: isize) -> Result<(), EncodeError>
-        ensures handed { HandsPieces (ValuePiece (signed_decimal value) ∷ []) ⊥
+        ensures { TakesPieces (ValuePiece (signed_decimal value) ∷ []) ⊥
             self.old self.new result }
-        ensures answered { result ≡ result_of self.new.refused }
     {
         self.encode_integer_value(value)
     }
 
     /// Takes the number in decimal as the label's value. It fails as `encode_str_value` does.
     pub fn encode_u8_value(&mut self, value: u8) -> Result<(), EncodeError>
-        ensures handed { HandsPieces (ValuePiece (decimal value) ∷ []) ⊥ self.old self.new result }
-        ensures answered { result ≡ result_of self.new.refused }
+        ensures { TakesPieces (ValuePiece (decimal value) ∷ []) ⊥ self.old self.new result }
     {
         self.encode_integer_value(value)
     }
 
     /// Takes the number in decimal as the label's value. It fails as `encode_str_value` does.
     pub fn encode_u16_value(&mut self, value: u16) -> Result<(), EncodeError>
-        ensures handed { HandsPieces (ValuePiece (decimal value) ∷ []) ⊥ self.old self.new result }
-        ensures answered { result ≡ result_of self.new.refused }
+        ensures { TakesPieces (ValuePiece (decimal value) ∷ []) ⊥ self.old self.new result }
     {
         self.encode_integer_value(value)
     }
 
     /// Takes the number in decimal as the label's value. It fails as `encode_str_value` does.
     pub fn encode_u32_value(&mut self, value: u32) -> Result<(), EncodeError>
-        ensures handed { HandsPieces (ValuePiece (decimal value) ∷ []) ⊥ self.old self.new result }
-        ensures answered { result ≡ result_of self.new.refused }
+        ensures { TakesPieces (ValuePiece (decimal value) ∷ []) ⊥ self.old self.new result }
     {
         self.encode_integer_value(value)
     }
 
     /// Takes the number in decimal as the label's value. It fails as `encode_str_value` does.
     pub fn encode_u64_value(&mut self, value: u64) -> Result<(), EncodeError>
-        ensures handed { HandsPieces (ValuePiece (decimal value) ∷ []) ⊥ self.old self.new result }
-        ensures answered { result ≡ result_of self.new.refused }
+        ensures { TakesPieces (ValuePiece (decimal value) ∷ []) ⊥ self.old self.new result }
     {
         self.encode_integer_value(value)
     }
 
     /// Takes the number in decimal as the label's value. It fails as `encode_str_value` does.
     pub fn encode_u128_value(&mut self, value: u128) -> Result<(), EncodeError>
-        ensures handed { HandsPieces (ValuePiece (decimal value) ∷ []) ⊥ self.old self.new result }
-        ensures answered { result ≡ result_of self.new.refused }
+        ensures { TakesPieces (ValuePiece (decimal value) ∷ []) ⊥ self.old self.new result }
     {
         self.encode_integer_value(value)
     }
 
     /// Takes the number in decimal as the label's value. It fails as `encode_str_value` does.
     pub fn encode_usize_value(&mut self, value: usize) -> Result<(), EncodeError>
-        ensures handed { HandsPieces (ValuePiece (decimal value) ∷ []) ⊥ self.old self.new result }
-        ensures answered { result ≡ result_of self.new.refused }
+        ensures { TakesPieces (ValuePiece (decimal value) ∷ []) ⊥ self.old self.new result }
     {
         self.encode_integer_value(value)
     }

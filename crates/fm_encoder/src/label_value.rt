@@ -3,8 +3,7 @@ ghost use Rattle.std.specs.Prelude.{◌≡◌, [], ◌∷◌, ◌++◌, ◌⊎�
 ghost use Rattle.std.specs.Option.{option_map_or};
 ghost use Rattle.fm_grammar.specs.Numbers.{fixed_text};
 ghost use Rattle.fm_encoder.specs.Labels.{NamePiece, ValuePiece};
-ghost use Rattle.fm_encoder.specs.Gathered.{result_of};
-ghost use Rattle.fm_encoder.specs.Hands.{HandsPieces};
+ghost use Rattle.fm_encoder.specs.Takes.{TakesPieces};
 
 use crate::label::{EncodeLabel, EncodeLabelName, EncodeLabelValue, LabelEncoder};
 use fm_encode_error::EncodeError;
@@ -175,19 +174,17 @@ impl<N: EncodeLabelName, V: EncodeLabelValue> EncodeLabel for (N, V) {
 impl LabelEncoder {
     /// Takes the text `true` or `false` as the label's value. It fails as `encode_str_value` does.
     pub fn encode_bool_value(&mut self, value: bool) -> Result<(), EncodeError>
-        ensures handed { HandsPieces
+        ensures { TakesPieces
             (ValuePiece (if value then codes "true" else codes "false") ∷ []) ⊥
             self.old self.new result }
-        ensures answered { result ≡ result_of self.new.refused }
     {
         self.encode_str_value(if value { "true" } else { "false" })
     }
 
     /// Takes a number of millionths, written in decimal, as the label's value. It fails as `encode_str_value` does.
     pub fn encode_fixed_value(&mut self, value: Fixed) -> Result<(), EncodeError>
-        ensures handed { HandsPieces (ValuePiece (fixed_text value) ∷ []) ⊥
+        ensures { TakesPieces (ValuePiece (fixed_text value) ∷ []) ⊥
             self.old self.new result }
-        ensures answered { result ≡ result_of self.new.refused }
     {
         let mut buffer = FixedBuffer::new();
         self.encode_str_value(buffer.format(FixedSum::from(value)))

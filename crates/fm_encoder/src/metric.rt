@@ -11,9 +11,10 @@ ghost use Rattle.fm_writer.specs.Output.{AreShared, OutputText, with_lines};
 ghost use Rattle.fm_encoder.specs.Labels.{LabelsClean, LabelsFault, all_written, handed_again};
 ghost use Rattle.fm_encoder.specs.Points.{Member, UnknownPoint, GaugePoint, CounterPoint, StateSetPoint, InfoPoint, millis};
 ghost use Rattle.fm_encoder.specs.States.{state_of};
-ghost use Rattle.fm_encoder.specs.Gathered.{OwnRefusal, result_of, own_refusal};
+ghost use Rattle.fm_encoder.specs.Gathered.{OwnRefusal, own_refusal};
 ghost use Rattle.fm_encoder.specs.Kept.{Keeps};
-ghost use Rattle.fm_encoder.specs.Hands.{HandsLabels, HandsMembers, MembersOf};
+ghost use Rattle.fm_encoder.specs.Hands.{HandsMembers, MembersOf};
+ghost use Rattle.fm_encoder.specs.Takes.{TakesMembers};
 
 use crate::constants::ConstantLabels;
 use crate::exemplar::EncodeExemplar;
@@ -46,15 +47,17 @@ pub trait EncodeMetric: Send + Sync + Drop {
     /// `timestamp` may return this number of milliseconds, or none.
     ghost stamps: { Self → Option ℕ → Type 0 } = { λ _ stamp. stamp ≡ None };
 
-    /// The lists of members that `encode` may offer.
-    ghost offers: { Self → List Member → Type 0 };
+    /// The lists of members that `encode` may offer in a family with this timestamp, in milliseconds: values and a timestamp of one
+    /// moment can be declared together.
+    ghost offers: { Self → Option ℕ → List Member → Type 0 };
 
     /// `encode` may return an error of its own other than `Memory`.
     ghost may_fault: { Self → Type 0 } = { λ _. ⊥ };
 
     /// Offers the metric's members to the encoder. It may wait if they are under a lock.
     fn encode(&self, encoder: &mut MetricEncoder) -> Result<(), EncodeError>
-        ensures { HandsMembers (offers self.now) (may_fault self.now)
+        ensures { HandsMembers
+            (offers self.now encoder.old.context.setting.time) (may_fault self.now)
             encoder.old encoder.new result };
 
     /// The metric's type. A registry reads it once, when the metric is registered.
@@ -263,11 +266,10 @@ impl MetricEncoder {
         labels: &LS,
         point: &P,
     ) -> Result<(), EncodeError>
-        ensures handed { HandsMembers
+        ensures { TakesMembers
             (MembersOf (LS.labels labels.now) (P.points point.now))
             (LS.may_fault labels.now ⊎ P.may_fault point.now)
             self.old self.new result }
-        ensures answered { result ≡ result_of self.new.refused }
     {
         self.encode_kept(None, labels, point)
     }
@@ -281,11 +283,10 @@ impl MetricEncoder {
         point: &P,
     ) -> Result<(), EncodeError>
         requires kept { IfSome kept (λ k. Keeps (LS.labels labels.now) k.now) }
-        ensures handed { HandsMembers
+        ensures { TakesMembers
             (MembersOf (LS.labels labels.now) (P.points point.now))
             (LS.may_fault labels.now ⊎ P.may_fault point.now)
             self.old self.new result }
-        ensures answered { result ≡ result_of self.new.refused }
     {
         if let Some(error) = self.points.refused() {
             return Err(error);
@@ -297,22 +298,20 @@ impl MetricEncoder {
 
     /// Takes the point of an unknown metric without member labels, as `PointEncoder::encode_unknown` does.
     pub fn encode_unknown<V: EncodeUnknownValue>(&mut self, value: &V) -> Result<(), EncodeError>
-        ensures handed { HandsMembers (λ ms. ms ≡ record {
+        ensures { TakesMembers (λ ms. ms ≡ record {
           labels = [];
           point = UnknownPoint (V.numbers value.now);
         } ∷ []) (V.may_fault value.now) self.old self.new result }
-        ensures answered { result ≡ result_of self.new.refused }
     {
         self.encode(&(), &UnknownNumber(value))
     }
 
     /// Takes the point of a gauge without member labels, as `PointEncoder::encode_gauge` does.
     pub fn encode_gauge<V: EncodeGaugeValue>(&mut self, value: &V) -> Result<(), EncodeError>
-        ensures handed { HandsMembers (λ ms. ms ≡ record {
+        ensures { TakesMembers (λ ms. ms ≡ record {
           labels = [];
           point = GaugePoint (V.numbers value.now);
         } ∷ []) (V.may_fault value.now) self.old self.new result }
-        ensures answered { result ≡ result_of self.new.refused }
     {
         self.encode(&(), &GaugeNumber(value))
     }
@@ -324,14 +323,13 @@ impl MetricEncoder {
         exemplar: Option<&E>,
         created: Option<Duration>,
     ) -> Result<(), EncodeError>
-        ensures handed { HandsMembers (λ ms. ms ≡ record {
+        ensures { TakesMembers (λ ms. ms ≡ record {
           labels = [];
           point = CounterPoint (V.numbers total.now)
               (option_map_or (λ e. E.exemplars e.now) exemplar.entry [])
               (option_map millis created);
         } ∷ []) (V.may_fault total.now ⊎ MatchOption exemplar.entry ⊥ (λ e. E.may_fault e.now))
             self.old self.new result }
-        ensures answered { result ≡ result_of self.new.refused }
     {
         let point = CounterTotal {
             total,
@@ -343,24 +341,30 @@ impl MetricEncoder {
 
     /// Takes the point of a state set without member labels, as `PointEncoder::encode_stateset` does.
     pub fn encode_stateset(&mut self, states: Vec<(&str, bool)>) -> Result<(), EncodeError>
-        ensures handed { HandsMembers (λ ms. ms ≡ record {
+        ensures { TakesMembers (λ ms. ms ≡ record {
           labels = [];
           point = StateSetPoint (map state_of states.entry.items);
         } ∷ []) ⊥ self.old self.new result }
-        ensures answered { result ≡ result_of self.new.refused }
     {
         self.encode(&(), &States(states.as_slice()))
     }
 
     /// Takes the point of an info without member labels, as `PointEncoder::encode_info` does.
     pub fn encode_info<LS: EncodeLabelSet>(&mut self, labels: &LS) -> Result<(), EncodeError>
-        ensures handed { HandsMembers (λ ms. ms ≡ record {
+        ensures { TakesMembers (λ ms. ms ≡ record {
           labels = [];
           point = InfoPoint (LS.labels labels.now);
         } ∷ []) (LS.may_fault labels.now) self.old self.new result }
-        ensures answered { result ≡ result_of self.new.refused }
     {
         self.encode(&(), &InfoLabels(labels))
+    }
+
+    /// The timestamp of the current family, in milliseconds since the Unix epoch. A metric whose values change can offer those of
+    /// this moment.
+    pub fn timestamp(&self) -> Option<u128>
+        ensures { result ≡ self.now.context.setting.time }
+    {
+        self.points.time()
     }
 
     /// The first refusal, after the metric returned `visited`. It is for the collector.

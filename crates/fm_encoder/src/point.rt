@@ -9,8 +9,10 @@ ghost use Rattle.fm_exposition.specs.Rows.{head_rows};
 ghost use Rattle.fm_exposition.specs.Samples.{value_of, exemplar_of};
 ghost use Rattle.fm_writer.specs.Output.{AreShared, appended, with_lines};
 ghost use Rattle.fm_encoder.specs.Points.{Point};
-ghost use Rattle.fm_encoder.specs.Labels.{LabelsClean, LabelsFault, AreFree, all_written, handed_again};
-ghost use Rattle.fm_encoder.specs.Gathered.{OwnRefusal, result_of};
+ghost use Rattle.fm_encoder.specs.Labels.{LabelsClean, LabelsFault, all_written, handed_again};
+ghost use Rattle.fm_encoder.specs.inside.FreeLabels.{AreFree};
+ghost use Rattle.fm_encoder.specs.Gathered.{OwnRefusal};
+ghost use Rattle.fm_encoder.specs.Takes.{Takes};
 ghost use Rattle.fm_encoder.specs.Hands.{HandsPoints};
 ghost use Rattle.fm_encoder.specs.Kept.{Keeps};
 ghost use Rattle.fm_encoder.specs.inside.Steps.{FitsType, BeginsPoint, BeginsMember, PushesSample, EndsPoints};
@@ -225,8 +227,7 @@ impl PointEncoder {
 
     // Tests a point's type, and then whether the common labels were refused. The next sample begins the point.
     fn begin_point(&mut self, metric_type: MetricType) -> Result<(), EncodeError>
-        ensures begun { BeginsPoint metric_type self.old self.new }
-        ensures answered { result ≡ result_of self.new.refused }
+        ensures { Takes (BeginsPoint metric_type self.old self.new) self.new.refused result }
     {
         if let Some(error) = self.refused {
             return Err(error);
@@ -255,14 +256,13 @@ impl PointEncoder {
             → AreLabels (self.old.common ++ own.now.labels) }
         requires fits { FitsType self.old.setting.metric_type kind
             (value_of value.now) (option_map exemplar_of exemplar) }
-        ensures pushed { PushesSample (record {
+        ensures { Takes (PushesSample (record {
           kind = kind;
           labels = self.old.common ++ own.now.labels;
           value = value_of value.now;
           time = self.old.setting.time;
           exemplar = option_map exemplar_of exemplar;
-        }) self.old self.new }
-        ensures answered { result ≡ result_of self.new.refused }
+        }) self.old self.new) self.new.refused result }
     {
         match push_to(
             &mut self.sink,
@@ -290,14 +290,13 @@ impl PointEncoder {
         requires accepting { self.old.refused ≡ None }
         requires fits { FitsType self.old.setting.metric_type kind
             (value_of value.now) (option_map exemplar_of exemplar) }
-        ensures pushed { PushesSample (record {
+        ensures { Takes (PushesSample (record {
           kind = kind;
           labels = self.old.common ++ [];
           value = value_of value.now;
           time = self.old.setting.time;
           exemplar = option_map exemplar_of exemplar;
-        }) self.old self.new }
-        ensures answered { result ≡ result_of self.new.refused }
+        }) self.old self.new) self.new.refused result }
     {
         match push_to(
             &mut self.sink,
@@ -319,6 +318,12 @@ impl PointEncoder {
         ensures { result ≡ self.now.refused }
     {
         self.refused
+    }
+
+    pub(crate) fn time(&self) -> Option<u128>
+        ensures { result ≡ self.now.setting.time }
+    {
+        self.time
     }
 
     // Reads the common labels of the next points, or keeps their refusal for the first of them. Labels that were kept are copied.
@@ -347,8 +352,7 @@ impl PointEncoder {
 
     // Ends a member, after the point returned `visited`.
     pub(crate) fn end_points(&mut self, visited: Result<(), EncodeError>) -> Result<(), EncodeError>
-        ensures ended { EndsPoints visited self.old self.new }
-        ensures answered { result ≡ result_of self.new.refused }
+        ensures { Takes (EndsPoints visited self.old self.new) self.new.refused result }
     {
         if let Some(error) = self.refused {
             return Err(error);

@@ -3,11 +3,13 @@ use Rattle.std.proofs.Common.{◌≡◌, ◌<◌, List, [], ◌∷◌, ◌++◌,
 use Rattle.std.proofs.lemmas.List.{append-nil, length-map}
 use Rattle.std.proofs.lemmas.Grind.{flat_map-append}
 use Rattle.fm_grammar.specs.Exposition.{Text, Label, Sample, Family, Exposition}
-use Rattle.fm_grammar.specs.Spelling.{label_text, label_list_text, sample_line, samples_text, unit_part, family_text, document_text}
+use Rattle.fm_grammar.specs.Spelling.{label_text, label_list_text, sample_line}
+use Rattle.fm_grammar.specs.inside.DocumentText.{samples_text, unit_part, family_text, document_text}
 use Rattle.fm_grammar.specs.WellFormed.{IsWellFormed}
 use Rattle.fm_grammar.specs.Law.{IsDocumentOf}
 use Rattle.fm_grammar.proofs.Law.{document_of}
-use Rattle.fm_exposition.specs.Rows.{further_label, further_labels, sample_rows, unit_row, family_rows, families_rows, document_rows}
+use Rattle.fm_exposition.specs.Rows.{sample_rows, unit_row}
+use Rattle.fm_exposition.specs.inside.DocumentRows.{further_label, further_labels, family_rows, families_rows, document_rows}
 
 -- a list of labels is its first label, and the others after a comma each
 pub label_list_is : (first : Label) (others : List Label) → label_list_text (first ∷ others) ≡ label_text first ++ further_labels others

@@ -3,3 +3,4 @@ pub mod Points
 pub mod Families
 pub mod SameLaws
 pub mod Writing
+pub mod DocumentRows

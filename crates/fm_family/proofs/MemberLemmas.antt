@@ -8,7 +8,8 @@ use Rattle.std.proofs.Common.{IsSome, ◌⊎◌, true≢false}
 use Rattle.fm_raw.specs.declared.error.MetricError.TheVariants.{Memory}
 use Rattle.std.proofs.Common.{Result, Ok, Err, MatchOption}
 use Rattle.fm_raw.specs.declared.error.MetricError.{MetricError}
-use Rattle.fm_family.specs.Members.{OffersFirst, OffersDifferent, GetsOrAdds, HoldsMetric}
+use Rattle.fm_family.specs.Members.{OffersFirst, OffersDifferent, GetsOrAdds}
+use Rattle.fm_family.specs.inside.Indexed.{HoldsMetric}
 use Rattle.std.proofs.Math.Seq.{take-append_seam}
 use Rattle.fm_encode_error.specs.declared.EncodeError.{EncodeError}
 use Rattle.fm_encoder.specs.Labels.{HandedLabel}

@@ -1,8 +1,8 @@
 -- The members of a family: a list of pairs of a label set and a metric, of which no two have equal label sets.
-use Rattle.std.specs.Prelude.{◌≡◌, ℕ, Bool, true, List, [], ◌∷◌, ◌++◌, take, Result, Ok, Err, MatchResult, ◌⊎◌, MatchOption, Some, IsOkAnd, slice_get}
+use Rattle.std.specs.Prelude.{◌≡◌, ℕ, Bool, true, List, [], ◌∷◌, ◌++◌, take, Result, Ok, Err, MatchResult, ◌⊎◌, MatchOption, IsOkAnd}
 use denote.Ref.{Bor}
 use Rattle.std.specs.List.{IsDistinct}
-use Rattle.std.specs.Map.{lookup, keys_of, values_of}
+use Rattle.std.specs.Map.{lookup, keys_of}
 use Rattle.fm_raw.specs.declared.error.MetricError.{MetricError}
 use Rattle.fm_raw.specs.declared.error.MetricError.TheVariants.{Memory}
 use Rattle.fm_encoder.specs.Labels.{HandedLabel}
@@ -22,10 +22,6 @@ GetsOrAdds {L} {M} eq promises labels old new tells answer = MatchOption (lookup
     (λ a. (k : L) × (m : M) × (eq labels k ≡ true) × promises (Ok m) × (new ≡ old ++ (k, m) ∷ []) × tells a m)
     (λ e. (new ≡ old) × ((e ≡ Memory) ⊎ promises (Err e))))
     (λ m. (new ≡ old) × IsOkAnd answer (λ a. tells a m))
-
--- the metric at this index
-abbrev pub HoldsMetric : {L M : Type 0} → List (L × M) → ℕ → M → Type 0
-HoldsMetric es place m = slice_get (values_of es) place ≡ Some m
 
 -- the reference shows the metric
 abbrev pub ShowsMetric : {M : Type 0} → Bor M → M → Type 0

@@ -175,7 +175,7 @@ impl<
 
     ghost may_be_empty = { λ _. ⊤ };
 
-    ghost offers = { λ _. OffersDifferent LS.eq LS.labels M.points };
+    ghost offers = { λ _ _. OffersDifferent LS.eq LS.labels M.points };
 
     ghost may_fault = { λ _. (pair : LS × M) × MayFault LS.may_fault M.may_fault pair };
 

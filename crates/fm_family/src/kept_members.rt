@@ -3,8 +3,8 @@ ghost use Rattle.std.specs.Prelude.{◌≡◌, ◌<◌, ◌↔◌, ◌++◌, ◌
 ghost use Rattle.indexmap.specs.IndexMap.{get, values, index_of, IsUnique};
 ghost use Rattle.fm_encoder.specs.Points.{Member, MembersClean, members_samples};
 ghost use Rattle.fm_encoder.specs.Output.{appended};
-ghost use Rattle.fm_encoder.specs.Gathered.{result_of};
 ghost use Rattle.fm_encoder.specs.Hands.{HandsMembers, MembersOf, OffersOf};
+ghost use Rattle.fm_encoder.specs.Takes.{TakesMembers};
 ghost use Rattle.fm_family.specs.Members.{OffersFirst, MayFault};
 
 use fm_encode_error::EncodeError;
@@ -117,10 +117,9 @@ impl<LS: EncodeLabelSet + Eq + Hash, M: EncodePoint, S: BuildHasher> KeptMembers
     // Encodes the points of the member at an index under its labels.
     fn encode_at(&self, place: usize, encoder: &mut MetricEncoder) -> Result<(), EncodeError>
         requires { place < length self.now.entries }
-        ensures handed { (pair : LS × M) × (slice_get self.now.entries place ≡ Some pair)
-            × HandsMembers (MembersOf (LS.labels pair.0) (M.points pair.1))
+        ensures { (pair : LS × M) × (slice_get self.now.entries place ≡ Some pair)
+            × TakesMembers (MembersOf (LS.labels pair.0) (M.points pair.1))
             (MayFault LS.may_fault M.may_fault pair) encoder.old encoder.new result }
-        ensures answered { result ≡ result_of encoder.new.refused }
     {
         let Some((labels, metric)) = self.members.get_index(place) else {
             unreachable!()

@@ -6,7 +6,8 @@ ghost use Rattle.fm_encoder.specs.Points.{Member, MembersClean, members_samples}
 ghost use Rattle.fm_encoder.specs.Output.{appended};
 ghost use Rattle.fm_encoder.specs.Hands.{HandsMembers, OffersOf};
 ghost use Rattle.fm_family.specs.MemberLends.{ends_with_member};
-ghost use Rattle.fm_family.specs.Members.{ClonesEqual, GetsOrAdds, HoldsMetric, OffersFirst, MayFault};
+ghost use Rattle.fm_family.specs.Members.{ClonesEqual, GetsOrAdds, OffersFirst, MayFault};
+ghost use Rattle.fm_family.specs.inside.Indexed.{HoldsMetric};
 
 use crate::factory::MetricFactory;
 use crate::kept_members::KeptMembers;

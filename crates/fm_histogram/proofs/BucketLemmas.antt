@@ -5,7 +5,8 @@ use Rattle.std.proofs.lemmas.Bool.Decides.{nat_tests}
 use Rattle.std.proofs.lemmas.List.Sums.{sum_by-append, count_by-le-length}
 use Rattle.fm_bucket.specs.declared.bound.Bucket.{Bucket}
 use Rattle.fm_bucket.specs.declared.bound.Bound.TheVariants.{Finite, Inf}
-use Rattle.fm_histogram.specs.Histogram.{is_above, is_between, buckets_above, rises, place, place_among, one_more}
+use Rattle.fm_histogram.specs.Histogram.{is_above, is_between, buckets_above, rises, place_among}
+use Rattle.fm_histogram.specs.inside.Counting.{place, one_more}
 
 -- a bound above one that is not below x is not below x
 stays_above : (a b x : ℤ) → int_lt a x ≡ false → int_lt a b ≡ true → int_lt b x ≡ false

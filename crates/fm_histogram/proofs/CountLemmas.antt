@@ -6,7 +6,8 @@ use Rattle.std.specs.Int.RustNames.{FitsSigned}
 use Rattle.std.proofs.lemmas.List.{append-nil}
 use Rattle.std.proofs.lemmas.List.Elements.{filter-append}
 use Rattle.fm_bucket.specs.declared.bound.Bucket.{Bucket}
-use Rattle.fm_histogram.specs.Histogram.{Histogram, IsCounts, IsOfSome, total, place, buckets_above, one_more}
+use Rattle.fm_histogram.specs.Histogram.{Histogram, IsCounts, total, buckets_above}
+use Rattle.fm_histogram.specs.inside.Counting.{IsOfSome, place, one_more}
 use Rattle.fm_histogram.proofs.BucketLemmas.{observed, counts_within}
 
 -- the sum of one value more

@@ -1,6 +1,5 @@
 -- The histogram of a list of values: how many of them are in each interval between bounds, how many there are, and their sum.
-use Rattle.std.specs.Prelude.{ℕ, ◌+◌, Bool, true, not, ◌&&◌, ◌||◌, ◌≡◌, ℤ, pos, neg_ℤ, ◌+ℤ◌, ◌≤ℤ◌, ◌<◌, ◌*◌, ◌^◌, List, [], ◌∷◌, Option, Some, None, length, count_by, filter, map, All, Contains, ◌↔◌, int_lt, suc, if◌then◌else◌}
-use Rattle.fm_bucket.specs.BoundTests.{lies_below}
+use Rattle.std.specs.Prelude.{ℕ, ◌+◌, Bool, true, not, ◌&&◌, ◌||◌, ◌≡◌, ℤ, pos, ◌+ℤ◌, ◌<◌, ◌^◌, List, [], ◌∷◌, Option, Some, None, length, count_by, filter, map, All, Contains, ◌↔◌, int_lt, suc, if◌then◌else◌}
 use Rattle.fm_bucket.specs.declared.bound.Bound.{Bound}
 use Rattle.fm_bucket.specs.declared.bound.Bound.TheVariants.{Finite, Inf}
 use Rattle.fm_bucket.specs.declared.bound.Bucket.{Bucket}
@@ -67,26 +66,10 @@ pub record CountsTaken (taken : ℤ → Bool) (s : Histogram) : Type 0 where
   pub values_taken : All (λ x. taken x ≡ true) values
   pub few : s.count < 2 ^ 64
 
--- what counts by these bounds are: the histogram of some values of 64 bits
-pub record IsOfSome (bounds : List ℤ) (s : Histogram) : Type 0 where
-  pub values : List ℤ
-  pub is : IsCounts bounds values s
-  pub low : neg_ℤ (pos (2 ^ 63 * s.count)) ≤ℤ s.sum
-  pub high : s.sum ≤ℤ pos (2 ^ 63 * s.count)
-
--- the index of the bucket that takes x
-abbrev pub place : ℤ → List Bucket → ℕ
-place x [] = 0
-place x (b ∷ bs) = if lies_below b.upper_bound x then suc (place x bs) else 0
-
 -- how many of the rising bounds are below x: the index of its bucket
 abbrev pub place_among : ℤ → List ℤ → ℕ
 place_among x [] = 0
 place_among x (b ∷ bs) = if int_lt b x then suc (place_among x bs) else 0
-
--- a bucket with one value more
-abbrev pub one_more : Bucket → Bucket
-one_more b = record { upper_bound = b.upper_bound; count = b.count + 1 }
 
 -- the given bounds that are taken, each once and in order
 pub record IsBoundsOf (taken : ℤ → Bool) (given bounds : List ℤ) : Type 0 where
@@ -106,8 +89,3 @@ merged_buckets [] bs = []
 -- what two histograms of equal bounds count together
 abbrev pub merged : Histogram → Histogram → Histogram
 merged s t = record { buckets = merged_buckets s.buckets t.buckets; count = s.count + t.count; sum = s.sum +ℤ t.sum }
-
--- a bound inserted in order, unless it is there
-abbrev pub inserted : ℤ → List ℤ → List ℤ
-inserted x [] = x ∷ []
-inserted x (b ∷ bs) = if int_lt b x then b ∷ inserted x bs else (if int_lt x b then x ∷ b ∷ bs else b ∷ bs)

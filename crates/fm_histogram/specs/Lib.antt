@@ -5,3 +5,4 @@ pub use Rattle.fm_encoder.specs.Hands
 pub mod Histogram
 pub mod Shown
 pub mod Shared
+pub mod inside

@@ -5,5 +5,5 @@ use Rattle.std.specs.declared.time.Duration.{Duration}
 use Rattle.fm_histogram.specs.declared.histogram.HistogramOf.{HistogramOf}
 
 -- the time of creation that the clones of a histogram share
-abbrev pub created_of : {S H : Type 0} → HistogramOf S H → Option Duration
-created_of h = (arc_value h.locked).created
+abbrev pub histogram_created : {S H : Type 0} → HistogramOf S H → Option Duration
+histogram_created h = (arc_value h.locked).created

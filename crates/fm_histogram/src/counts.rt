@@ -3,7 +3,8 @@ ghost use Rattle.std.specs.Prelude.{◌≡◌, ℕ, ℤ, pos, true, ◌+◌, ◌
 ghost use Rattle.fm_raw.specs.declared.error.MetricError.TheVariants.{Memory, CountFull, UnequalBounds};
 ghost use Rattle.fm_bucket.specs.declared.bound.Bucket.{Bucket as OneBucket};
 ghost use Rattle.fm_bucket.specs.Bounds.{default_bounds};
-ghost use Rattle.fm_histogram.specs.Histogram.{IsCounts, rises, upper_bounds, one_more, merged, merged_buckets};
+ghost use Rattle.fm_histogram.specs.Histogram.{IsCounts, rises, upper_bounds, merged, merged_buckets};
+ghost use Rattle.fm_histogram.specs.inside.Counting.{one_more};
 
 use crate::place::place_of;
 use fm_bucket::{Bound, Bucket, default_buckets};
@@ -23,7 +24,8 @@ pub struct Counts {
 }
 
 impl Model for Counts {
-    ghost use Rattle.fm_histogram.specs.Histogram.{Histogram, IsOfSome};
+    ghost use Rattle.fm_histogram.specs.Histogram.{Histogram};
+    ghost use Rattle.fm_histogram.specs.inside.Counting.{IsOfSome};
 
     ghost Value = { Histogram };
 

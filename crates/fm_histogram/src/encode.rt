@@ -27,7 +27,7 @@ impl<S: Sign> EncodePoint for SnapshotOf<S> {
 impl<S: Sign + Send + Sync> EncodeMetric for SnapshotOf<S> {
     ghost types = { λ _ t. t ≡ S.TYPE };
 
-    ghost offers = { λ s ms. ms ≡ alone (S.point s None) ∷ [] };
+    ghost offers = { λ s _ ms. ms ≡ alone (S.point s None) ∷ [] };
 
     fn encode(&self, encoder: &mut MetricEncoder) -> Result<(), EncodeError> {
         encoder.encode(&(), self)

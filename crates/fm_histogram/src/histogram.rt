@@ -9,7 +9,7 @@ ghost use Rattle.fm_encoder.specs.Points.{millis};
 ghost use Rattle.fm_histogram.specs.Histogram.{Histogram as Counted, CountsTaken, IsHistogram, takes};
 ghost use Rattle.fm_bucket.specs.Bounds.{default_bounds};
 ghost use Rattle.fm_histogram.specs.Shown.{alone};
-ghost use Rattle.fm_histogram.specs.Shared.{created_of};
+ghost use Rattle.fm_histogram.specs.Shared.{histogram_created};
 
 use crate::sign::{Any, NotNegative, Sign};
 use crate::snapshot::{GaugeHistogramSnapshot, HistogramSnapshot, SnapshotOf};
@@ -60,7 +60,7 @@ impl<S: Sign, H: Wait + Drop> HistogramOf<S, H> {
         snapshot: SnapshotOf<S>,
         created: Option<Duration>,
     ) -> Result<HistogramOf<S, H>, MetricError>
-        ensures created { IfOk result (λ h. created_of h ≡ created) }
+        ensures created { IfOk result (λ h. histogram_created h ≡ created) }
         ensures only_memory { IfErr result (λ e. e ≡ Memory) }
     {
         let snapshot = Mutex::new(snapshot);
@@ -77,7 +77,7 @@ impl<S: Sign, H: Wait + Drop> HistogramOf<S, H> {
     ) -> Result<HistogramOf<S, H>, MetricError>
         requires can { I.can_next bounds }
         requires ends { IsFinite (I.remaining bounds) }
-        ensures created { IfOk result (λ h. created_of h ≡ None) }
+        ensures created { IfOk result (λ h. histogram_created h ≡ None) }
         ensures only_memory { IfErr result (λ e. e ≡ Memory) }
     {
         let snapshot = SnapshotOf::new(alloc, bounds)?;
@@ -105,7 +105,7 @@ impl<H: Wait + Drop> Histogram<H> {
     ) -> Result<Histogram<H>, MetricError>
         requires can { I.can_next bounds }
         requires ends { IsFinite (I.remaining bounds) }
-        ensures created { IfOk result (λ h. created_of h ≡ Some created) }
+        ensures created { IfOk result (λ h. histogram_created h ≡ Some created) }
         ensures only_memory { IfErr result (λ e. e ≡ Memory) }
     {
         let snapshot = SnapshotOf::new(alloc, bounds)?;
@@ -126,7 +126,7 @@ impl<H: Wait> Histogram<H> {
 
     /// When the histogram was created, since the Unix epoch, if it is known.
     pub fn created(&self) -> Option<Duration>
-        ensures { result ≡ created_of self.now }
+        ensures { result ≡ histogram_created self.now }
     {
         self.locked.created
     }
@@ -145,7 +145,7 @@ impl<H: Wait> GaugeHistogram<H> {
 
 /// The histogram of no values with the default bounds, without a time of creation.
 impl<S: Sign, H: Wait + Drop> TryDefault<H> for HistogramOf<S, H> {
-    ghost is_default = { λ h. created_of h ≡ None };
+    ghost is_default = { λ h. histogram_created h ≡ None };
 
     fn try_default(wait: H, alloc: Global) -> Result<HistogramOf<S, H>, MetricError> {
         let snapshot = SnapshotOf::with_default_bounds(alloc)?;
@@ -199,7 +199,7 @@ impl<S: Sign, H: Wait> TypedMetric for HistogramOf<S, H> {
 impl<S: Sign, H: Wait> EncodePoint for HistogramOf<S, H> {
     ghost points = { λ h ps. (s : Counted)
         × CountsTaken (takes S.NEGATIVE) s
-        × (ps ≡ S.point s (option_map millis (created_of h)) ∷ []) };
+        × (ps ≡ S.point s (option_map millis (histogram_created h)) ∷ []) };
 
     fn encode(&self, points: &mut PointEncoder) -> Result<(), EncodeError> {
         let guard = self.locked.snapshot.lock(&self.wait);
@@ -212,9 +212,9 @@ impl<S: Sign, H: Wait> EncodePoint for HistogramOf<S, H> {
 impl<S: Sign + Send + Sync, H: Wait + Send + Sync + Drop> EncodeMetric for HistogramOf<S, H> {
     ghost types = { λ _ t. t ≡ S.TYPE };
 
-    ghost offers = { λ h ms. (s : Counted)
+    ghost offers = { λ h _ ms. (s : Counted)
         × CountsTaken (takes S.NEGATIVE) s
-        × (ms ≡ alone (S.point s (option_map millis (created_of h))) ∷ []) };
+        × (ms ≡ alone (S.point s (option_map millis (histogram_created h))) ∷ []) };
 
     fn encode(&self, encoder: &mut MetricEncoder) -> Result<(), EncodeError> {
         encoder.encode(&(), self)

@@ -13,7 +13,8 @@ use Rattle.fm_grammar.specs.WellFormed.{kinds_of, AreLabels, ValueSuits, ValueFi
 use Rattle.fm_grammar.proofs.Runs.{all_append}
 use Rattle.fm_bucket.specs.declared.bound.Bucket.{Bucket}
 use Rattle.fm_bucket.specs.declared.quantile.Quantile.{Quantile}
-use Rattle.fm_encoder.specs.Labels.{HandedLabel, IsReserved, AreFree, LabelsClean, label_names, all_written}
+use Rattle.fm_encoder.specs.Labels.{HandedLabel, IsReserved, LabelsClean, label_names, all_written}
+use Rattle.fm_encoder.specs.inside.FreeLabels.{AreFree}
 use Rattle.fm_encoder.specs.Points.{HandedExemplar, Point, UnknownPoint, GaugePoint, CounterPoint, StateSetPoint, InfoPoint, HistogramPoint, GaugeHistogramPoint, SummaryPoint, Member, Setting, Context, ExemplarClean, BucketsClean, PartsClean, type_of, common_handed, common_written, values_in, plain_sample, written_exemplar, created_samples, total_sample, state_sample, bound_label, bucket_samples, total_samples, quantile_sample, point_samples}
 use Rattle.fm_encoder.specs.inside.Steps.{IsNumber}
 use Rattle.fm_encoder.proofs.NameLemmas.{AreLabels-written, AreLabels-behind, AreLabels-named, AreLabels-own, AreFree-written}

@@ -22,7 +22,7 @@ impl<
 > EncodeMetric for Labeled<LS, P> {
     ghost types = { λ _ t. t ≡ P.TYPE };
 
-    ghost offers = { λ m. MembersOf (LS.labels m.labels) (P.points m.point) };
+    ghost offers = { λ m _. MembersOf (LS.labels m.labels) (P.points m.point) };
 
     ghost may_fault = { λ m. LS.may_fault m.labels ⊎ P.may_fault m.point };
 

@@ -10,7 +10,8 @@ use Rattle.std.specs.Cmp.Lexicographic.{slice_cmp}
 use Rattle.std.proofs.lemmas.List.{map-append}
 use Rattle.fm_grammar.specs.declared.MetricType.{MetricType}
 use Rattle.fm_grammar.specs.Exposition.{Text, Family}
-use Rattle.fm_grammar.specs.Reading.{State, Open, Headed, closed, IsNewName, Follows, type_line, help_line, unit_line, sample_line, last_line}
+use Rattle.fm_grammar.specs.Reading.{IsNewName}
+use Rattle.fm_grammar.specs.inside.Lines.{State, Open, Headed, closed, Follows, type_line, help_line, unit_line, sample_line, last_line}
 use Rattle.fm_reader_lines.proofs.NameSets.{holds_more}
 use Rattle.std.specs.Option.{option_map}
 use Rattle.fm_reader_lines.specs.inside.Lines.{FoundType, shown_type}

@@ -1,3 +1,2 @@
 pub mod ReadErrors
-pub mod Read
 pub mod inside

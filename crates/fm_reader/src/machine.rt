@@ -4,7 +4,7 @@ ghost use Rattle.std.specs.Option.{option_map};
 ghost use Rattle.fm_grammar.specs.Document.{IsLastLine};
 ghost use Rattle.fm_reader_lines.specs.inside.Lines.{shown_type};
 ghost use Rattle.fm_reader_lines.specs.inside.Samples.{read_sample_of};
-ghost use Rattle.fm_grammar.specs.Reading.{closed, with_unit, with_sample, Open as OpenState, Headed as HeadedState};
+ghost use Rattle.fm_grammar.specs.inside.Lines.{closed, with_unit, with_sample, Open as OpenState, Headed as HeadedState};
 ghost use Rattle.fm_reader.specs.inside.Steps.{state_of, IsStep, IsStepWithin, IsEnding};
 ghost use Rattle.fm_reader.specs.inside.Names.{names_of, state_names, HasNames, IsNoted, FoundNoted};
 ghost use Rattle.fm_reader.specs.declared.error.ReadError.TheVariants.{Memory};

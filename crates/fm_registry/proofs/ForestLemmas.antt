@@ -9,8 +9,8 @@ use Rattle.std.specs.Str.{bytes_eq}
 use Rattle.std.specs.String.{string_bytes}
 use Rattle.fm_registry_calls.specs.Texts.{Text}
 use Rattle.fm_registry_calls.specs.Tree.{Child}
-use Rattle.fm_registry_calls.specs.Steps.{nth_in, nth_name, with_nth, place_from}
-use Rattle.fm_registry.specs.View.{forest_of}
+use Rattle.fm_registry_calls.specs.inside.Forests.{nth_in, nth_name, with_nth, place_from}
+use Rattle.fm_registry.specs.inside.TreeView.{forest_of}
 use Rattle.fm_registry.specs.declared.registry.Subsystem.{Subsystem}
 
 module _ {M : Type 0} where

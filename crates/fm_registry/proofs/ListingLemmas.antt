@@ -4,7 +4,8 @@ use Rattle.std.specs.Option.{option_map}
 use Rattle.std.specs.String.{string_bytes}
 use Rattle.std.proofs.lemmas.List.{take_more, map-append}
 use Rattle.std.proofs.lemmas.Option.{get_or_from_slice_get, slice_get_within}
-use Rattle.fm_registry.specs.View.{seen_labels, seen_metrics, seen_metric, forest_of}
+use Rattle.fm_registry.specs.View.{seen_labels, seen_metric}
+use Rattle.fm_registry.specs.inside.TreeView.{seen_metrics, forest_of}
 use Rattle.fm_registry_calls.specs.Listing.{Listed, listed_with, own_metrics, listed_forest, listed_tree}
 use Rattle.fm_registry.specs.Seen.{seen_list, seen_listed}
 use Rattle.fm_registry.specs.declared.listing.ListedMetric.{ListedMetric}

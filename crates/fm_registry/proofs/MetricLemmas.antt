@@ -14,7 +14,8 @@ use Rattle.fm_raw.specs.declared.metadata.Metadata.{Metadata}
 use Rattle.fm_raw.proofs.MetadataLemmas.{types_decide}
 use Rattle.fm_registry_calls.specs.Registration.{is_same_metric, same_type, same_bool, same_unit}
 use Rattle.fm_registry_calls.proofs.MetricLemmas as book
-use Rattle.fm_registry.specs.View.{seen_metric, seen_metrics}
+use Rattle.fm_registry.specs.View.{seen_metric}
+use Rattle.fm_registry.specs.inside.TreeView.{seen_metrics}
 use Rattle.fm_registry.specs.declared.names.Tailed.{Tailed}
 
 -- units

@@ -4,8 +4,9 @@ use Rattle.std.specs.Str.{bytes_eq}
 use Rattle.std.specs.String.{string_bytes}
 use Rattle.fm_registry_calls.specs.Texts.{Text, Labels}
 use Rattle.fm_registry_calls.specs.Tree.{Facts, Leaf, Child, Tree, find_child}
-use Rattle.fm_registry_calls.specs.Steps.{add_child, new_facts, new_tree, added_unless, with_subsystem, place_from, place_in}
-use Rattle.fm_registry.specs.View.{forest_of}
+use Rattle.fm_registry_calls.specs.Steps.{add_child, new_facts, added_unless, with_subsystem}
+use Rattle.fm_registry_calls.specs.inside.Forests.{new_tree, place_from, place_in}
+use Rattle.fm_registry.specs.inside.TreeView.{forest_of}
 use Rattle.fm_registry.specs.declared.registry.Subsystem.{Subsystem}
 use Rattle.fm_registry_calls.specs.declared.RegistryError.{RegistryError}
 use Rattle.fm_registry_calls.proofs.TextLemmas.{bytes_eq-refl}

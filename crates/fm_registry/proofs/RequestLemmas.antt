@@ -7,15 +7,17 @@ use Rattle.fm_grammar.specs.declared.MetricType.{MetricType}
 use Rattle.fm_registry_calls.specs.Texts.{Text, Path}
 use Rattle.fm_registry_calls.specs.Book.{Call, Book, in_front}
 use Rattle.fm_registry_calls.specs.Tree.{Tree, Reads}
-use Rattle.fm_registry_calls.specs.Steps.{place_in}
+use Rattle.fm_registry_calls.specs.inside.Forests.{place_in}
 use Rattle.fm_registry_calls.specs.Answer.{Refusal, NoSuchSubsystem, refusal_of, after}
-use Rattle.fm_registry_calls.specs.Running.{Runs, IsReply, after_reply, path_of}
+use Rattle.fm_registry_calls.specs.Running.{Runs, IsReply, after_reply}
+use Rattle.fm_registry_calls.specs.inside.Paths.{path_of}
 use Rattle.fm_registry_calls.specs.declared.RegistryError.{RegistryError}
 use Rattle.fm_registry_calls.proofs.ApplyLemmas.{apply-missing}
 use Rattle.fm_registry_calls.proofs.RunLemmas.{Runs-more, path_of-++, path_of-reversed}
 use Rattle.fm_registry.specs.HasBook.{HasBook, Grows}
 use Rattle.fm_registry.specs.inside.Request.{call_at}
-use Rattle.fm_registry.specs.Calls.{IsCall, AreCalls, RunsCall, RunsCalls, seen_path}
+use Rattle.fm_registry.specs.Calls.{IsCall, AreCalls, RunsCalls, seen_path}
+use Rattle.fm_registry.specs.inside.CallSteps.{RunsCall}
 use Rattle.fm_registry.proofs.GrowthLemmas.{Grows-run}
 use Rattle.fm_registry.specs.declared.registry.run.Request.{Request}
 use Rattle.fm_registry.specs.declared.registry.run.Request.TheVariants as request

@@ -16,10 +16,12 @@ use Rattle.fm_registry_calls.specs.Texts.{Text, has_text}
 use Rattle.fm_registry_calls.specs.Registration.{Registration, is_same_metric}
 use Rattle.fm_registry_calls.specs.Taken.{tail_of, tails_of, is_below}
 use Rattle.fm_registry_calls.specs.Tree.{names_in}
-use Rattle.fm_registry_calls.specs.Answer.{AlreadyExists, NameTaken, first_of, has_metric, standing_refusal}
+use Rattle.fm_registry_calls.specs.Answer.{AlreadyExists, NameTaken, first_of, has_metric}
+use Rattle.fm_registry_calls.specs.inside.Refusals.{standing_refusal}
 use Rattle.fm_registry_calls.proofs.MetricLemmas.{one_under_tail, absent_under_tail}
 use Rattle.fm_registry.specs.inside.Names.{refusal_beside}
-use Rattle.fm_registry.specs.View.{seen_metric, seen_metrics, forest_of}
+use Rattle.fm_registry.specs.View.{seen_metric}
+use Rattle.fm_registry.specs.inside.TreeView.{seen_metrics, forest_of}
 use Rattle.fm_registry.specs.declared.names.Tailed.{Tailed}
 use Rattle.fm_registry.specs.declared.registry.Subsystem.{Subsystem}
 use Rattle.fm_registry.specs.contracts.names.TailedPartialEq.TheImpl as key

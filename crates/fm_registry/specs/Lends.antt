@@ -1,38 +1,15 @@
 -- What a registry is once a `&mut` into it has ended.
-use Rattle.std.specs.Prelude.{ℕ, Option, Result, Vec}
-use Rattle.std.specs.declared.alloc.Global.{Global}
-use Rattle.std.specs.declared.alloc.Allocator as alloc
-use Rattle.std.specs.contracts.option.Option as option
-use Rattle.std.specs.contracts.vec.Vec as vec
-use Rattle.std.specs.contracts.alloc.Global as global
-use Rattle.std.specs.contracts.impls.GlobalAllocator.TheImpl.{ghosts}
-use Rattle.std.specs.Option.{option_map}
+use Rattle.std.specs.Prelude.{Result}
 use Rattle.std.specs.String.{string_bytes}
-use Rattle.std.specs.Vec.{with_item}
 use Rattle.std.specs.Borrow.{Fml, RattleType, MutBor, Lends, LendsIfOk}
 use Rattle.fm_registry_calls.specs.Texts.{Text, Labels}
 use Rattle.fm_registry_calls.specs.Tree.{Tree}
-use Rattle.fm_registry_calls.specs.Steps.{with_nth, with_named, with_subsystem}
-use Rattle.fm_registry.specs.Lists.{items_of}
-use Rattle.fm_registry.specs.View.{forest_of}
+use Rattle.fm_registry_calls.specs.Steps.{with_named, with_subsystem}
 use Rattle.fm_registry.specs.contracts.registry.Registry.{the_row}
 use Rattle.fm_registry.specs.contracts.registry.Subsystem as subsystem
 use Rattle.fm_registry.specs.declared.registry.Subsystem.{Subsystem}
 
-module _ (T A : RattleType) (g : alloc.Ghosts A.Denot) where
-  -- the list has at this index the final value of r
-  abbrev pub lends_element : MutBor (Option (Vec T.Denot A.Denot)) → ℕ → MutBor T.Denot → Fml
-  lends_element v place r = Lends (option.the_row (vec.the_row T A g)) T v r (λ w. option_map (λ items. with_item items place w) v.now)
-
 module _ (M : RattleType) where
-  -- the subsystems are the final value of r
-  abbrev pub lends_subsystems : MutBor (Tree M.Denot) → MutBor (Option (Vec (Subsystem M.Denot) Global)) → Fml
-  lends_subsystems t r = Lends (the_row M) (option.the_row (vec.the_row (subsystem.the_row M) global.the_row ghosts)) t r (λ w. record t.now { children = forest_of (items_of w) })
-
-  -- the subsystem at this index is the final value of r, with its name
-  abbrev pub lends_nth : MutBor (Tree M.Denot) → ℕ → MutBor (Subsystem M.Denot) → Fml
-  lends_nth t place r = Lends (the_row M) (subsystem.the_row M) t r (λ w. record t.now { children = with_nth t.now.children place (string_bytes w.name) w.registry })
-
   -- the subsystem's registry is the final value of r
   abbrev pub lends_registry : MutBor (Subsystem M.Denot) → MutBor (Tree M.Denot) → Fml
   lends_registry s r = Lends (subsystem.the_row M) (the_row M) s r (λ w. record s.now { registry = w })

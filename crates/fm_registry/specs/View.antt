@@ -1,9 +1,8 @@
--- How contracts see a registry's fields.
-use Rattle.std.specs.Prelude.{List, [], ◌∷◌, map, Option, None, Some, Vec, String}
+-- How contracts see a metric with its metadata, and the labels of a registry.
+use Rattle.std.specs.Prelude.{Option, Vec, String}
 use Rattle.std.specs.declared.alloc.Global.{Global}
 use Rattle.std.specs.Option.{option_map}
 use Rattle.std.specs.String.{string_bytes}
-use Rattle.indexmap.specs.IndexMap.{IndexMap}
 use Rattle.fm_grammar.specs.declared.MetricType.{MetricType}
 use Rattle.fm_raw.specs.declared.metadata.Metadata.{Metadata}
 use Rattle.fm_raw.specs.declared.metadata.Unit as unit
@@ -11,11 +10,7 @@ use Rattle.fm_raw.specs.Units.{seen_unit}
 use Rattle.fm_exposition.specs.Samples.{labels_of}
 use Rattle.fm_registry_calls.specs.Texts.{Labels}
 use Rattle.fm_registry_calls.specs.Registration.{Registration}
-use Rattle.fm_registry_calls.specs.Tree.{Facts, Forest, Leaf, Child, Tree}
 use Rattle.fm_registry.specs.Lists.{items_of}
-use Rattle.fm_registry.specs.declared.names.Tailed.{Tailed}
-use Rattle.fm_registry.specs.declared.registry.Registry.TheInside.{Inside}
-use Rattle.fm_registry.specs.declared.registry.Subsystem.{Subsystem}
 
 -- a metric with its metadata
 abbrev pub seen_metric : {M : Type 0} → Metadata → M → Registration M
@@ -38,26 +33,3 @@ asked_metric name help u metric metric_type = seen_metric (asked name help metri
 -- labels, or none
 abbrev pub seen_labels : Option (Vec (String Global × String Global) Global) → Labels
 seen_labels labels = labels_of (items_of labels)
-
-module _ {M : Type 0} where
-  -- metrics with their metadata
-  abbrev pub seen_metrics : List (Tailed × M) → List (Registration M)
-  seen_metrics entries = map (λ e. seen_metric e.0.metadata e.1) entries
-
-  -- the metrics of a map, or none
-  abbrev pub metrics_in : {S : Type 0} → Option (IndexMap Tailed M S) → List (Registration M)
-  metrics_in None = []
-  metrics_in (Some metrics) = seen_metrics metrics.entries
-
-  -- each registry under its name
-  abbrev pub forest_of : List (Subsystem M) → Forest M
-  forest_of [] = Leaf
-  forest_of (subsystem ∷ subsystems) = Child (string_bytes subsystem.name) subsystem.registry.facts subsystem.registry.children (forest_of subsystems)
-
-  -- a registry without what is below it
-  abbrev pub facts_of : Inside M → Facts M
-  facts_of a = record { namespace = option_map string_bytes a.namespace; labels = seen_labels a.const_labels; depth = a.depth; metrics = metrics_in a.metrics }
-
-  -- a registry as a tree
-  abbrev pub tree_of : Inside M → Tree M
-  tree_of a = record { facts = facts_of a; children = forest_of (items_of a.subsystems) }

@@ -3,7 +3,7 @@ ghost use Rattle.std.specs.Prelude.{◌≡◌, ◌<◌, ◌++◌, ◌∷◌, [],
 ghost use Rattle.std.specs.Borrow.{sem};
 ghost use Rattle.fm_registry_calls.specs.Answer.{refusal_of, IsAnswered};
 ghost use Rattle.fm_registry.specs.Lists.{items_of};
-ghost use Rattle.fm_registry.specs.Lends.{lends_element};
+ghost use Rattle.fm_registry.specs.inside.LendsParts.{lends_element};
 
 use fm_registry_calls::RegistryError;
 use std::alloc::Allocator;

@@ -47,8 +47,8 @@ impl<M> Model for Registry<M> {
 
     ghost coded = { tree_code M.code };
 
-    ghost use Rattle.fm_registry.specs.View.{tree_of};
-    ghost use Rattle.fm_registry_calls.specs.Tree.{tree_size};
+    ghost use Rattle.fm_registry.specs.inside.TreeView.{tree_of};
+    ghost use Rattle.fm_registry_calls.specs.inside.Forests.{tree_size};
 
     ghost view = { tree_of };
 

@@ -4,7 +4,8 @@ use Rattle.std.proofs.lemmas.Bool.Decides.{nat_tests}
 use Rattle.std.specs.Str.{bytes_eq}
 use Rattle.fm_grammar.specs.Names.{IsSnakeCase}
 use Rattle.fm_grammar.specs.WellFormed.{AreLabels}
-use Rattle.fm_registry_calls.specs.Texts.{Text, Path, Labels, path_eq, has_text, is_once, prefixed_name}
+use Rattle.fm_registry_calls.specs.Texts.{Text, Path, Labels, path_eq, has_text, prefixed_name}
+use Rattle.fm_registry_calls.specs.inside.Once.{is_once}
 use Rattle.fm_registry_calls.specs.Book.{Call, Subsystem, Register, Book, root_book, metrics_at, children_at, labels_given, with_more, in_front, calls_below, book_below}
 use Rattle.fm_registry_calls.specs.Answer.{NoSuchSubsystem, first_bad_label, name_or_depth_refusal, answer, gained, after, after_if}
 use Rattle.fm_registry_calls.specs.Accepted.{IsAccepted, AreAccepted, IsBook}

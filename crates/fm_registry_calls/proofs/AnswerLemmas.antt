@@ -6,7 +6,8 @@ use Rattle.fm_registry_calls.specs.Texts.{Text, Path, Labels, has_text}
 use Rattle.fm_registry_calls.specs.Taken.{tail_of, tails_of, is_tail_taken, is_child_taken}
 use Rattle.fm_registry_calls.specs.Registration.{Registration, SeenUnit, takes_no_unit, text_of_unit}
 use Rattle.fm_registry_calls.specs.Book.{Call, Subsystem, Register, Book, metrics_at, children_at, missing_along, in_front, book_below, calls_below}
-use Rattle.fm_registry_calls.specs.Answer.{Refusal, InvalidNameFormat, MustHaveAnEmptyUnitString, OtherUnitFormatMustBeLowercase, AlreadyExists, InvalidNamespace, InvalidSubsystemName, InvalidLabelName, DuplicateLabel, NoSuchSubsystem, TooDeep, NameTaken, IsAnswered, MayTakeMemory, first_of, or_then, is_bad_unit, name_refusal, has_metric, standing_refusal, metric_refusal, name_or_depth_refusal, first_bad_label, asking_refusal, new_name_refusal, child_refusal, subsystem_refusal, namespace_refusal, label_refusal_behind, missing_name, answer, gained}
+use Rattle.fm_registry_calls.specs.Answer.{Refusal, InvalidNameFormat, MustHaveAnEmptyUnitString, OtherUnitFormatMustBeLowercase, AlreadyExists, InvalidNamespace, InvalidSubsystemName, InvalidLabelName, DuplicateLabel, NoSuchSubsystem, TooDeep, NameTaken, IsAnswered, MayTakeMemory, first_of, or_then, is_bad_unit, has_metric, metric_refusal, name_or_depth_refusal, first_bad_label, asking_refusal, new_name_refusal, child_refusal, subsystem_refusal, namespace_refusal, label_refusal_behind, missing_name, answer, gained}
+use Rattle.fm_registry_calls.specs.inside.Refusals.{name_refusal, standing_refusal}
 use Rattle.fm_registry_calls.proofs.BookLemmas.{metrics_at-calls_below, children_at-calls_below, missing_along-calls_below}
 
 some_not_none : {T : Type 0} {x : T} → Some x ≡ None → ⊥

@@ -4,7 +4,8 @@ use Rattle.std.specs.Str.{bytes_eq}
 use Rattle.fm_registry_calls.specs.Texts.{Text, has_text}
 use Rattle.fm_registry_calls.specs.Book.{Call, Book, in_front}
 use Rattle.fm_registry_calls.specs.Tree.{Forest, Leaf, Child, Tree, Reads, find_child, names_in}
-use Rattle.fm_registry_calls.specs.Steps.{nth_in, nth_name, with_nth, with_named, with_child, place_from, place_in}
+use Rattle.fm_registry_calls.specs.Steps.{with_named, with_child}
+use Rattle.fm_registry_calls.specs.inside.Forests.{nth_in, nth_name, with_nth, place_from, place_in}
 use Rattle.fm_registry_calls.specs.Answer.{Refusal, NoSuchSubsystem, after, refusal_of}
 use Rattle.fm_registry_calls.specs.Running.{IsReply}
 use Rattle.fm_registry_calls.specs.declared.RegistryError.{RegistryError}

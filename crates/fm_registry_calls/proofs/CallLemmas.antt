@@ -4,7 +4,8 @@ use Rattle.fm_registry_calls.specs.Texts.{Text, Path, Labels, has_text}
 use Rattle.fm_registry_calls.specs.Registration.{Registration}
 use Rattle.fm_registry_calls.specs.Book.{Call, Subsystem, Register, Book, children_at, with_more, in_front, book_below}
 use Rattle.fm_registry_calls.specs.Tree.{Tree, Reads, ReadsFrom, find_child, names_in}
-use Rattle.fm_registry_calls.specs.Steps.{with_metric, with_subsystem, added_unless, with_child, with_named}
+use Rattle.fm_registry_calls.specs.Steps.{with_subsystem, added_unless, with_child, with_named}
+use Rattle.fm_registry_calls.specs.inside.Forests.{with_metric}
 use Rattle.fm_registry_calls.specs.Loan.{LoanReads}
 use Rattle.fm_registry_calls.specs.Answer.{Refusal, IsAnswered, refusal_of, metric_refusal, asking_refusal, subsystem_refusal, answer, after, after_if, gained}
 use Rattle.fm_registry_calls.specs.Running.{IsReply}

@@ -3,7 +3,8 @@ use Rattle.std.proofs.Common.{◌≡◌, ℕ, suc, ◌+◌, true, false, None, S
 use Rattle.std.specs.Str.{bytes_eq}
 use Rattle.fm_registry_calls.specs.Texts.{Text}
 use Rattle.fm_registry_calls.specs.Tree.{Forest, Leaf, Child, Tree, find_child}
-use Rattle.fm_registry_calls.specs.Steps.{nth_in, nth_name, with_nth, with_named, place_from, place_in}
+use Rattle.fm_registry_calls.specs.Steps.{with_named}
+use Rattle.fm_registry_calls.specs.inside.Forests.{nth_in, nth_name, with_nth, place_from, place_in}
 use Rattle.fm_registry_calls.proofs.TextLemmas.{same_text}
 
 module _ {M : Type 0} where

@@ -12,7 +12,8 @@ use Rattle.fm_grammar.proofs.Runs.{all_append}
 use Rattle.fm_registry_calls.specs.Texts.{Text, Path, Labels, path_eq, has_text, prefixed_name, printed_name}
 use Rattle.fm_registry_calls.specs.Registration.{Registration, SeenUnit, takes_no_unit, printed_unit}
 use Rattle.fm_registry_calls.specs.Book.{Call, Subsystem, Register, Book, metrics_at, children_at, with_more, book_below}
-use Rattle.fm_registry_calls.specs.Answer.{is_bad_unit, name_refusal}
+use Rattle.fm_registry_calls.specs.Answer.{is_bad_unit}
+use Rattle.fm_registry_calls.specs.inside.Refusals.{name_refusal}
 use Rattle.fm_registry_calls.specs.Accepted.{AreAccepted, IsBook}
 use Rattle.fm_registry_calls.specs.Listing.{Listed, IsListable, listed_with, order}
 use Rattle.fm_registry_calls.proofs.TextLemmas.{bytes_eq-refl}

@@ -7,7 +7,8 @@ use Rattle.std.proofs.lemmas.List.{append_cancel_left, map-append}
 use Rattle.std.proofs.lemmas.Slice.Eq.{starts_is}
 use Rattle.fm_grammar.specs.Names.{AllDifferent}
 use Rattle.fm_grammar.proofs.Runs.{all_append, all_weaker}
-use Rattle.fm_registry_calls.specs.Texts.{Text, Path, Labels, path_eq, has_text, is_once, prefixed_name, suffixed_name, printed_name}
+use Rattle.fm_registry_calls.specs.Texts.{Text, Path, Labels, path_eq, has_text, prefixed_name, suffixed_name, printed_name}
+use Rattle.fm_registry_calls.specs.inside.Once.{is_once}
 use Rattle.fm_registry_calls.specs.Registration.{Registration, printed_unit}
 use Rattle.fm_registry_calls.specs.Book.{Call, Subsystem, Register, Book, metrics_at, children_at, with_more, book_below}
 use Rattle.fm_registry_calls.specs.Taken.{IsBelow, AreApart, AllApart, AreSeparate, tail_of, tails_of, is_below, is_tail_taken, is_child_taken}

@@ -3,9 +3,11 @@ use Rattle.std.proofs.Common.{◌≡◌, ℕ, zero, suc, ◌+◌, ◌≤◌, Boo
 use Rattle.std.specs.Prelude.{flat_map}
 use Rattle.std.specs.List.{AllByRecursion}
 use Rattle.std.specs.Str.{bytes_eq}
-use Rattle.fm_registry_calls.specs.Texts.{Text, Path, has_text, is_once}
+use Rattle.fm_registry_calls.specs.Texts.{Text, Path, has_text}
+use Rattle.fm_registry_calls.specs.inside.Once.{is_once}
 use Rattle.fm_registry_calls.specs.Book.{Call, Subsystem, Register, Book, metrics_at, children_at, calls_below, book_below}
-use Rattle.fm_registry_calls.specs.Tree.{Forest, Leaf, Child, Tree, names_in, find_child, subtree_from, subtree_at, children_of, Shows, ShowsFrom, Reads}
+use Rattle.fm_registry_calls.specs.Tree.{Forest, Leaf, Child, Tree, names_in, find_child, subtree_from, children_of, Shows, ShowsFrom, Reads}
+use Rattle.fm_registry_calls.specs.inside.Forests.{subtree_at}
 use Rattle.fm_registry_calls.specs.Listing.{IsListable, listed_with, own_metrics, listed_forest, listed_tree, order}
 use Rattle.fm_registry_calls.proofs.TextLemmas.{bytes_eq-refl, same_text, both_once}
 use Rattle.fm_registry_calls.proofs.AcceptedLemmas.{is_once-children}

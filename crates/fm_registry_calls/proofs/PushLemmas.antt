@@ -3,7 +3,8 @@ use Rattle.std.proofs.Common.{◌≡◌, ℕ, ◌+◌, true, false, Option, None
 use Rattle.std.specs.Str.{bytes_eq}
 use Rattle.fm_registry_calls.specs.Texts.{Text, Labels}
 use Rattle.fm_registry_calls.specs.Tree.{Facts, Forest, Leaf, Child, Tree, find_child, names_in}
-use Rattle.fm_registry_calls.specs.Steps.{add_child, new_facts, added_unless, with_subsystem, place_from, place_in}
+use Rattle.fm_registry_calls.specs.Steps.{add_child, new_facts, added_unless, with_subsystem}
+use Rattle.fm_registry_calls.specs.inside.Forests.{place_from, place_in}
 use Rattle.fm_registry_calls.proofs.TextLemmas.{bytes_eq-refl}
 use Rattle.fm_registry_calls.proofs.ForestLemmas.{place_in-IsPlace}
 

@@ -5,7 +5,8 @@ use Rattle.fm_registry_calls.specs.Texts.{Path}
 use Rattle.fm_registry_calls.specs.Book.{Book, Call}
 use Rattle.fm_registry_calls.specs.Tree.{Tree, Reads}
 use Rattle.fm_registry_calls.specs.Answer.{Refusal, after, refusal_of}
-use Rattle.fm_registry_calls.specs.Running.{Runs, IsReply, after_reply, path_onto, path_of}
+use Rattle.fm_registry_calls.specs.Running.{Runs, IsReply, after_reply}
+use Rattle.fm_registry_calls.specs.inside.Paths.{path_onto, path_of}
 use Rattle.std.specs.Prelude.{reverse}
 use Rattle.std.proofs.lemmas.List.{reverse-append, length_push}
 use Rattle.fm_registry_calls.specs.declared.RegistryError.{RegistryError}

@@ -2,7 +2,8 @@
 use Rattle.std.proofs.Common.{◌≡◌, Bool, true, false, ◌&&◌, not, List, [], ◌∷◌, ◌++◌, if◌then◌else◌, refl, sym, ap, ◌∙◌, true≢false}
 use Rattle.std.specs.Str.{bytes_eq}
 use Rattle.std.specs.Cmp.Lexicographic.{bytes_decides}
-use Rattle.fm_registry_calls.specs.Texts.{Text, Path, path_eq, has_text, is_once}
+use Rattle.fm_registry_calls.specs.Texts.{Text, Path, path_eq, has_text}
+use Rattle.fm_registry_calls.specs.inside.Once.{is_once}
 
 -- what the test of two texts tells
 pub bytes_eq-refl : (n : Text) → bytes_eq n n ≡ true

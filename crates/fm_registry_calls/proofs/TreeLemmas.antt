@@ -4,8 +4,9 @@ use Rattle.std.specs.Str.{bytes_eq}
 use Rattle.fm_registry_calls.specs.Texts.{Text, Path, Labels, path_eq, has_text, merge_labels, join_name}
 use Rattle.fm_registry_calls.specs.Registration.{Registration}
 use Rattle.fm_registry_calls.specs.Book.{Call, Subsystem, Register, Book, metrics_at, children_at, labels_given, labels_at, namespace_at, with_more, in_front, calls_below, book_below}
-use Rattle.fm_registry_calls.specs.Tree.{Facts, Forest, Leaf, Child, Tree, names_in, find_child, subtree_from, subtree_at, metrics_of, children_of, ShowsFrom, Shows, ReadsFrom, Reads}
-use Rattle.fm_registry_calls.specs.Steps.{with_metric, new_facts, add_child, with_named, with_child}
+use Rattle.fm_registry_calls.specs.Tree.{Facts, Forest, Leaf, Child, Tree, names_in, find_child, subtree_from, metrics_of, children_of, ShowsFrom, Shows, ReadsFrom, Reads}
+use Rattle.fm_registry_calls.specs.inside.Forests.{subtree_at, with_metric}
+use Rattle.fm_registry_calls.specs.Steps.{new_facts, add_child, with_named, with_child}
 use Rattle.fm_registry_calls.specs.Answer.{answer, gained}
 use Rattle.fm_registry_calls.specs.Accepted.{IsBook}
 use Rattle.fm_registry_calls.proofs.TextLemmas.{bytes_eq-refl, same_text, has_text-last}

@@ -2,7 +2,6 @@
 use Rattle.std.specs.Prelude.{◌≡◌, ⊤, ℕ, ◌+◌, Bool, true, false, ◌&&◌, not, List, [], ◌∷◌, ◌++◌, Option, None, Some, Result, Ok, Err, length, if◌then◌else◌, nat_le, is_some, ◌⊎◌}
 use Rattle.std.specs.String.{string_bytes}
 use Rattle.fm_grammar.specs.NameTests.{is_snake_case, is_word, is_label_name}
-use Rattle.fm_grammar.specs.declared.MetricType.{MetricType}
 use Rattle.fm_registry_calls.specs.Texts.{Text, Labels, has_text}
 use Rattle.fm_registry_calls.specs.Registration.{Registration, SeenUnit, takes_no_unit, is_same_metric, text_of_unit}
 use Rattle.fm_registry_calls.specs.Taken.{tail_of, tails_of, is_tail_taken, is_child_taken}
@@ -64,25 +63,11 @@ abbrev pub is_bad_unit : Option SeenUnit → Bool
 is_bad_unit None = false
 is_bad_unit (Some unit) = not (is_word unit.text)
 
--- why a name with a type and a unit is refused, whichever metrics exist
-abbrev pub name_refusal : Text → MetricType → Option SeenUnit → Option Refusal
-name_refusal name metric_type unit =
-    first_of (
-    (not (is_snake_case name), InvalidNameFormat name)
-    ∷ (is_some unit && takes_no_unit metric_type, MustHaveAnEmptyUnitString name)
-    ∷ (is_bad_unit unit, OtherUnitFormatMustBeLowercase (text_of_unit unit))
-    ∷ [])
-
 module _ {M : Type 0} where
   -- whether a metric of the list has this name, type and unit
   abbrev pub has_metric : List (Registration M) → Registration M → Bool
   has_metric [] registration = false
   has_metric (other ∷ others) registration = if is_same_metric registration other then true else has_metric others registration
-
-  -- why the existing metrics and subsystems refuse a registration
-  abbrev pub standing_refusal : List (Registration M) → List Text → Registration M → Option Refusal
-  standing_refusal there children registration =
-      first_of ((has_metric there registration, AlreadyExists registration.name) ∷ (is_tail_taken (tails_of there) children (tail_of registration), NameTaken registration.name) ∷ [])
 
   -- why a registry with these metrics and subsystems refuses a registration
   abbrev pub metric_refusal : List (Registration M) → List Text → Registration M → Option Refusal

@@ -1,20 +1,8 @@
 -- What it means that calls made in turn got these replies.
-use Rattle.std.specs.Prelude.{◌≡◌, List, [], ◌∷◌, Option, None, Some, String}
-use Rattle.std.specs.declared.alloc.Global.{Global}
-use Rattle.std.specs.String.{string_bytes}
-use Rattle.fm_registry_calls.specs.Texts.{Path}
+use Rattle.std.specs.Prelude.{◌≡◌, List, [], ◌∷◌, Option, None, Some}
 use Rattle.fm_registry_calls.specs.Book.{Book, Call}
 use Rattle.fm_registry_calls.specs.Tree.{Tree, Reads}
 use Rattle.fm_registry_calls.specs.Answer.{Refusal, IsAnswered, answer, gained, after}
-
--- a path with more names in front, the last of them first
-abbrev pub path_onto : List (String Global) → Path → Path
-path_onto [] path = path
-path_onto (name ∷ names) path = path_onto names (string_bytes name ∷ path)
-
--- the path with the names in reverse order
-abbrev pub path_of : List (String Global) → Path
-path_of names = path_onto names []
 
 module _ {M : Type 0} where
   -- a call got the reply of the book, or there was no memory and the call may need some; a call that adds nothing to

@@ -29,15 +29,6 @@ module _ {M : Type 0} where
   names_in Leaf = []
   names_in (Child name facts below rest) = name ∷ names_in rest
 
-  -- the number of registries
-  abbrev pub forest_size : Forest M → ℕ
-  forest_size Leaf = 0
-  forest_size (Child name facts below rest) = forest_size below + 1 + forest_size rest
-
-  -- the number of registries, with the root
-  abbrev pub tree_size : Tree M → ℕ
-  tree_size t = forest_size t.children + 1
-
   -- the registry with this name
   abbrev pub find_child : Forest M → Text → Option (Tree M)
   find_child Leaf wanted = None
@@ -48,10 +39,6 @@ module _ {M : Type 0} where
   subtree_from None path = None
   subtree_from (Some t) [] = Some t
   subtree_from (Some t) (name ∷ path) = subtree_from (find_child t.children name) path
-
-  -- the registry at a path
-  abbrev pub subtree_at : Tree M → Path → Option (Tree M)
-  subtree_at t path = subtree_from (Some t) path
 
   -- the metrics of a registry, or none if there is no registry
   abbrev pub metrics_of : Option (Tree M) → List (Registration M)

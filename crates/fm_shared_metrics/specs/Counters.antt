@@ -5,9 +5,9 @@ use Rattle.std.specs.declared.time.Duration.{Duration}
 use Rattle.fm_shared_metrics.specs.declared.counter.Counter.{Counter}
 
 -- the time of creation that the clones of a counter share; W is the type of the atomic that contains its total
-abbrev pub created_of : {N W : Type 0} → Counter N W → Option Duration
-created_of counter = (arc_value counter.count).created
+abbrev pub counter_created : {N W : Type 0} → Counter N W → Option Duration
+counter_created counter = (arc_value counter.count).created
 
 -- the atomic that contains a counter's total, which its clones share
-abbrev pub total_of : {N W : Type 0} → Counter N W → W
-total_of counter = (arc_value counter.count).total
+abbrev pub counter_total : {N W : Type 0} → Counter N W → W
+counter_total counter = (arc_value counter.count).total

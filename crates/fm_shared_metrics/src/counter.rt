@@ -6,7 +6,7 @@ ghost use Rattle.fm_grammar.specs.declared.MetricType.TheVariants.{Counter as Co
 ghost use Rattle.fm_raw.specs.declared.error.MetricError.TheVariants.{Memory, NegativeIncrement, LessThanBefore};
 ghost use Rattle.fm_encoder.specs.Points.{CounterPoint, millis};
 ghost use Rattle.fm_shared_metrics.specs.NumberOrder.{IsLess};
-ghost use Rattle.fm_shared_metrics.specs.Counters.{created_of, total_of};
+ghost use Rattle.fm_shared_metrics.specs.Counters.{counter_created, counter_total};
 
 use fm_atomic::{Atomic, CounterValue};
 use fm_encode_error::EncodeError;
@@ -37,7 +37,7 @@ impl<N: CounterValue> Counter<N> {
     /// A counter with the total 0, created at this time since the Unix epoch. It is written in whole milliseconds.
     /// Fails with `Memory` if memory runs out.
     pub fn with_created(alloc: Global, created: Duration) -> Result<Counter<N>, MetricError>
-        ensures created { IfOk result (λ c. created_of c ≡ Some created) }
+        ensures created { IfOk result (λ c. counter_created c ≡ Some created) }
         ensures memory { IfErr result (λ e. e ≡ Memory) }
     {
         let total = N::Atomic::default();
@@ -71,7 +71,7 @@ impl<N: CounterValue> Counter<N> {
     /// it.
     pub fn set(&self, v: N) -> Result<(), MetricError>
         ensures raised { (before : N) × N.in_range before
-            × N.Atomic.Atomic.raises (total_of self.now) v before
+            × N.Atomic.Atomic.raises (counter_total self.now) v before
             × MatchResult result
             (λ _. ¬ (IsLess N.partial_cmp v before))
             (λ e. (e ≡ LessThanBefore) × IsLess N.partial_cmp v before) }
@@ -92,7 +92,7 @@ impl<N: CounterValue> Counter<N> {
 
     /// When the counter was created, since the Unix epoch, if it is known.
     pub fn created(&self) -> Option<Duration>
-        ensures { result ≡ created_of self.now }
+        ensures { result ≡ counter_created self.now }
     {
         self.count.created
     }
@@ -100,7 +100,7 @@ impl<N: CounterValue> Counter<N> {
 
 /// A counter with the total 0 and no time of creation.
 impl<N: CounterValue, H: Wait + Drop> TryDefault<H> for Counter<N> {
-    ghost is_default = { λ c. created_of c ≡ None };
+    ghost is_default = { λ c. counter_created c ≡ None };
 
     fn try_default(_wait: H, alloc: Global) -> Result<Counter<N>, MetricError> {
         let total = N::Atomic::default();
@@ -140,7 +140,7 @@ impl<N: CounterValue> TypedMetric for Counter<N> {
 impl<N: CounterValue + EncodeCounterValue> EncodePoint for Counter<N> {
     ghost points = { λ c ps. (total : N)
         × N.in_range total
-        × (ps ≡ CounterPoint (N.numbers total) [] (option_map millis (created_of c)) ∷ []) };
+        × (ps ≡ CounterPoint (N.numbers total) [] (option_map millis (counter_created c)) ∷ []) };
 
     ghost may_fault = { λ _. (total : N) × N.in_range total × N.may_fault total };
 
@@ -153,9 +153,9 @@ impl<N: CounterValue + EncodeCounterValue> EncodePoint for Counter<N> {
 impl<N: CounterValue + EncodeCounterValue> EncodeMetric for Counter<N> {
     ghost types = { λ _ t. t ≡ CounterType };
 
-    ghost offers = { λ c ms. (total : N) × N.in_range total × (ms ≡ record {
+    ghost offers = { λ c _ ms. (total : N) × N.in_range total × (ms ≡ record {
       labels = [];
-      point = CounterPoint (N.numbers total) [] (option_map millis (created_of c));
+      point = CounterPoint (N.numbers total) [] (option_map millis (counter_created c));
     } ∷ []) };
 
     ghost may_fault = { λ _. (total : N) × N.in_range total × N.may_fault total };

@@ -122,7 +122,7 @@ impl<N: GaugeValue + EncodeGaugeValue> EncodePoint for Gauge<N> {
 impl<N: GaugeValue + EncodeGaugeValue> EncodeMetric for Gauge<N> {
     ghost types = { λ _ t. t ≡ GaugeType };
 
-    ghost offers = { λ _ ms. (value : N)
+    ghost offers = { λ _ _ ms. (value : N)
         × N.in_range value
         × (ms ≡ record { labels = []; point = GaugePoint (N.numbers value) } ∷ []) };
 

@@ -219,7 +219,7 @@ impl<T: StateSetValue + 'static> EncodePoint for StateSet<T> {
 impl<T: StateSetValue + 'static> EncodeMetric for StateSet<T> {
     ghost types = { λ _ t. t ≡ StateSetType };
 
-    ghost offers = { λ _ ms. (current : T) × IsVariant T.eq T.all current × (ms ≡ record {
+    ghost offers = { λ _ _ ms. (current : T) × IsVariant T.eq T.all current × (ms ≡ record {
       labels = [];
       point = StateSetPoint (states_at T.eq T.all T.text current);
     } ∷ []) };
@@ -331,7 +331,7 @@ impl<T: StateSetValue + 'static> EncodePoint for ConstStateSet<T> {
 impl<T: StateSetValue + 'static> EncodeMetric for ConstStateSet<T> {
     ghost types = { λ _ t. t ≡ StateSetType };
 
-    ghost offers = { λ s ms. ms ≡ record {
+    ghost offers = { λ s _ ms. ms ≡ record {
       labels = [];
       point = StateSetPoint (states_at T.eq T.all T.text s.state);
     } ∷ [] };

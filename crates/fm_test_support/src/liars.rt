@@ -18,7 +18,7 @@ pub struct Forgetful<LS> {
 }
 
 impl<LS: EncodeLabelSet + Send + Sync + Drop> EncodeMetric for Forgetful<LS> {
-    ghost offers = { λ m. Joined
+    ghost offers = { λ m _. Joined
         (MembersOf (LS.labels m.labels) (λ ps. ps ≡ GaugePoint (Whole (pos 5) ∷ []) ∷ []))
         (MembersOf [] (λ ps. ps ≡ GaugePoint (Whole (pos 5) ∷ []) ∷ [])) };
 
@@ -44,7 +44,7 @@ impl<LS: EncodeLabelSet + Send + Sync + Drop> EncodeMetric for Forgetful<LS> {
 pub struct Failing(pub EncodeError);
 
 impl EncodeMetric for Failing {
-    ghost offers = { λ _ ms. ms ≡ [] };
+    ghost offers = { λ _ _ ms. ms ≡ [] };
 
     ghost may_fault = { λ _. Unit {0} };
 
@@ -82,7 +82,7 @@ impl Fickle {
 }
 
 impl EncodeMetric for Fickle {
-    ghost offers = { λ _. MembersOf [] (λ ps. ps ≡ GaugePoint (Whole (pos 5) ∷ []) ∷ []) };
+    ghost offers = { λ _ _. MembersOf [] (λ ps. ps ≡ GaugePoint (Whole (pos 5) ∷ []) ∷ []) };
 
     fn encode(&self, encoder: &mut MetricEncoder) -> Result<(), EncodeError> {
         encoder.encode(&(), &ConstGauge::new(5i64))

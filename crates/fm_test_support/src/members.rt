@@ -35,7 +35,7 @@ impl<LS: EncodeLabelSet + Send + Sync + Drop, P: EncodePoint + Send + Sync + Dro
 
     ghost stamps = { λ m stamp. stamp ≡ option_map millis m.time };
 
-    ghost offers = { λ m ms. MembersOf (LS.labels m.labels) (P.points m.point) ms };
+    ghost offers = { λ m _ ms. MembersOf (LS.labels m.labels) (P.points m.point) ms };
 
     ghost may_fault = { λ m. LS.may_fault m.labels ⊎ P.may_fault m.point };
 

@@ -39,7 +39,7 @@ impl StateSetValue for Job {
 pub struct Silent;
 
 impl EncodeMetric for Silent {
-    ghost offers = { λ _ ms. ms ≡ [] };
+    ghost offers = { λ _ _ ms. ms ≡ [] };
 
     fn encode(&self, encoder: &mut MetricEncoder) -> Result<(), EncodeError> {
         let _encoder = encoder;

@@ -1,7 +1,7 @@
 //! Families by their documents: members, labels that are left out, histograms, clones and threads.
-use fastmetrics::encoder::EncodeMetric;
+use fastmetrics::encoder::{EncodeMetric, StaticStr};
 use fastmetrics::metrics::counter::{ConstCounter, Counter};
-use fastmetrics::metrics::family::{DefaultFactory, Family};
+use fastmetrics::metrics::family::{DefaultFactory, Family, PairFamily, with_pairs};
 use fastmetrics::metrics::gauge::{ConstGauge, Gauge};
 use fastmetrics::metrics::histogram::Histogram;
 use fastmetrics::metrics::info::Info;
@@ -244,6 +244,19 @@ fn counters_by_labels(rt: HostRuntime) -> Result<(), Fail> {
         rt.alloc(),
         Box::new(rt.alloc(), replies)?,
         "# TYPE m counter\n# HELP m H\nm_total{error=\"true\"} 1\n# EOF\n",
+    )
+}
+
+#[test]
+fn names_that_other_types_reserve(rt: HostRuntime) -> Result<(), Fail> {
+    let counters = PairFamily::<u8, Counter, HostRuntime, 1>::try_default(rt, rt.alloc())?;
+    for name in ["le", "quantile"] {
+        with_pairs(&counters, &[(StaticStr(name), 1)], |count| count.inc())?;
+    }
+    expect_twice(
+        rt.alloc(),
+        Box::new(rt.alloc(), counters)?,
+        "# TYPE m counter\n# HELP m H\nm_total{le=\"1\"} 1\nm_total{quantile=\"1\"} 1\n# EOF\n",
     )
 }
 

@@ -53,7 +53,7 @@ impl EncodePoint for OwnBuckets {
 impl EncodeMetric for OwnBuckets {
     ghost types = { λ b t. t ≡ b.metric_type };
 
-    ghost offers = { λ b ms. ms ≡ record {
+    ghost offers = { λ b _ ms. ms ≡ record {
       labels = (NamePiece (string_bytes b.label) ∷ ValuePiece (decimal 3) ∷ []) ∷ [];
       point = own_point b;
     } ∷ [] };

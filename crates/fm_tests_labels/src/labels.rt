@@ -279,7 +279,7 @@ struct LentAndOwned {
 }
 
 impl EncodeMetric for LentAndOwned {
-    ghost offers = { λ _ _. Unit {0} };
+    ghost offers = { λ _ _ _. Unit {0} };
 
     ghost may_fault = { λ _. Unit {0} };
 

@@ -6,4 +6,6 @@ mod documents;
 #[cfg(test)]
 mod metrics;
 #[cfg(test)]
+mod readings;
+#[cfg(test)]
 mod refusals;

@@ -83,7 +83,7 @@ struct Locked<H: Wait + Drop> {
 }
 
 impl<H: Wait + Send + Sync + Drop> EncodeMetric for Locked<H> {
-    ghost offers = { λ _ ms.
+    ghost offers = { λ _ _ ms.
         (value : _) × MembersOf [] (λ ps. ps ≡ GaugePoint (Whole value ∷ []) ∷ []) ms };
 
     fn encode(&self, encoder: &mut MetricEncoder) -> Result<(), EncodeError> {

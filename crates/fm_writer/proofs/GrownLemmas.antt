@@ -6,7 +6,7 @@ use Rattle.std.specs.List.{flat_map}
 use Rattle.std.proofs.Math.ListN.{drop_of_length-le, get_or-map}
 use Rattle.fm_grammar.specs.Exposition.{Text, Label}
 use Rattle.fm_grammar.specs.Spelling.{label_text, label_list_text, label_block_text, in_braces}
-use Rattle.fm_exposition.specs.Rows.{further_labels}
+use Rattle.fm_exposition.specs.inside.DocumentRows.{further_labels}
 use Rattle.fm_exposition.proofs.RowLemmas.{label_list_is, list_joined}
 use Rattle.fm_writer.specs.inside.Grown.{Grown, Grows, IsLeft, IsLeftOf, size_of}
 

@@ -21,7 +21,8 @@ use Rattle.fm_grammar.proofs.NumberTexts.{IsUnsignedByte, IsNumberByte, millis_b
 use Rattle.fm_grammar.proofs.Runs.{all_append}
 use Rattle.fm_grammar.proofs.Values.{value_bytes}
 use Rattle.fm_grammar.proofs.Words.{IsWordByte, suffix_bytes, type_word_bytes}
-use Rattle.fm_exposition.specs.Rows.{sample_rows, unit_row, head_rows, family_rows, families_rows, document_rows}
+use Rattle.fm_exposition.specs.Rows.{sample_rows, unit_row, head_rows}
+use Rattle.fm_exposition.specs.inside.DocumentRows.{family_rows, families_rows, document_rows}
 use Rattle.fm_exposition.specs.Samples.{labels_of, exemplar_of, common_labels, own_labels, samples_of}
 use Rattle.fm_exposition.specs.declared.exposition.Exemplar.{Exemplar as KeptExemplar}
 use Rattle.fm_exposition.specs.declared.exposition.Sample.{Sample as KeptSample}

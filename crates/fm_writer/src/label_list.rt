@@ -2,7 +2,7 @@
 ghost use Rattle.std.specs.Prelude.{◌++◌, OnOk};
 ghost use Rattle.std.specs.List.{AllByRecursion};
 ghost use Rattle.fm_grammar.specs.Spelling.{label_text, label_list_text};
-ghost use Rattle.fm_exposition.specs.Rows.{further_label, further_labels};
+ghost use Rattle.fm_exposition.specs.inside.DocumentRows.{further_label, further_labels};
 ghost use Rattle.fm_writer.specs.inside.Grown.{Grows};
 ghost use Rattle.fm_writer.specs.inside.LabelTexts.{label_in, labels_in, IsPlace};
 

@@ -59,7 +59,7 @@ pub struct Waiting {
 impl EncodeMetric for Waiting {
     ghost types = { λ _ t. t ≡ Gauge };
 
-    ghost offers = { λ w ms. ms ≡ record {
+    ghost offers = { λ w _ ms. ms ≡ record {
       labels = ⟦<Queue as EncodeLabelSet>⟧.labels w.queue;
       point = GaugePoint (Whole (pos w.requests) ∷ []);
     } ∷ [] };

@@ -23,7 +23,7 @@ pub struct Answered<LS> {
 impl<LS: EncodeLabelSet + Send + Sync + Drop> EncodeMetric for Answered<LS> {
     ghost types = { λ _ t. t ≡ Counter };
 
-    ghost offers = { λ a ms. ms ≡ record {
+    ghost offers = { λ a _ ms. ms ≡ record {
       labels = [];
       point = CounterPoint (Whole (pos a.requests) ∷ [])
           (record {

@@ -27,7 +27,7 @@ pub struct Durations<LS> {
 impl<LS: EncodeLabelSet + Send + Sync + Drop> EncodeMetric for Durations<LS> {
     ghost types = { λ _ t. t ≡ Histogram };
 
-    ghost offers = { λ d ms. ms ≡ record {
+    ghost offers = { λ d _ ms. ms ≡ record {
       labels = [];
       point = HistogramPoint d.buckets
           ((record {

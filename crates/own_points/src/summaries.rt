@@ -22,7 +22,7 @@ pub struct Latencies {
 impl EncodeMetric for Latencies {
     ghost types = { λ _ t. t ≡ Summary };
 
-    ghost offers = { λ l ms. ms ≡ record {
+    ghost offers = { λ l _ ms. ms ≡ record {
       labels = [];
       point = SummaryPoint l.quantiles.items l.seconds l.requests None;
     } ∷ [] };

@@ -3,7 +3,8 @@ use Rattle.std.specs.Prelude.{◌≡◌, ℕ, List, [], ◌++◌, Option, None, 
 use Rattle.fm_grammar.specs.Exposition.{Text, Family, Exposition}
 use Rattle.fm_grammar.specs.WellFormed.{IsFamily}
 use Rattle.fm_grammar.specs.Reading.{IsExposition}
-use Rattle.fm_exposition.specs.Rows.{head_rows, family_rows, families_rows}
+use Rattle.fm_exposition.specs.Rows.{head_rows}
+use Rattle.fm_exposition.specs.inside.DocumentRows.{family_rows, families_rows}
 use Rattle.fm_registry_calls.specs.Registration.{printed_unit}
 use Rattle.fm_registry_calls.specs.Listing.{Listed, listed_name}
 use Rattle.fm_writer.specs.Output.{Output, OutputSamples, OutputText}
@@ -28,7 +29,7 @@ pub record HasLines (encoder : GatheredMembers) : Type 0 where
   pub text : encoder.output ≡ OutputText (text_in encoder.output)
   pub accepting : encoder.refused ≡ None
 
-module _ {M : Type 0} (Offers : M → List Member → Type 0) (Stamps : M → Option ℕ → Type 0) (Empty : M → Type 0) where
+module _ {M : Type 0} (Offers : M → Option ℕ → List Member → Type 0) (Stamps : M → Option ℕ → Type 0) (Empty : M → Type 0) where
   -- one listed metric more: it may be empty and adds nothing, or adds the lines of its family, which is well formed
   abbrev pub AddsNextRows : Listed M → Text → Text → Type 0
   AddsNextRows listed old new =
@@ -43,5 +44,5 @@ module _ {M : Type 0} (Offers : M → List Member → Type 0) (Stamps : M → Op
     pub rows : text ≡ families_rows exposition
 
 -- what one metric adds under a heading
-abbrev pub AddsRows : (List Member → Type 0) → (Option ℕ → Type 0) → Type 0 → Heading → Text → Text → Type 0
+abbrev pub AddsRows : (Option ℕ → List Member → Type 0) → (Option ℕ → Type 0) → Type 0 → Heading → Text → Text → Type 0
 AddsRows Offers Stamps MayBeEmpty = AddsNextRows (λ _. Offers) (λ _. Stamps) (λ _. MayBeEmpty)

@@ -3,14 +3,15 @@ use Rattle.std.specs.Prelude.{◌≡◌, ◌≤◌, List, [], ◌∷◌, ◌++�
 use Rattle.std.specs.List.{AllByRecursion}
 use Rattle.fm_grammar.specs.declared.MetricType.{MetricType}
 use Rattle.fm_grammar.specs.declared.SampleKind.{SampleKind}
-use Rattle.fm_grammar.specs.Exposition.{Value, Whole, Fixed, Millis, Exemplar, Sample}
+use Rattle.fm_grammar.specs.Exposition.{Value, Whole, Fixed, Millis, Exemplar, Sample, Text}
 use Rattle.fm_grammar.specs.WellFormed.{ValueFits, ValueSuits, kinds_of, ExemplarAllowed, IsExemplar, IsSample}
 use Rattle.fm_encode_error.specs.declared.EncodeError.{EncodeError}
 use Rattle.fm_encode_error.specs.declared.EncodeError.TheVariants.{Memory, DuplicateLabel, MalformedLabel, ValueTwice, MissingValue, KindMismatch}
 use Rattle.fm_writer.specs.Output.{appended}
-use Rattle.fm_encoder.specs.Labels.{HandedLabel, label_names, LabelsFault, LabelsClean, LabelClean, IsMalformed, written, all_written}
+use Rattle.fm_encoder.specs.Labels.{HandedLabel, label_names, LabelsFault, LabelsClean, LabelClean, IsMalformed, written, all_written, NamePiece, ValuePiece}
 use Rattle.fm_encoder.specs.Gathered.{GatheredPieces, GatheredPoints, own_refusal, OwnRefusal}
 use Rattle.fm_encoder.specs.Hands.{SamePlace}
+use Rattle.std.specs.Option.{option_to_list, option_map}
 
 -- The end of a label, after its source returned `visited`: a whole label is written, an own error is
 -- refused, and so is a malformed label.
@@ -90,3 +91,7 @@ pub record EndsPoints (visited : Result (Unit {0}) EncodeError) (old new : Gathe
   pub visited_ok : old.refused ≡ None → new.refused ≡ None → visited ≡ Ok tt
   pub own : (e : EncodeError) → old.refused ≡ None → visited ≡ Err e → new.refused ≡ Some (own_refusal e)
   pub ok : old.refused ≡ None → visited ≡ Ok tt → new.refused ≡ None
+
+-- the pieces of the current label, which has this name and this value
+abbrev pub pieces_of : Option Text → Option Text → HandedLabel
+pieces_of name text = option_to_list (option_map NamePiece name) ++ option_to_list (option_map ValuePiece text)

@@ -3,8 +3,7 @@ ghost use Rattle.std.specs.Prelude.{◌≡◌, [], ◌∷◌};
 ghost use Rattle.std.specs.Option.{option_map};
 ghost use Rattle.fm_encoder.specs.Points.{HistogramPoint, GaugeHistogramPoint, millis};
 ghost use Rattle.fm_encoder.specs.Buckets.{slots_of, MaySlotsFault};
-ghost use Rattle.fm_encoder.specs.Gathered.{result_of};
-ghost use Rattle.fm_encoder.specs.Hands.{HandsMembers};
+ghost use Rattle.fm_encoder.specs.Takes.{TakesMembers};
 
 use crate::exemplar::EncodeExemplar;
 use crate::metric::MetricEncoder;
@@ -73,12 +72,11 @@ impl MetricEncoder {
         sum: FixedSum,
         created: Option<Duration>,
     ) -> Result<(), EncodeError>
-        ensures handed { HandsMembers (λ ms. ms ≡ record {
+        ensures { TakesMembers (λ ms. ms ≡ record {
           labels = [];
           point = HistogramPoint buckets.now (slots_of E.exemplars exemplars.now) count sum
               (option_map millis created);
         } ∷ []) (MaySlotsFault E.may_fault exemplars.now) self.old self.new result }
-        ensures answered { result ≡ result_of self.new.refused }
     {
         let parts = HistogramParts {
             buckets,
@@ -97,11 +95,10 @@ impl MetricEncoder {
         count: u64,
         sum: FixedSum,
     ) -> Result<(), EncodeError>
-        ensures handed { HandsMembers (λ ms. ms ≡ record {
+        ensures { TakesMembers (λ ms. ms ≡ record {
           labels = [];
           point = GaugeHistogramPoint buckets.now (slots_of E.exemplars exemplars.now) count sum;
         } ∷ []) (MaySlotsFault E.may_fault exemplars.now) self.old self.new result }
-        ensures answered { result ≡ result_of self.new.refused }
     {
         let parts = GaugeHistogramParts {
             buckets,

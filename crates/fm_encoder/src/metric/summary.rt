@@ -2,8 +2,7 @@
 ghost use Rattle.std.specs.Prelude.{◌≡◌, [], ◌∷◌};
 ghost use Rattle.std.specs.Option.{option_map};
 ghost use Rattle.fm_encoder.specs.Points.{SummaryPoint, millis};
-ghost use Rattle.fm_encoder.specs.Gathered.{result_of};
-ghost use Rattle.fm_encoder.specs.Hands.{HandsMembers};
+ghost use Rattle.fm_encoder.specs.Takes.{TakesMembers};
 
 use crate::metric::MetricEncoder;
 use crate::point::{EncodePoint, PointEncoder};
@@ -39,11 +38,10 @@ impl MetricEncoder {
         count: u64,
         created: Option<Duration>,
     ) -> Result<(), EncodeError>
-        ensures handed { HandsMembers (λ ms. ms ≡ record {
+        ensures { TakesMembers (λ ms. ms ≡ record {
           labels = [];
           point = SummaryPoint quantiles.now sum count (option_map millis created);
         } ∷ []) ⊥ self.old self.new result }
-        ensures answered { result ≡ result_of self.new.refused }
     {
         let parts = SummaryParts {
             quantiles,

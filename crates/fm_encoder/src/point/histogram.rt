@@ -7,10 +7,10 @@ ghost use Rattle.fm_grammar.specs.Exposition.{Whole};
 ghost use Rattle.fm_grammar.specs.declared.SampleKind.TheVariants.{Bucket as BucketKind};
 ghost use Rattle.fm_exposition.specs.Samples.{exemplar_of};
 ghost use Rattle.fm_encoder.specs.Points.{HistogramPoint, GaugeHistogramPoint, millis, plain_sample, bound_label};
-ghost use Rattle.fm_encoder.specs.Gathered.{result_of};
-ghost use Rattle.fm_encoder.specs.Hands.{HandsPoints};
+ghost use Rattle.fm_encoder.specs.Takes.{Takes, TakesPoints};
 ghost use Rattle.fm_encoder.specs.inside.Steps.{PushesSample};
-ghost use Rattle.fm_encoder.specs.Buckets.{HasBuckets, slots_of, MaySlotsFault, BeginsBuckets, PushesBucket, PushesBuckets};
+ghost use Rattle.fm_encoder.specs.Buckets.{slots_of, MaySlotsFault};
+ghost use Rattle.fm_encoder.specs.inside.BucketSteps.{HasBuckets, BeginsBuckets, PushesBucket, PushesBuckets};
 
 use crate::exemplar::{EncodeExemplar, exemplar_if_any};
 use crate::point::bound_label::kept_label;
@@ -40,11 +40,10 @@ impl PointEncoder {
         sum: FixedSum,
         created: Option<Duration>,
     ) -> Result<(), EncodeError>
-        ensures handed { HandsPoints
+        ensures { TakesPoints
             (λ ps. ps ≡ HistogramPoint buckets.now (slots_of E.exemplars exemplars.now) count sum
             (option_map millis created) ∷ [])
             (MaySlotsFault E.may_fault exemplars.now) self.old self.new result }
-        ensures answered { result ≡ result_of self.new.refused }
     {
         self.begin_buckets(MetricType::Histogram, buckets.len(), exemplars.len())?;
         self.push_buckets(buckets, exemplars)?;
@@ -60,11 +59,10 @@ impl PointEncoder {
         count: u64,
         sum: FixedSum,
     ) -> Result<(), EncodeError>
-        ensures handed { HandsPoints
+        ensures { TakesPoints
             (λ ps. ps
             ≡ GaugeHistogramPoint buckets.now (slots_of E.exemplars exemplars.now) count sum ∷ [])
             (MaySlotsFault E.may_fault exemplars.now) self.old self.new result }
-        ensures answered { result ≡ result_of self.new.refused }
     {
         self.begin_buckets(MetricType::GaugeHistogram, buckets.len(), exemplars.len())?;
         self.push_buckets(buckets, exemplars)?;
@@ -78,8 +76,7 @@ impl PointEncoder {
         buckets: usize,
         slots: usize,
     ) -> Result<(), EncodeError>
-        ensures begun { BeginsBuckets metric_type buckets slots self.old self.new }
-        ensures answered { result ≡ result_of self.new.refused }
+        ensures { Takes (BeginsBuckets metric_type buckets slots self.old self.new) self.new.refused result }
     {
         if self.refused.is_none() && metric_type == self.labels.metric_type() && buckets != slots {
             return self.refuse(EncodeError::ExemplarCountMismatch);
@@ -96,11 +93,10 @@ impl PointEncoder {
         requires accepting { self.old.refused ≡ None }
         requires buckets { HasBuckets self.old.setting.metric_type }
         requires slots { length exemplars.now ≡ length buckets.now }
-        ensures pushed { PushesBuckets buckets.now
+        ensures { Takes (PushesBuckets buckets.now
             (slots_of E.exemplars exemplars.now)
             (MaySlotsFault E.may_fault exemplars.now)
-            self.old self.new }
-        ensures answered { result ≡ result_of self.new.refused }
+            self.old self.new) self.new.refused result }
     {
         let mut values = 0;
         for i in 0..buckets.len() {
@@ -150,12 +146,11 @@ impl PointEncoder {
         requires accepting { self.old.refused ≡ None }
         requires buckets { HasBuckets self.old.setting.metric_type }
         requires exemplar { IfSome exemplar (λ x. IsExemplar (exemplar_of x)) }
-        ensures pushed { PushesSample
+        ensures { Takes (PushesSample
             (record (plain_sample self.old.setting self.old.common BucketKind
             (bound_label bucket.now.upper_bound ∷ []) (Whole (pos values)))
             { exemplar = option_map exemplar_of exemplar })
-            self.old self.new }
-        ensures answered { result ≡ result_of self.new.refused }
+            self.old self.new) self.new.refused result }
     {
         let Ok(own) = kept_label(self.alloc, &mut self.bounds, index, bucket) else {
             return self.refuse(EncodeError::Memory);

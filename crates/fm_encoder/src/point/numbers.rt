@@ -6,8 +6,7 @@ ghost use Rattle.fm_grammar.specs.declared.SampleKind.TheVariants.{Total as Tota
 ghost use Rattle.fm_grammar.specs.WellFormed.{kinds_of};
 ghost use Rattle.fm_exposition.specs.Samples.{value_of, exemplar_of};
 ghost use Rattle.fm_encoder.specs.Points.{UnknownPoint, GaugePoint, CounterPoint, plain_sample, created_samples, millis};
-ghost use Rattle.fm_encoder.specs.Gathered.{result_of};
-ghost use Rattle.fm_encoder.specs.Hands.{HandsPoints};
+ghost use Rattle.fm_encoder.specs.Takes.{Takes, TakesPoints};
 ghost use Rattle.fm_encoder.specs.inside.Steps.{FitsType, PushesSamples};
 
 use crate::exemplar::{EncodeExemplar, exemplar_if_any};
@@ -25,10 +24,9 @@ impl PointEncoder {
     /// Takes an unknown metric's point. Errors, in this order: the family has another type (`KindMismatch`); the errors of the
     /// labels; the value emits no number (`MissingValue`) or several (`ValueTwice`). Fails with `Memory` if memory runs out.
     pub fn encode_unknown<V: EncodeUnknownValue>(&mut self, value: &V) -> Result<(), EncodeError>
-        ensures handed { HandsPoints
+        ensures { TakesPoints
             (λ ps. ps ≡ UnknownPoint (V.numbers value.now) ∷ [])
             (V.may_fault value.now) self.old self.new result }
-        ensures answered { result ≡ result_of self.new.refused }
     {
         self.begin_point(MetricType::Unknown)?;
         match unknown_number(value) {
@@ -39,10 +37,9 @@ impl PointEncoder {
 
     /// Takes a gauge's point. It fails as `encode_unknown` does.
     pub fn encode_gauge<V: EncodeGaugeValue>(&mut self, value: &V) -> Result<(), EncodeError>
-        ensures handed { HandsPoints
+        ensures { TakesPoints
             (λ ps. ps ≡ GaugePoint (V.numbers value.now) ∷ [])
             (V.may_fault value.now) self.old self.new result }
-        ensures answered { result ≡ result_of self.new.refused }
     {
         self.begin_point(MetricType::Gauge)?;
         match gauge_number(value) {
@@ -59,13 +56,12 @@ impl PointEncoder {
         exemplar: Option<&E>,
         created: Option<Duration>,
     ) -> Result<(), EncodeError>
-        ensures handed { HandsPoints
+        ensures { TakesPoints
             (λ ps. ps ≡ CounterPoint (V.numbers total.now)
             (option_map_or (λ e. E.exemplars e.now) exemplar.entry [])
             (option_map millis created) ∷ [])
             (V.may_fault total.now ⊎ MatchOption exemplar.entry ⊥ (λ e. E.may_fault e.now))
             self.old self.new result }
-        ensures answered { result ≡ result_of self.new.refused }
     {
         self.begin_point(MetricType::Counter)?;
         let number = match counter_number(total) {
@@ -90,12 +86,11 @@ impl PointEncoder {
         requires counter { self.old.setting.metric_type ≡ MetricType.Counter }
         requires fits { FitsType self.old.setting.metric_type TotalKind
             (value_of number) (option_map exemplar_of exemplar) }
-        ensures pushed { PushesSamples
+        ensures { Takes (PushesSamples
             (record (plain_sample self.old.setting self.old.common TotalKind [] (value_of number))
             { exemplar = option_map exemplar_of exemplar }
             ∷ created_samples self.old.setting self.old.common (option_map millis created))
-            self.old self.new }
-        ensures answered { result ≡ result_of self.new.refused }
+            self.old self.new) self.new.refused result }
     {
         self.push_sample(SampleKind::Total, &number, exemplar)?;
         self.push_created(created)
@@ -105,10 +100,9 @@ impl PointEncoder {
     pub(crate) fn push_created(&mut self, created: Option<Duration>) -> Result<(), EncodeError>
         requires accepting { self.old.refused ≡ None }
         requires kind { Contains (kinds_of self.old.setting.metric_type) CreatedKind }
-        ensures pushed { PushesSamples
+        ensures { Takes (PushesSamples
             (created_samples self.old.setting self.old.common (option_map millis created))
-            self.old self.new }
-        ensures answered { result ≡ result_of self.new.refused }
+            self.old self.new) self.new.refused result }
     {
         match created {
             Some(time) => self.push_sample(

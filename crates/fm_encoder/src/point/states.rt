@@ -4,8 +4,7 @@ ghost use Rattle.fm_grammar.specs.declared.MetricType.{MetricType};
 ghost use Rattle.fm_encoder.specs.Points.{StateSetPoint, InfoPoint, state_sample};
 ghost use Rattle.fm_encoder.specs.Labels.{label_names};
 ghost use Rattle.fm_encoder.specs.States.{state_of};
-ghost use Rattle.fm_encoder.specs.Gathered.{result_of};
-ghost use Rattle.fm_encoder.specs.Hands.{HandsPoints};
+ghost use Rattle.fm_encoder.specs.Takes.{Takes, TakesPoints};
 ghost use Rattle.fm_encoder.specs.inside.Steps.{PushesSample, PushesSamples, TestsStates};
 
 use crate::gathered::{labels_behind, labels_from, push_label};
@@ -23,19 +22,17 @@ impl PointEncoder {
     /// Errors, in this order: the family has another type (`KindMismatch`); the errors of the labels; there are states and a
     /// common label has the family's name (`DuplicateLabel`). Fails with `Memory` if memory runs out.
     pub fn encode_stateset(&mut self, states: Vec<(&str, bool)>) -> Result<(), EncodeError>
-        ensures handed { HandsPoints
+        ensures { TakesPoints
             (λ ps. ps ≡ StateSetPoint (map state_of states.entry.items) ∷ [])
             ⊥ self.old self.new result }
-        ensures answered { result ≡ result_of self.new.refused }
     {
         self.encode_states(states.as_slice())
     }
 
     pub(crate) fn encode_states(&mut self, states: &[(&str, bool)]) -> Result<(), EncodeError>
-        ensures handed { HandsPoints
+        ensures { TakesPoints
             (λ ps. ps ≡ StateSetPoint (map state_of states.now) ∷ [])
             ⊥ self.old self.new result }
-        ensures answered { result ≡ result_of self.new.refused }
     {
         self.begin_point(MetricType::StateSet)?;
         self.test_states(states.is_empty())?;
@@ -45,8 +42,7 @@ impl PointEncoder {
     // Refuses the states if there are any and a common label has the family's name.
     fn test_states(&mut self, is_empty: bool) -> Result<(), EncodeError>
         requires accepting { self.old.refused ≡ None }
-        ensures tested { TestsStates is_empty self.old self.new }
-        ensures answered { result ≡ result_of self.new.refused }
+        ensures { Takes (TestsStates is_empty self.old self.new) self.new.refused result }
     {
         if !is_empty && self.labels.text().has_name(self.name.as_str()) {
             return self.refuse(EncodeError::DuplicateLabel);
@@ -64,10 +60,9 @@ impl PointEncoder {
         requires state_set { self.old.setting.metric_type ≡ MetricType.StateSet }
         requires fresh { (states.now ≡ [])
             ⊎ (¬ (Contains (label_names self.old.common) self.old.setting.name)) }
-        ensures pushed { PushesSamples
+        ensures { Takes (PushesSamples
             (map (state_sample self.old.setting self.old.common) (map state_of states.now))
-            self.old self.new }
-        ensures answered { result ≡ result_of self.new.refused }
+            self.old self.new) self.new.refused result }
     {
         for state in states {
             self.push_state(own, state)?;
@@ -80,10 +75,9 @@ impl PointEncoder {
         requires accepting { self.old.refused ≡ None }
         requires state_set { self.old.setting.metric_type ≡ MetricType.StateSet }
         requires fresh { ¬ (Contains (label_names self.old.common) self.old.setting.name) }
-        ensures pushed { PushesSample
+        ensures { Takes (PushesSample
             (state_sample self.old.setting self.old.common (state_of state.now))
-            self.old self.new }
-        ensures answered { result ≡ result_of self.new.refused }
+            self.old self.new) self.new.refused result }
     {
         own.clear();
         if let Err(_) = push_label(own, self.name.as_str(), state.0) {
@@ -96,10 +90,9 @@ impl PointEncoder {
     /// Takes an info's point: its labels, which come after the common ones. Errors, in this order: the family has another type
     /// (`KindMismatch`); the errors of the common labels; the errors of its own labels. Fails with `Memory` if memory runs out.
     pub fn encode_info<LS: EncodeLabelSet>(&mut self, labels: &LS) -> Result<(), EncodeError>
-        ensures handed { HandsPoints
+        ensures { TakesPoints
             (λ ps. ps ≡ InfoPoint (LS.labels labels.now) ∷ [])
             (LS.may_fault labels.now) self.old self.new result }
-        ensures answered { result ≡ result_of self.new.refused }
     {
         self.begin_point(MetricType::Info)?;
         let mut all = LabelSetEncoder::new(self.alloc, self.labels.metric_type());

@@ -3,8 +3,7 @@ ghost use Rattle.std.specs.Prelude.{◌≡◌, [], ◌∷◌, None, map};
 ghost use Rattle.std.specs.Option.{option_map};
 ghost use Rattle.fm_grammar.specs.declared.MetricType.{MetricType};
 ghost use Rattle.fm_encoder.specs.Points.{SummaryPoint, millis, quantile_sample};
-ghost use Rattle.fm_encoder.specs.Gathered.{result_of};
-ghost use Rattle.fm_encoder.specs.Hands.{HandsPoints};
+ghost use Rattle.fm_encoder.specs.Takes.{Takes, TakesPoints};
 ghost use Rattle.fm_encoder.specs.inside.Steps.{PushesSample, PushesSamples};
 
 use crate::gathered::push_label;
@@ -31,10 +30,9 @@ impl PointEncoder {
         count: u64,
         created: Option<Duration>,
     ) -> Result<(), EncodeError>
-        ensures handed { HandsPoints
+        ensures { TakesPoints
             (λ ps. ps ≡ SummaryPoint quantiles.now sum count (option_map millis created) ∷ [])
             ⊥ self.old self.new result }
-        ensures answered { result ≡ result_of self.new.refused }
     {
         self.begin_point(MetricType::Summary)?;
         let mut own = LabelText::new(self.alloc);
@@ -50,10 +48,9 @@ impl PointEncoder {
     ) -> Result<(), EncodeError>
         requires accepting { self.old.refused ≡ None }
         requires summary { self.old.setting.metric_type ≡ MetricType.Summary }
-        ensures pushed { PushesSamples
+        ensures { Takes (PushesSamples
             (map (quantile_sample self.old.setting self.old.common) quantiles.now)
-            self.old self.new }
-        ensures answered { result ≡ result_of self.new.refused }
+            self.old self.new) self.new.refused result }
     {
         for quantile in quantiles {
             self.push_quantile(own, quantile)?;
@@ -65,10 +62,9 @@ impl PointEncoder {
     fn push_quantile(&mut self, own: &mut LabelText, quantile: &Quantile) -> Result<(), EncodeError>
         requires accepting { self.old.refused ≡ None }
         requires summary { self.old.setting.metric_type ≡ MetricType.Summary }
-        ensures pushed { PushesSample
+        ensures { Takes (PushesSample
             (quantile_sample self.old.setting self.old.common quantile.now)
-            self.old self.new }
-        ensures answered { result ≡ result_of self.new.refused }
+            self.old self.new) self.new.refused result }
     {
         let mut buffer = FixedBuffer::new();
         let text = buffer.format(FixedSum::from(quantile.quantile()));

@@ -7,9 +7,9 @@ ghost use Rattle.fm_grammar.specs.WellFormed.{ValueFits};
 ghost use Rattle.fm_grammar.specs.Exposition.{Whole, Fixed as Millionths};
 ghost use Rattle.fm_exposition.specs.declared.exposition.Value.TheVariants.{Whole as WholeValue, Fixed as FixedValue};
 ghost use Rattle.fm_encoder.specs.Points.{millis, total_samples, created_samples};
-ghost use Rattle.fm_encoder.specs.Gathered.{result_of};
+ghost use Rattle.fm_encoder.specs.Takes.{Takes};
 ghost use Rattle.fm_encoder.specs.inside.Steps.{PushesSamples};
-ghost use Rattle.fm_encoder.specs.Buckets.{HasTotals};
+ghost use Rattle.fm_encoder.specs.inside.BucketSteps.{HasTotals};
 
 use crate::point::PointEncoder;
 use fm_encode_error::EncodeError;
@@ -45,12 +45,11 @@ impl PointEncoder {
         requires accepting { self.old.refused ≡ None }
         requires has_created { (self.old.setting.metric_type ≡ MetricType.Histogram)
             ⊎ (self.old.setting.metric_type ≡ MetricType.Summary) }
-        ensures pushed { PushesSamples
+        ensures { Takes (PushesSamples
             (total_samples self.old.setting self.old.common
             SampleKind.Count SampleKind.Sum count sum
             ++ created_samples self.old.setting self.old.common (option_map millis created))
-            self.old self.new }
-        ensures answered { result ≡ result_of self.new.refused }
+            self.old self.new) self.new.refused result }
     {
         self.push_count_and_sum(SampleKind::Count, count, SampleKind::Sum, sum)?;
         self.push_created(created)
@@ -66,10 +65,9 @@ impl PointEncoder {
     ) -> Result<(), EncodeError>
         requires accepting { self.old.refused ≡ None }
         requires kinds { HasTotals self.old.setting.metric_type of_count of_sum }
-        ensures pushed { PushesSamples
+        ensures { Takes (PushesSamples
             (total_samples self.old.setting self.old.common of_count of_sum count sum)
-            self.old self.new }
-        ensures answered { result ≡ result_of self.new.refused }
+            self.old self.new) self.new.refused result }
     {
         self.push_sample(of_count, &count_value(count), None)?;
         self.push_sample(of_sum, &sum_value(sum), None)

@@ -3,8 +3,8 @@ ghost use Rattle.std.specs.Prelude.{◌≡◌, ◌⊎◌, pos, [], ◌∷◌, Ma
 ghost use Rattle.fm_grammar.specs.Exposition.{Whole, Fixed as Millionths};
 ghost use Rattle.fm_encode_error.specs.declared.EncodeError.{EncodeError};
 ghost use Rattle.fm_exposition.specs.Samples.{value_of};
-ghost use Rattle.fm_encoder.specs.Gathered.{result_of, own_refusal};
-ghost use Rattle.fm_encoder.specs.Hands.{HandsNumbers};
+ghost use Rattle.fm_encoder.specs.Gathered.{own_refusal};
+ghost use Rattle.fm_encoder.specs.Takes.{TakesNumbers};
 ghost use Rattle.fm_encoder.specs.inside.Steps.{IsNumber};
 
 use crate::own::own_refusal;
@@ -72,8 +72,7 @@ impl<K> ValueEncoder<K> {
 
     fn gather(&mut self, number: Value) -> Result<(), EncodeError>
         requires { IsNumber (value_of number) }
-        ensures handed { HandsNumbers (value_of number ∷ []) ⊥ self.old self.new result }
-        ensures answered { result ≡ result_of self.new.refused }
+        ensures { TakesNumbers (value_of number ∷ []) ⊥ self.old self.new result }
     {
         if let Some(error) = self.refused {
             return Err(error);
@@ -110,16 +109,14 @@ impl<K> ValueEncoder<K> {
 
     /// Takes the number. A second number is refused as `ValueTwice`.
     pub fn encode_u32(&mut self, number: u32) -> Result<(), EncodeError>
-        ensures handed { HandsNumbers (Whole (pos number) ∷ []) ⊥ self.old self.new result }
-        ensures answered { result ≡ result_of self.new.refused }
+        ensures { TakesNumbers (Whole (pos number) ∷ []) ⊥ self.old self.new result }
     {
         self.gather(Value::Whole(i128::from(number)))
     }
 
     /// Takes the number, in millionths. A second number is refused as `ValueTwice`.
     pub fn encode_fixed(&mut self, number: Fixed) -> Result<(), EncodeError>
-        ensures handed { HandsNumbers (Millionths number ∷ []) ⊥ self.old self.new result }
-        ensures answered { result ≡ result_of self.new.refused }
+        ensures { TakesNumbers (Millionths number ∷ []) ⊥ self.old self.new result }
     {
         self.gather(Value::Fixed(FixedSum::from(number)))
     }
@@ -128,8 +125,7 @@ impl<K> ValueEncoder<K> {
 impl<K: TakesLong> ValueEncoder<K> {
     /// Takes the number. A second number is refused as `ValueTwice`.
     pub fn encode_u64(&mut self, number: u64) -> Result<(), EncodeError>
-        ensures handed { HandsNumbers (Whole (pos number) ∷ []) ⊥ self.old self.new result }
-        ensures answered { result ≡ result_of self.new.refused }
+        ensures { TakesNumbers (Whole (pos number) ∷ []) ⊥ self.old self.new result }
     {
         self.gather(Value::Whole(i128::from(number)))
     }
@@ -138,24 +134,21 @@ impl<K: TakesLong> ValueEncoder<K> {
 impl<K: TakesSigned> ValueEncoder<K> {
     /// Takes the number. A second number is refused as `ValueTwice`.
     pub fn encode_i32(&mut self, number: i32) -> Result<(), EncodeError>
-        ensures handed { HandsNumbers (Whole number ∷ []) ⊥ self.old self.new result }
-        ensures answered { result ≡ result_of self.new.refused }
+        ensures { TakesNumbers (Whole number ∷ []) ⊥ self.old self.new result }
     {
         self.gather(Value::Whole(i128::from(number)))
     }
 
     /// Takes the number. A second number is refused as `ValueTwice`.
     pub fn encode_i64(&mut self, number: i64) -> Result<(), EncodeError>
-        ensures handed { HandsNumbers (Whole number ∷ []) ⊥ self.old self.new result }
-        ensures answered { result ≡ result_of self.new.refused }
+        ensures { TakesNumbers (Whole number ∷ []) ⊥ self.old self.new result }
     {
         self.gather(Value::Whole(i128::from(number)))
     }
 
     /// Takes the number. A second number is refused as `ValueTwice`.
     pub fn encode_isize(&mut self, number: isize) -> Result<(), EncodeError>
-        ensures handed { HandsNumbers (Whole number ∷ []) ⊥ self.old self.new result }
-        ensures answered { result ≡ result_of self.new.refused }
+        ensures { TakesNumbers (Whole number ∷ []) ⊥ self.old self.new result }
     {
         self.gather(Value::Whole(number as i128))
     }
@@ -164,8 +157,7 @@ impl<K: TakesSigned> ValueEncoder<K> {
 impl ValueEncoder<OfCounter> {
     /// Takes the number. A second number is refused as `ValueTwice`.
     pub fn encode_usize(&mut self, number: usize) -> Result<(), EncodeError>
-        ensures handed { HandsNumbers (Whole (pos number) ∷ []) ⊥ self.old self.new result }
-        ensures answered { result ≡ result_of self.new.refused }
+        ensures { TakesNumbers (Whole (pos number) ∷ []) ⊥ self.old self.new result }
     {
         self.gather(Value::Whole(number as i128))
     }

@@ -7,7 +7,7 @@ use Rattle.std.specs.Cmp.Lexicographic.{slice_cmp}
 use Rattle.std.specs.BTreeSet.{BTreeSet, contains_by}
 use Rattle.fm_grammar.specs.Exposition.{Text, Family}
 use Rattle.fm_grammar.specs.declared.MetricType.{MetricType}
-use Rattle.fm_grammar.specs.Reading.{State, Open, Headed, Ended, closed}
+use Rattle.fm_grammar.specs.inside.Lines.{State, Open, Headed, Ended, closed}
 use Rattle.fm_reader.specs.inside.Steps.{FoundNewType}
 
 abbrev pub names_of : List Family → List Text

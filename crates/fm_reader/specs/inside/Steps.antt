@@ -8,8 +8,9 @@ use Rattle.fm_grammar.specs.declared.MetricType.{MetricType}
 use Rattle.fm_grammar.specs.Names.{IsSnakeCase}
 use Rattle.fm_grammar.specs.WellFormed.{UnitFits, UnitAllowed, IsSample}
 use Rattle.fm_grammar.specs.Document.{IsTypeLine, IsUnitLine, IsSampleLine}
-use Rattle.fm_grammar.specs.Reading.{State, Follows, IsEnded, IsNewName}
-use Rattle.fm_grammar.specs.Reading as grammar
+use Rattle.fm_grammar.specs.Reading.{IsNewName}
+use Rattle.fm_grammar.specs.inside.Lines.{State, Follows, IsEnded}
+use Rattle.fm_grammar.specs.inside.Lines as grammar
 use Rattle.fm_reader.specs.declared.machine.Reading.{Reading}
 use Rattle.fm_reader.specs.declared.machine.Reading.TheVariants.{Open, Headed, Ended}
 

@@ -5,13 +5,15 @@ ghost use Rattle.std.specs.String.{string_bytes};
 ghost use Rattle.fm_raw.specs.Units.{seen_unit};
 ghost use Rattle.indexmap.specs.IndexMap.{get};
 ghost use Rattle.fm_registry_calls.specs.Registration.{is_same_metric, takes_no_unit as has_no_unit};
-ghost use Rattle.fm_registry_calls.specs.Answer.{refusal_of, name_refusal, has_metric, standing_refusal, metric_refusal, IsAnswered, answer, after};
+ghost use Rattle.fm_registry_calls.specs.Answer.{refusal_of, has_metric, metric_refusal, IsAnswered, answer, after};
+ghost use Rattle.fm_registry_calls.specs.inside.Refusals.{name_refusal, standing_refusal};
 ghost use Rattle.fm_registry_calls.specs.Book.{Register};
 ghost use Rattle.fm_registry_calls.specs.Tree.{Reads, names_in};
-ghost use Rattle.fm_registry_calls.specs.Steps.{with_metric};
+ghost use Rattle.fm_registry_calls.specs.inside.Forests.{with_metric};
 ghost use Rattle.fm_registry.specs.inside.Names.{refusal_beside};
 ghost use Rattle.fm_registry.specs.contracts.names.TailedPartialEq.TheImpl.{ghosts as tailed};
-ghost use Rattle.fm_registry.specs.View.{metrics_in, seen_metric, seen_metrics, asked, asked_metric};
+ghost use Rattle.fm_registry.specs.View.{seen_metric, asked, asked_metric};
+ghost use Rattle.fm_registry.specs.inside.TreeView.{metrics_in, seen_metrics};
 ghost use Rattle.fm_registry.specs.HasBook.{HasBook, Grows};
 ghost use Rattle.fm_registry.specs.Registers.{Registers};
 

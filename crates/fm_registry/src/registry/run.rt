@@ -7,9 +7,11 @@ ghost use Rattle.fm_registry_calls.specs.Book.{Subsystem as AskSubsystem};
 ghost use Rattle.fm_registry_calls.specs.Texts.{has_text};
 ghost use Rattle.fm_registry_calls.specs.Tree.{Reads, names_in};
 ghost use Rattle.fm_registry_calls.specs.Steps.{with_subsystem};
-ghost use Rattle.fm_registry_calls.specs.Running.{IsReply, path_of};
+ghost use Rattle.fm_registry_calls.specs.Running.{IsReply};
+ghost use Rattle.fm_registry_calls.specs.inside.Paths.{path_of};
 ghost use Rattle.fm_registry.specs.inside.Request.{call_at};
-ghost use Rattle.fm_registry.specs.Calls.{RunsCall, RunsCalls};
+ghost use Rattle.fm_registry.specs.Calls.{RunsCalls};
+ghost use Rattle.fm_registry.specs.inside.CallSteps.{RunsCall};
 ghost use Rattle.fm_registry.specs.HasBook.{HasBook, Grows};
 
 use super::Registry;

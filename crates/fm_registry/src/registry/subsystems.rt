@@ -10,11 +10,13 @@ ghost use Rattle.fm_registry_calls.specs.Book.{Subsystem as AskSubsystem};
 ghost use Rattle.fm_registry_calls.specs.Taken.{is_below as below_test, is_child_taken, tails_of};
 ghost use Rattle.fm_registry_calls.specs.Texts.{has_text};
 ghost use Rattle.fm_registry_calls.specs.Tree.{Reads, names_in};
-ghost use Rattle.fm_registry_calls.specs.Steps.{nth_in, nth_name, place_in, with_subsystem, new_tree};
+ghost use Rattle.fm_registry_calls.specs.Steps.{with_subsystem};
+ghost use Rattle.fm_registry_calls.specs.inside.Forests.{nth_in, nth_name, place_in, new_tree};
 ghost use Rattle.fm_registry_calls.specs.Loan.{LoanReads};
-ghost use Rattle.fm_registry.specs.View.{forest_of, seen_metrics};
+ghost use Rattle.fm_registry.specs.inside.TreeView.{forest_of, seen_metrics};
 ghost use Rattle.fm_registry.specs.Lists.{items_of};
-ghost use Rattle.fm_registry.specs.Lends.{lends_subsystems, lends_nth, lends_registry, lends_subsystem};
+ghost use Rattle.fm_registry.specs.Lends.{lends_registry, lends_subsystem};
+ghost use Rattle.fm_registry.specs.inside.LendsParts.{lends_subsystems, lends_nth};
 ghost use Rattle.fm_registry.specs.HasBook.{HasBook};
 
 use super::{Registry, Subsystem};

@@ -2,9 +2,8 @@
 ghost use Rattle.std.specs.Prelude.{◌≡◌, [], ◌∷◌, None, map};
 ghost use Rattle.std.specs.Option.{option_map};
 ghost use Rattle.fm_encoder.specs.Points.{HistogramPoint, GaugeHistogramPoint, millis};
-ghost use Rattle.fm_encoder.specs.Gathered.{result_of};
-ghost use Rattle.fm_encoder.specs.Hands.{HandsPoints};
-ghost use Rattle.fm_encoder.specs.Buckets.{HasBuckets, PushesBuckets};
+ghost use Rattle.fm_encoder.specs.Takes.{Takes, TakesPoints};
+ghost use Rattle.fm_encoder.specs.inside.BucketSteps.{HasBuckets, PushesBuckets};
 
 use crate::point::PointEncoder;
 use fm_bucket::Bucket;
@@ -21,11 +20,10 @@ pub fn encode_bare_histogram(
     sum: FixedSum,
     created: Option<Duration>,
 ) -> Result<(), EncodeError>
-    ensures handed { HandsPoints
+    ensures { TakesPoints
         (λ ps. ps ≡ HistogramPoint buckets.now (map (λ _. []) buckets.now) count sum
         (option_map millis created) ∷ [])
         ⊥ points.old points.new result }
-    ensures answered { result ≡ result_of points.new.refused }
 {
     points.begin_buckets(MetricType::Histogram, buckets.len(), buckets.len())?;
     push_bare_buckets(points, buckets)?;
@@ -40,10 +38,9 @@ pub fn encode_bare_gauge_histogram(
     count: u64,
     sum: FixedSum,
 ) -> Result<(), EncodeError>
-    ensures handed { HandsPoints
+    ensures { TakesPoints
         (λ ps. ps ≡ GaugeHistogramPoint buckets.now (map (λ _. []) buckets.now) count sum ∷ [])
         ⊥ points.old points.new result }
-    ensures answered { result ≡ result_of points.new.refused }
 {
     points.begin_buckets(MetricType::GaugeHistogram, buckets.len(), buckets.len())?;
     push_bare_buckets(points, buckets)?;
@@ -54,8 +51,9 @@ pub fn encode_bare_gauge_histogram(
 fn push_bare_buckets(points: &mut PointEncoder, buckets: &[Bucket]) -> Result<(), EncodeError>
     requires accepting { points.old.refused ≡ None }
     requires buckets { HasBuckets points.old.setting.metric_type }
-    ensures pushed { PushesBuckets buckets.now (map (λ _. []) buckets.now) ⊥ points.old points.new }
-    ensures answered { result ≡ result_of points.new.refused }
+    ensures { Takes
+        (PushesBuckets buckets.now (map (λ _. []) buckets.now) ⊥ points.old points.new)
+        points.new.refused result }
 {
     let mut values = 0;
     for i in 0..buckets.len() {

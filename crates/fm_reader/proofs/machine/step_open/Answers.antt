@@ -1,5 +1,5 @@
 use Rattle.std.proofs.Common.{Some, None, sym, true≢false, ◌∙◌, string_bytes}
-use Rattle.fm_grammar.specs.Reading.{closed}
+use Rattle.fm_grammar.specs.inside.Lines.{closed}
 use Rattle.fm_reader.proofs.StepLemmas.{last_follows, type_follows, none_refuses, within_step}
 use Rattle.fm_reader.proofs.SeenNames.{found_is, open_keeps, ended_names, headed_names}
 use Rattle.fm_reader.proofs.machine.step_open.Goals as goal

@@ -1,4 +1,4 @@
-use Rattle.fm_exposition.specs.Rows.{further_label}
+use Rattle.fm_exposition.specs.inside.DocumentRows.{further_label}
 use Rattle.fm_writer.specs.inside.LabelTexts.{label_in, IsPlace}
 use Rattle.fm_writer.proofs.GrownLemmas.{left_more_mapped}
 use Rattle.fm_writer.proofs.LabelTextLemmas.{all_at}

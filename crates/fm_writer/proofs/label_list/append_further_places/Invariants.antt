@@ -1,4 +1,4 @@
-use Rattle.fm_exposition.specs.Rows.{further_label}
+use Rattle.fm_exposition.specs.inside.DocumentRows.{further_label}
 use Rattle.fm_writer.specs.inside.Grown.{IsLeft}
 use Rattle.fm_writer.specs.inside.LabelTexts.{labels_in}
 use Rattle.fm_writer.proofs.label_list.append_further_places.Given as goal

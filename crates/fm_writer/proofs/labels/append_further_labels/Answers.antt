@@ -1,4 +1,4 @@
-use Rattle.fm_exposition.specs.Rows.{further_label}
+use Rattle.fm_exposition.specs.inside.DocumentRows.{further_label}
 use Rattle.fm_exposition.specs.Samples.{label_of}
 use Rattle.fm_writer.proofs.GrownLemmas.{left_more_seen}
 use Rattle.fm_writer.proofs.labels.append_further_labels.Goals as goal

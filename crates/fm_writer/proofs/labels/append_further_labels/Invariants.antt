@@ -1,4 +1,4 @@
-use Rattle.fm_exposition.specs.Rows.{further_label}
+use Rattle.fm_exposition.specs.inside.DocumentRows.{further_label}
 use Rattle.fm_exposition.specs.Samples.{labels_of}
 use Rattle.fm_writer.specs.inside.Grown.{IsLeft}
 use Rattle.fm_writer.proofs.labels.append_further_labels.Given as goal

@@ -1,4 +1,4 @@
-use Rattle.fm_exposition.specs.Rows.{family_rows}
+use Rattle.fm_exposition.specs.inside.DocumentRows.{family_rows}
 use Rattle.fm_writer.specs.inside.Utf8.{IsUtf8Family}
 use Rattle.fm_writer.proofs.GrownLemmas.{left_more_is}
 use Rattle.fm_writer.proofs.Utf8Lemmas.{taken_more}

@@ -1,4 +1,4 @@
-use Rattle.fm_exposition.specs.Rows.{document_rows}
+use Rattle.fm_exposition.specs.inside.DocumentRows.{document_rows}
 use Rattle.fm_exposition.specs.Written.{IsWritersFault}
 use Rattle.fm_exposition.proofs.ResultLemmas.{on_ok_more, if_err_more}
 use Rattle.fm_exposition.proofs.RowLemmas.{document_written}

@@ -1,7 +1,8 @@
 use Rattle.std.proofs.Common.{◌≡◌, ◌≢◌, ℕ, ◌<◌, ◌-◌, ◌*◌, ℤ, pos, List, ◌∷◌, length, refl, ap, to_z, rules, arith}
 use Rattle.std.proofs.lemmas.Int.{to_z_pos}
 use Rattle.std.specs.Int.{w64}
-use Rattle.fm_bucket.specs.Bounds.{exponential_bounds, FitExponential}
+use Rattle.fm_bucket.specs.Bounds.{exponential_bounds}
+use Rattle.fm_bucket.specs.inside.Fits.{FitExponential}
 use Rattle.fm_bucket.proofs.ExponentialLemmas.{exponential_more, no_less, fit_more, first_fits, second_fits}
 use Rattle.fm_bucket.proofs.exponential.ExponentialBucketsIterator.next.Goals as goal
 use Rattle.fm_bucket.proofs.exponential.ExponentialBucketsIterator.next.Goals.{then-self-gt0, else-self-gt0}

@@ -11,4 +11,4 @@ returns-clause-err g c =
     let members = goal.EncodeMetric-dyn g c.args.metric.now in
     refused_under (members.offers c.args.metric.now.1) (members.stamps c.args.metric.now.1) (members.may_fault c.args.metric.now.1) (next_heading c.enter.new.self c.args.metadata.now) (heading_in (option_copied c.args.namespace) (labels_of c.args.constants.now) c.args.metadata.now) c.encode.result c.encode.new.self.refused
     (ap (λ e. heading_in e.namespace e.labels c.args.metadata.now) c.enter.ensures) c.encode.ensures.answered
-    (λ k is. c.encode.ensures.encoded.refused k accepting is)
+    (λ k is. c.encode.ensures.handed.refused k accepting is)

@@ -1,9 +1,13 @@
 use Rattle.std.proofs.Common.{sym, ap, ◌∙◌}
-use Rattle.fm_encoder.specs.Gathered.{GatheredExemplars}
+use Rattle.fm_encoder.specs.Gathered.{GatheredExemplars, result_of}
 use Rattle.fm_encoder.proofs.ExemplarLemmas.{HandsExemplars-refused}
 use Rattle.fm_encoder.proofs.exemplar.ExemplarEncoder.encode.Goals as goal
 
-pub returns-in-Err-clause-handed : goal.returns-in-Err-clause-handed
-returns-in-Err-clause-handed g c =
+pub returns-in-Err : goal.returns-in-Err
+returns-in-Err g c =
     let refused = λ (e : GatheredExemplars). e.refused in
-    rw c.refuse-in-Err.ensures.answered (HandsExemplars-refused _ _ c.in-Err.error _ _ (ap refused (sym c.self.view_is) ∙ c.in_default.is) (ap refused c.refuse-in-Err.ensures.refused) c.in-Err.ensures)
+    let new_refused = ap refused c.refuse-in-Err.ensures.refused in
+    rw c.refuse-in-Err.ensures.answered (record {
+      handed = HandsExemplars-refused _ _ c.in-Err.error _ _ (ap refused (sym c.self.view_is) ∙ c.in_default.is) new_refused c.in-Err.ensures;
+      answered = sym (ap result_of new_refused);
+    })

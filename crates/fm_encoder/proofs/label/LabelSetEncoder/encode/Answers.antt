@@ -1,6 +1,7 @@
+use Rattle.std.proofs.Common.{refl}
 use Rattle.fm_encoder.proofs.LabelSetLemmas.{HandsLabels-one}
 use Rattle.fm_encoder.proofs.label.LabelSetEncoder.encode.Goals as goal
 
-pub returns-clause-handed : goal.returns-clause-handed
-returns-clause-handed g c =
-    rw (c.end_label.ensures.answered, ← c.self.view_is) (HandsLabels-one _ _ c.self.inside.label _ _ _ c.encode-visited.ensures c.end_label.ensures.ended c.self.invariant)
+pub returns : goal.returns
+returns g c =
+    rw (c.end_label.ensures.answered, ← c.self.view_is) (record { handed = HandsLabels-one _ _ c.self.inside.label _ _ _ c.encode-visited.ensures c.end_label.ensures.handed c.self.invariant; answered = refl })

@@ -1,7 +1,7 @@
 use Rattle.std.proofs.Common.{sym, subst, []}
 use Rattle.fm_grammar.specs.declared.MetricType.{MetricType}
 use Rattle.fm_grammar.specs.WellFormed.{AreLabels}
-use Rattle.fm_encoder.specs.Labels.{AreFree}
+use Rattle.fm_encoder.specs.inside.FreeLabels.{AreFree}
 use Rattle.fm_encoder.proofs.NameLemmas.{AreLabels-written, AreFree-written}
 use Rattle.fm_encoder.proofs.point.PointEncoder.begin_member.Goals as goal
 

@@ -1,6 +1,6 @@
 use Rattle.std.proofs.Common.{◌++◌, List, ap, sym, subst}
 use Rattle.fm_grammar.specs.Exposition.{Label}
-use Rattle.fm_encoder.specs.Buckets.{HasBuckets}
+use Rattle.fm_encoder.specs.inside.BucketSteps.{HasBuckets}
 use Rattle.fm_encoder.specs.Gathered.{GatheredPoints}
 use Rattle.fm_encoder.specs.Points.{bound_label}
 use Rattle.fm_encoder.proofs.NameLemmas.{AreLabels-own}

@@ -1,6 +1,6 @@
 use Rattle.std.proofs.Common.{◌++◌, subst, sym}
 use Rattle.fm_grammar.specs.WellFormed.{AreLabels}
-use Rattle.fm_encoder.specs.Labels.{AreFree}
+use Rattle.fm_encoder.specs.inside.FreeLabels.{AreFree}
 use Rattle.fm_encoder.specs.Gathered.{GatheredPoints}
 use Rattle.fm_encoder.proofs.point.PointEncoder.push_labeled.Goals as goal
 

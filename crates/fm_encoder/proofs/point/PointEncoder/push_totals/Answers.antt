@@ -18,12 +18,15 @@ push_count_and_sum-requires-clause-kinds c = inl (c.requires.has_created, refl, 
 
 pub push_created-requires-clause-kind : goal.push_created-requires-clause-kind
 push_created-requires-clause-kind c =
-    let same = ap (λ (s : Setting). s.metric_type) c.push_count_and_sum.ensures.pushed.place.setting in
+    let same = ap (λ (s : Setting). s.metric_type) c.push_count_and_sum.ensures.handed.place.setting in
     type_has_created _ (subst (λ (t : MetricType). (t ≡ Histogram) ⊎ (t ≡ Summary)) (sym same) c.requires.has_created)
 
-pub returns-clause-pushed : goal.returns-clause-pushed
-returns-clause-pushed c =
+pub returns : goal.returns
+returns c =
     let old = c.args.self.now in
     let created = option_map millis c.args.created in
     let pushed = none_from_answer _ c.push_count_and_sum.ensures.answered c.in_ok-push_count_and_sum.was in
-    PushesSamples-then (total_samples old.setting old.common Count Sum c.args.count c.args.sum) (λ s ls. created_samples s ls created) old _ _ c.push_count_and_sum.ensures.pushed pushed c.push_created.ensures.pushed
+    record {
+      handed = PushesSamples-then (total_samples old.setting old.common Count Sum c.args.count c.args.sum) (λ s ls. created_samples s ls created) old _ _ c.push_count_and_sum.ensures.handed pushed c.push_created.ensures.handed;
+      answered = c.push_created.ensures.answered;
+    }

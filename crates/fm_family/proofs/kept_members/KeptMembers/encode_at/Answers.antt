@@ -16,5 +16,5 @@ encode_kept-requires g c =
     let kept = kept_at labels inside.members.entries inside.labels.items c.args.place (c.in-Some.labels.now, c.in-Some.metric.now) c.index.result.now c.self.invariant (sym c.in-Some.ensures.entry) c.index.ensures in
     record { kept = lent_if (Keeps (labels c.in-Some.labels.now)) c.as_ref.result c.index.result.now c.as_ref.ensures.value kept }
 
-pub returns-clause-handed : goal.returns-clause-handed
-returns-clause-handed g c = ((c.in-Some.labels.now, c.in-Some.metric.now), rw (← c.self.view_is) (sym c.in-Some.ensures.entry), c.encode_kept.ensures.handed)
+pub returns : goal.returns
+returns g c = ((c.in-Some.labels.now, c.in-Some.metric.now), rw (← c.self.view_is) (sym c.in-Some.ensures.entry), c.encode_kept.ensures)

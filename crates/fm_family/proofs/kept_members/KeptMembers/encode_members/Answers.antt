@@ -14,14 +14,14 @@ pub loop-place-preserved : goal.loop-place-preserved
 loop-place-preserved g c =
     let LS = g.LS.EncodeLabelSet in let M = g.M.EncodePoint in
     let xs = c.args.self.now.entries in let i = c.loop-place.place in
-    let h = c.encode_at.ensures.handed in let x = h.0 in
+    let h = c.encode_at.ensures in let x = h.0 in
     let small : i < length c.self.inside.members.entries = omega arith in
     let within : i < length xs = rw (← c.self.view_is) small in
     let read = get_or_from_slice_get xs i x x h.1 in
-    let one = HandsMembers-weaker {G = Any (MayFault LS.may_fault M.may_fault) xs} _ _ _ (λ ms m. m) (λ (fault : LS.may_fault x.0 ⊎ M.may_fault x.1). (i, x, within, read, fault)) h.2 in
+    let one = HandsMembers-weaker {G = Any (MayFault LS.may_fault M.may_fault) xs} _ _ _ (λ ms m. m) (λ (fault : LS.may_fault x.0 ⊎ M.may_fault x.1). (i, x, within, read, fault)) h.2.handed in
     record {
       offered = HandsMembers-more LS.labels M.points xs i x within (sym read) _ _ _ _ c.loop-place.invariant.offered c.loop-place.invariant.accepting (rw c.in_ok-encode_at.was at one);
-      accepting = λ o. accepted _ _ c.in_ok-encode_at.was c.encode_at.ensures.answered;
+      accepting = λ o. accepted _ _ c.in_ok-encode_at.was c.encode_at.ensures.2.answered;
     }
 
 pub returns-clause-offered : goal.returns-clause-offered
@@ -39,11 +39,11 @@ pub returns-in_err-encode_at-clause-offered : goal.returns-in_err-encode_at-clau
 returns-in_err-encode_at-clause-offered g c =
     let LS = g.LS.EncodeLabelSet in let M = g.M.EncodePoint in
     let xs = c.args.self.now.entries in let i = c.loop-place.place in
-    let h = c.encode_at.ensures.handed in let x = h.0 in
+    let h = c.encode_at.ensures in let x = h.0 in
     let small : i < length c.self.inside.members.entries = omega arith in
     let within : i < length xs = rw (← c.self.view_is) small in
     let read = get_or_from_slice_get xs i x x h.1 in
-    let one = HandsMembers-weaker {G = Any (MayFault LS.may_fault M.may_fault) xs} _ _ _ (λ ms m. m) (λ (fault : LS.may_fault x.0 ⊎ M.may_fault x.1). (i, x, within, read, fault)) h.2 in
+    let one = HandsMembers-weaker {G = Any (MayFault LS.may_fault M.may_fault) xs} _ _ _ (λ ms m. m) (λ (fault : LS.may_fault x.0 ⊎ M.may_fault x.1). (i, x, within, read, fault)) h.2.handed in
     let exit = err_from_is_err_and c.from_residual.result c.from_residual.ensures.1 in
     let done = HandsMembers-more LS.labels M.points xs i x within (sym read) _ _ _ _ c.loop-place.invariant.offered c.loop-place.invariant.accepting (rw c.in_err-encode_at.was at one) in
     rw (exit.1, exit.2) (HandsMembers-weaker _ _ _ (λ ms offered. (i + 1, offered)) (λ fault. fault) done)

@@ -1,5 +1,6 @@
 use Rattle.std.proofs.Common.{◌≡◌, Some, refl, sym, ◌∙◌}
-use Rattle.fm_family.specs.Members.{HoldsMetric, ShowsMetric}
+use Rattle.fm_family.specs.Members.{ShowsMetric}
+use Rattle.fm_family.specs.inside.Indexed.{HoldsMetric}
 use Rattle.fm_family.proofs.MemberLemmas.{gets_told, gets_refused, refused_absent}
 use Rattle.fm_family.proofs.members.FamilyCore.get_or_new.Goals as goal
 

@@ -1,6 +1,6 @@
 use Rattle.std.proofs.Common.{◌≡◌, None, true, ◌∙◌}
 use Rattle.indexmap.specs.IndexMap.{get}
-use Rattle.fm_family.specs.Members.{HoldsMetric}
+use Rattle.fm_family.specs.inside.Indexed.{HoldsMetric}
 use Rattle.fm_family.proofs.MemberLemmas.{get-equal, last_place, holds_last, none_from_flags, gets_added}
 use Rattle.fm_family.proofs.members.FamilyCore.place_or_new.Goals as goal
 

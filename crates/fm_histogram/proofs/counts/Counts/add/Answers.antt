@@ -5,7 +5,8 @@ use Rattle.std.specs.Int.{w64, w128}
 use Rattle.std.specs.Int.RustNames.{FitsSigned}
 use Rattle.std.specs.Vec.{with_items}
 use Rattle.fm_bucket.specs.declared.bound.Bucket.{Bucket}
-use Rattle.fm_histogram.specs.Histogram.{Histogram, IsCounts, IsOfSome, place, place_among, one_more}
+use Rattle.fm_histogram.specs.Histogram.{Histogram, IsCounts, place_among}
+use Rattle.fm_histogram.specs.inside.Counting.{IsOfSome, place, one_more}
 use Rattle.fm_histogram.proofs.BucketLemmas.{place_is, place_is_first, place_within, count_of_buckets}
 use Rattle.fm_histogram.proofs.EmptyLemmas.{endless}
 use Rattle.fm_histogram.proofs.CountLemmas.{sum_fits, observes, count_within}

@@ -3,7 +3,8 @@ use Rattle.std.specs.Int.{w128}
 use Rattle.std.specs.Vec.{with_items}
 use Rattle.std.proofs.lemmas.List.{with_items_is}
 use Rattle.fm_bucket.specs.declared.bound.Bucket.{Bucket}
-use Rattle.fm_histogram.specs.Histogram.{Histogram, IsCounts, IsOfSome, upper_bounds, merged, merged_buckets}
+use Rattle.fm_histogram.specs.Histogram.{Histogram, IsCounts, upper_bounds, merged, merged_buckets}
+use Rattle.fm_histogram.specs.inside.Counting.{IsOfSome}
 use Rattle.fm_histogram.proofs.MergeLemmas.{merges, bounds_same, lengths_same}
 use Rattle.fm_histogram.proofs.CountLemmas.{count_within, sums_fit, sums_low, sums_high}
 use Rattle.fm_histogram.proofs.counts.Counts.merge.Goals as goal

@@ -1,8 +1,8 @@
 use Rattle.std.proofs.Common.{sym, ap, ◌∙◌}
 use Rattle.std.specs.String.{string_bytes}
-use Rattle.fm_registry_calls.specs.Steps.{place_in}
+use Rattle.fm_registry_calls.specs.inside.Forests.{place_in}
 use Rattle.fm_registry_calls.specs.Answer.{refusal_of}
-use Rattle.fm_registry_calls.specs.Running.{path_of}
+use Rattle.fm_registry_calls.specs.inside.Paths.{path_of}
 use Rattle.fm_registry.specs.inside.Request.{call_at}
 use Rattle.fm_registry_calls.proofs.ForestLemmas.{place_in-IsPlace}
 use Rattle.fm_registry_calls.proofs.ApplyLemmas.{apply-reply, apply-ok, apply-err}

@@ -1,0 +1,34 @@
+//! A gauge whose value and timestamp are of one moment.
+use fastmetrics::encoder::EncodeError;
+use fm_test_support::support::{expect_lines, expect_refusal};
+use own_points::Readings;
+use std::alloc::{AllocError, Global};
+use std::sync::atomic::AtomicUsize;
+use std::test::Fail;
+
+// Two readings, of which the one with this index is shown.
+fn readings(alloc: Global, shown: usize) -> Result<Readings, AllocError> {
+    let mut recorded = Vec::new(alloc);
+    recorded.push((1000, 5))?;
+    recorded.push((2005, -7))?;
+    Ok(Readings {
+        recorded,
+        shown: AtomicUsize::new(shown),
+    })
+}
+
+#[test]
+fn value_of_the_moment(rt: HostRuntime) -> Result<(), Fail> {
+    let alloc = rt.alloc();
+    for (shown, lines) in [(0, "t 5 1.000\n# EOF\n"), (1, "t -7 2.005\n# EOF\n")] {
+        expect_lines(alloc, Box::new(alloc, readings(alloc, shown)?)?, lines)?;
+    }
+    Ok(())
+}
+
+#[test]
+fn no_such_moment(rt: HostRuntime) -> Result<(), Fail> {
+    let alloc = rt.alloc();
+    let metric = Box::new(alloc, readings(alloc, 2)?)?;
+    expect_refusal(alloc, metric, EncodeError::MetricFault)
+}
