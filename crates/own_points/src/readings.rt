@@ -1,5 +1,5 @@
 //! A gauge of recorded readings, whose value and timestamp are of one moment.
-ghost use Rattle.std.specs.Prelude.{◌≡◌, ◌×◌, [], ◌∷◌, Some, slice_get};
+ghost use Rattle.std.specs.Prelude.{◌≡◌, ℕ, ℤ, [], ◌∷◌, Some, IfSome, Contains};
 ghost use Rattle.fastmetrics.specs.Exposition.{Whole};
 ghost use Rattle.fastmetrics.specs.Points.{GaugePoint};
 ghost use Rattle.fm_grammar.specs.declared.MetricType.TheVariants.{Gauge};
@@ -18,6 +18,15 @@ pub struct Readings {
     pub shown: AtomicUsize,
 }
 
+impl Readings {
+    // The reading that is shown at this moment.
+    fn shown_reading(&self) -> Option<(u64, i64)>
+        ensures { IfSome result (λ reading. Contains self.now.recorded.items reading) }
+    {
+        self.recorded.get(self.shown.load(Ordering::Relaxed)).copied()
+    }
+}
+
 impl EncodeMetric for Readings {
     ghost types = { λ _ t. t ≡ Gauge };
 
@@ -25,23 +34,21 @@ impl EncodeMetric for Readings {
     ghost stamps = { λ _ _. Unit {0} };
 
     // But the value is that of the timestamp's moment.
-    ghost offers = { λ r stamp ms. (index : ℕ) × (reading : ℕ × ℤ)
-      × (slice_get r.recorded.items index ≡ Some reading) × (stamp ≡ Some reading.0)
+    ghost offers = { λ r stamp ms. (reading : ℕ × ℤ)
+      × Contains r.recorded.items reading × (stamp ≡ Some reading.0)
       × (ms ≡ record { labels = []; point = GaugePoint (Whole reading.1 ∷ []) } ∷ []) };
 
-    // No reading has this moment.
+    // Another reading is shown than when the timestamp was asked for.
     ghost may_fault = { λ _. Unit {0} };
 
     fn encode(&self, encoder: &mut MetricEncoder) -> Result<(), EncodeError> {
-        let moment = encoder.timestamp();
-        match self
-            .recorded
-            .iter()
-            .find(|reading| moment == Some(u128::from(reading.0)))
-        {
-            Some(reading) => encoder.encode_gauge(&reading.1),
-            None => Err(EncodeError::MetricFault),
+        let Some(reading) = self.shown_reading() else {
+            return Err(EncodeError::MetricFault);
+        };
+        if encoder.timestamp() != Some(u128::from(reading.0)) {
+            return Err(EncodeError::MetricFault);
         }
+        encoder.encode_gauge(&reading.1)
     }
 
     fn metric_type(&self) -> MetricType {
@@ -49,7 +56,7 @@ impl EncodeMetric for Readings {
     }
 
     fn timestamp(&self) -> Option<Duration> {
-        match self.recorded.get(self.shown.load(Ordering::Relaxed)) {
+        match self.shown_reading() {
             Some(reading) => Some(Duration::from_millis(reading.0)),
             None => None,
         }
