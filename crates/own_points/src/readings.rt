@@ -23,7 +23,9 @@ impl Readings {
     fn shown_reading(&self) -> Option<(u64, i64)>
         ensures { IfSome result (λ reading. Contains self.now.recorded.items reading) }
     {
-        self.recorded.get(self.shown.load(Ordering::Relaxed)).copied()
+        self.recorded
+            .get(self.shown.load(Ordering::Relaxed))
+            .copied()
     }
 }
 
@@ -35,8 +37,8 @@ impl EncodeMetric for Readings {
 
     // But the value is that of the timestamp's moment.
     ghost offers = { λ r stamp ms. (reading : ℕ × ℤ)
-      × Contains r.recorded.items reading × (stamp ≡ Some reading.0)
-      × (ms ≡ record { labels = []; point = GaugePoint (Whole reading.1 ∷ []) } ∷ []) };
+        × Contains r.recorded.items reading × (stamp ≡ Some reading.0)
+        × (ms ≡ record { labels = []; point = GaugePoint (Whole reading.1 ∷ []) } ∷ []) };
 
     // Another reading is shown than when the timestamp was asked for.
     ghost may_fault = { λ _. Unit {0} };
