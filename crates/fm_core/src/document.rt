@@ -8,7 +8,7 @@ ghost use Rattle.fm_grammar.specs.WellFormed.{AreMillis};
 ghost use Rattle.fm_encode_error.specs.declared.EncodeError.{EncodeError};
 ghost use Rattle.fm_exposition.specs.inside.DocumentRows.{document_rows};
 ghost use Rattle.fm_exposition.specs.Samples.{labels_of};
-ghost use Rattle.fm_exposition.specs.Written.{AppendsDocument, BeginsDocument, IsWritersFault};
+ghost use Rattle.fm_exposition.specs.Written.{AppendsDocument, AppendsBeginningOfDocument, IsWritersFault};
 ghost use Rattle.fm_registry_calls.specs.Listing.{listed_name, order, IsListable};
 ghost use Rattle.fm_registry_calls.specs.Tree.{Shows};
 ghost use Rattle.fm_registry.specs.Seen.{seen_list, seen_listed};
@@ -171,7 +171,7 @@ pub(crate) fn write_lines<W: Write>(writer: &mut W, lines: &Lines) -> Result<(),
         → OnOk result (AppendsDocument (W.contents writer.old) (W.contents writer.new) e) }
     ensures stopped { (e : Exposition) → IsExposition e → lines.now.text ≡ document_rows e
         → IfErr result (λ k. IsWritersFault k
-        → BeginsDocument (W.contents writer.old) (W.contents writer.new) e) }
+        → AppendsBeginningOfDocument (W.contents writer.old) (W.contents writer.new) e) }
     ensures fault { IfErr result IsWritersFault }
 {
     write_text(writer, lines.as_slice())

@@ -19,7 +19,7 @@ ghost use Rattle.fm_core.specs.Families.{next_heading, FaultUnder, EncodesFamily
 ghost use Rattle.fm_core.specs.inside.Offered.{IsFamilyUnder, Offered};
 
 use fm_encode_error::EncodeError;
-use fm_encoder::{EncodeMetric, MetricEncoder};
+use fm_encoder::{EncodeMetric, FirstRefusal, MetricEncoder};
 use fm_exposition::{Exposition, FamilySamples, SampleStore, make};
 use fm_raw::{Metadata, MetricType, Unit};
 use fm_writer::Sink;
@@ -180,7 +180,7 @@ pub struct MetricFamilyEncoder<'a> {
     namespace: Option<&'a str>,
     const_labels: &'a [(String, String)],
     families: Vec<FamilySamples>,
-    refused: Option<EncodeError>,
+    refused: FirstRefusal,
 }
 
 impl<'a> Model for MetricFamilyEncoder<'a> {
@@ -195,7 +195,7 @@ impl<'a> Model for MetricFamilyEncoder<'a> {
       namespace = option_copied e.namespace;
       labels = labels_of e.const_labels.now;
       families = e.families.items;
-      refused = e.refused;
+      refused = e.refused.error;
     } };
 
     ghost invariant = { λ e. IsExposition e.families.items };
@@ -211,7 +211,7 @@ impl<'a> MetricFamilyEncoder<'a> {
             namespace: None,
             const_labels: &[],
             families: Vec::new(alloc),
-            refused: None,
+            refused: FirstRefusal::none(),
         }
     }
 
@@ -267,14 +267,6 @@ impl<'a> MetricFamilyEncoder<'a> {
         }
     }
 
-    fn refuse(&mut self, error: EncodeError) -> Result<(), EncodeError>
-        ensures refused { self.new ≡ record self.old { refused = Some error } }
-        ensures answered { result ≡ Err error }
-    {
-        self.refused = Some(error);
-        Err(error)
-    }
-
     /// Takes the next metric: adds its family with this metadata, unless the metric is empty. The metadata is that of a metric of
     /// the current registry, whose printed name no family has so far. Fails with `Memory` if memory runs out, or for a fault of
     /// the metric; from then on each call returns this first error and changes nothing. It may wait if the metric waits for a lock.
@@ -290,7 +282,7 @@ impl<'a> MetricFamilyEncoder<'a> {
             (may_be_empty metric.now) (may_fault metric.now)
             (next_heading self.old metadata.now) self.old self.new) self.new.refused result }
     {
-        if let Some(error) = self.refused {
+        if let Some(error) = self.refused.error {
             return Err(error);
         }
         if metric.is_empty() {
@@ -299,9 +291,9 @@ impl<'a> MetricFamilyEncoder<'a> {
         match self.family_of(metadata, metric) {
             Ok(family) => match self.families.push(family) {
                 Ok(()) => Ok(()),
-                Err(_) => self.refuse(EncodeError::Memory),
+                Err(_) => self.refused.refuse(EncodeError::Memory),
             },
-            Err(error) => self.refuse(error),
+            Err(error) => self.refused.refuse(error),
         }
     }
 
@@ -316,7 +308,7 @@ impl<'a> MetricFamilyEncoder<'a> {
             refused,
             ..
         } = self;
-        match refused {
+        match refused.error {
             Some(error) => Err(error),
             None => Ok(make::exposition(families)),
         }

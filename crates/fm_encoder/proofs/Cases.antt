@@ -15,10 +15,6 @@ pub none_from_not : {X : Type 0} → (o : Option X) → ((x : X) → o ≡ Some 
 none_from_not None never = refl
 none_from_not (Some x) never = absurd (never x refl)
 
-pub ok_from_not : (r : Result (Unit {0}) EncodeError) → ((e : EncodeError) → r ≡ Err e → ⊥) → r ≡ Ok tt
-ok_from_not (Ok _) never = refl
-ok_from_not (Err e) never = absurd (never e refl)
-
 -- an encoder that returns no refusal has none
 pub none_from_answer : {r : Result (Unit {0}) EncodeError} → (refused : Option EncodeError) → r ≡ result_of refused → r ≡ Ok tt → refused ≡ None
 none_from_answer None is ok = refl

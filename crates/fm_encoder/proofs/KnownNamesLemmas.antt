@@ -7,27 +7,27 @@ use Rattle.std.proofs.lemmas.List.{take-map, map-append}
 use Rattle.fm_grammar.specs.declared.MetricType.{MetricType}
 use Rattle.fm_grammar.specs.Exposition.{Text, Label}
 use Rattle.fm_encoder.specs.Labels.{NameFits, label_names}
-use Rattle.fm_encoder.specs.inside.KnownNames.{KnownState, MayFollow, AreTested, HaveNames, AreKnown}
+use Rattle.fm_encoder.specs.inside.KnownNames.{KnownState, MayFollow, MayFollowInTurn, HaveNames, AreKnown}
 use Rattle.fm_writer.specs.inside.LabelTexts.{LabelsState, whole_label}
 
 nothing : {X : Type 0} {x : X} → ◌≡◌ {A = Option X} None (Some x) → ⊥
 nothing e = cc
 
 -- the first of tested names
-pub tested-take : (type : MetricType) (before names : List Text) (count : ℕ) → AreTested type before names → AreTested type before (take count names)
+pub tested-take : (type : MetricType) (before names : List Text) (count : ℕ) → MayFollowInTurn type before names → MayFollowInTurn type before (take count names)
 tested-take type before [] zero h = tt
 tested-take type before [] (suc count) h = tt
 tested-take type before (n ∷ names) zero h = tt
 tested-take type before (n ∷ names) (suc count) h = (h.0, tested-take type (before ++ n ∷ []) names count h.1)
 
 -- a further name that may follow them
-pub tested-push : (type : MetricType) (before names : List Text) (name : Text) → AreTested type before names → MayFollow type (before ++ names) name → AreTested type before (names ++ name ∷ [])
+pub tested-push : (type : MetricType) (before names : List Text) (name : Text) → MayFollowInTurn type before names → MayFollow type (before ++ names) name → MayFollowInTurn type before (names ++ name ∷ [])
 tested-push type before [] name h follows = (subst (λ (ns : List Text). MayFollow type ns name) (append-nil before) follows, tt)
 tested-push type before (n ∷ names) name h follows =
     (h.0, tested-push type (before ++ n ∷ []) names name h.1 (subst (λ (ns : List Text). MayFollow type ns name) (sym (append_assoc before (n ∷ []) names)) follows))
 
 -- a known name follows those before it
-pub follows-known : (type : MetricType) (before names : List Text) (i : ℕ) (name : Text) → AreTested type before names → slice_get names i ≡ Some name → MayFollow type (before ++ take i names) name
+pub follows-known : (type : MetricType) (before names : List Text) (i : ℕ) (name : Text) → MayFollowInTurn type before names → slice_get names i ≡ Some name → MayFollow type (before ++ take i names) name
 follows-known type before [] i name h at = absurd (nothing at)
 follows-known type before (n ∷ names) zero name h at = cases_some type before n name h.0 at
   where
@@ -49,17 +49,17 @@ pub known_at : (names : List (String Global)) (i : ℕ) (s : String Global) (nam
 known_at names i s name at is = slice_get-map string_bytes names i ∙ ap (option_map string_bytes) at ∙ ap Some is
 
 -- the first names, which remain if there is no memory for a further one
-pub tested_first : (type : MetricType) (olds firsts : List (String Global)) (count : ℕ) → AreTested type [] (names_in olds) → firsts ≡ take count olds → AreTested type [] (names_in firsts)
-tested_first type olds firsts count h is = subst (AreTested type []) (take-map string_bytes count olds ∙ ap names_in (sym is)) (tested-take type [] (names_in olds) count h)
+pub tested_first : (type : MetricType) (olds firsts : List (String Global)) (count : ℕ) → MayFollowInTurn type [] (names_in olds) → firsts ≡ take count olds → MayFollowInTurn type [] (names_in firsts)
+tested_first type olds firsts count h is = subst (MayFollowInTurn type []) (take-map string_bytes count olds ∙ ap names_in (sym is)) (tested-take type [] (names_in olds) count h)
 
 -- the names with a further one after the first of them
 pub learnt_names : (olds firsts news : List (String Global)) (count : ℕ) (s : String Global) (name : Text) → firsts ≡ take count olds → news ≡ firsts ++ s ∷ [] → string_bytes s ≡ name → names_in news ≡ take count (names_in olds) ++ name ∷ []
 learnt_names olds firsts news count s name taken pushed is =
     ap names_in pushed ∙ map-append string_bytes firsts (s ∷ []) ∙ ap (λ ns. ns ++ string_bytes s ∷ []) (ap names_in taken ∙ sym (take-map string_bytes count olds)) ∙ ap (λ n. take count (names_in olds) ++ n ∷ []) is
 
-pub tested_learnt : (type : MetricType) (olds firsts news : List (String Global)) (count : ℕ) (s : String Global) (name : Text) → AreTested type [] (names_in olds) → MayFollow type (take count (names_in olds)) name → firsts ≡ take count olds → news ≡ firsts ++ s ∷ [] → string_bytes s ≡ name → AreTested type [] (names_in news)
+pub tested_learnt : (type : MetricType) (olds firsts news : List (String Global)) (count : ℕ) (s : String Global) (name : Text) → MayFollowInTurn type [] (names_in olds) → MayFollow type (take count (names_in olds)) name → firsts ≡ take count olds → news ≡ firsts ++ s ∷ [] → string_bytes s ≡ name → MayFollowInTurn type [] (names_in news)
 tested_learnt type olds firsts news count s name h follows taken pushed is =
-    subst (AreTested type []) (sym (learnt_names olds firsts news count s name taken pushed is)) (tested-push type [] (take count (names_in olds)) name (tested-take type [] (names_in olds) count h) follows)
+    subst (MayFollowInTurn type []) (sym (learnt_names olds firsts news count s name taken pushed is)) (tested-push type [] (take count (names_in olds)) name (tested-take type [] (names_in olds) count h) follows)
 
 -- a name that is known at the index of the next label fits
 pub fits_known : (type of_type : MetricType) (names : List Text) (labels : List Label) (name : Text) → of_type ≡ type → HaveNames names labels None → MayFollow of_type (take (length labels) names) name → NameFits type labels name

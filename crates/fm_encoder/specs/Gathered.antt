@@ -1,5 +1,5 @@
 -- What encoders have gathered so far, and what they have refused.
-use Rattle.std.specs.Prelude.{◌≡◌, List, Option, Some, None, Result, Ok, Err, ◌⊎◌}
+use Rattle.std.specs.Prelude.{◌≡◌, List, Option, Some, None, Result, Ok, Err, MatchResult, ◌⊎◌}
 use Rattle.fm_grammar.specs.declared.MetricType.{MetricType}
 use Rattle.fm_grammar.specs.Exposition.{Label, Value, Exemplar}
 use Rattle.fm_encode_error.specs.declared.EncodeError.{EncodeError}
@@ -55,6 +55,14 @@ result_of (Some k) = Err k
 abbrev pub own_refusal : EncodeError → EncodeError
 own_refusal Memory = Memory
 own_refusal _ = MetricFault
+
+-- What a source's visit comes to, where this was refused and the source returned `visited`: the first refusal, or else what the
+-- encoder makes of the source's own error.
+abbrev pub IsOutcome : Option EncodeError → Result (Unit {0}) EncodeError → Result (Unit {0}) EncodeError → Type 0
+IsOutcome refused visited result =
+    MatchResult result
+    (λ _. (refused ≡ None) × (visited ≡ Ok tt))
+    (λ k. (refused ≡ Some k) ⊎ ((e : EncodeError) × (refused ≡ None) × (visited ≡ Err e) × (k ≡ own_refusal e)))
 
 -- why an encoder refuses a source's own error: want of memory, or the source may return errors of its own
 abbrev pub OwnRefusal : Type 0 → EncodeError → Type 0

@@ -10,9 +10,9 @@ ghost use Rattle.fm_encoder.specs.Gathered.{OwnRefusal};
 ghost use Rattle.fm_encoder.specs.Hands.{HandsExemplars};
 ghost use Rattle.fm_encoder.specs.Takes.{TakesExemplars};
 
+use crate::first_refusal::FirstRefusal;
 use crate::label::LabelSetEncoder;
 use crate::label_set::EncodeLabelSet;
-use crate::own::own_refusal;
 use fm_code_points::are_short;
 use fm_encode_error::EncodeError;
 use fm_exposition::{Exemplar, make};
@@ -56,7 +56,7 @@ impl EncodeExemplar for () {
 pub struct ExemplarEncoder {
     alloc: Global,
     exemplar: Option<Exemplar>,
-    refused: Option<EncodeError>,
+    refused: FirstRefusal,
 }
 
 impl Model for ExemplarEncoder {
@@ -70,21 +70,13 @@ impl Model for ExemplarEncoder {
 
     ghost view = { λ e. record {
       exemplars = option_to_list (option_map exemplar_of e.exemplar);
-      refused = e.refused;
+      refused = e.refused.error;
     } };
 
     ghost invariant = { λ e. IfSome e.exemplar (λ x. IsExemplar (exemplar_of x)) };
 }
 
 impl ExemplarEncoder {
-    fn refuse(&mut self, error: EncodeError) -> Result<(), EncodeError>
-        ensures refused { self.new ≡ record self.old { refused = Some error } }
-        ensures answered { result ≡ Err error }
-    {
-        self.refused = Some(error);
-        Err(error)
-    }
-
     /// Takes the exemplar: its labels, the observed value, and when it was observed, since the Unix epoch. The time is written in
     /// whole milliseconds. The labels are read even if their `is_empty` returns true.
     ///
@@ -102,18 +94,18 @@ impl ExemplarEncoder {
             ∷ [])
             (LS.may_fault labels.now) self.old self.new result }
     {
-        if let Some(error) = self.refused {
+        if let Some(error) = self.refused.error {
             return Err(error);
         }
         if self.exemplar.is_some() {
-            return self.refuse(EncodeError::ExemplarTwice);
+            return self.refused.refuse(EncodeError::ExemplarTwice);
         }
         match exemplar_from(self.alloc, labels, value, time) {
             Ok(exemplar) => {
                 self.exemplar = Some(exemplar);
                 Ok(())
             }
-            Err(error) => self.refuse(error),
+            Err(error) => self.refused.refuse(error),
         }
     }
 }
@@ -193,7 +185,7 @@ pub(crate) fn exemplar_given<E: EncodeExemplar>(
     let mut encoder = ExemplarEncoder {
         alloc,
         exemplar: None,
-        refused: None,
+        refused: FirstRefusal::none(),
     };
     let visited = exemplar.encode(&mut encoder);
     let ExemplarEncoder {
@@ -201,13 +193,8 @@ pub(crate) fn exemplar_given<E: EncodeExemplar>(
         refused,
         ..
     } = encoder;
-    if let Some(error) = refused {
-        return Err(error);
-    }
-    match visited {
-        Ok(()) => Ok(exemplar),
-        Err(error) => Err(own_refusal(error)),
-    }
+    refused.outcome(visited)?;
+    Ok(exemplar)
 }
 
 // The same for a source that may be missing.

@@ -22,14 +22,14 @@ pub(crate) struct KnownNames {
 
 impl Model for KnownNames {
     ghost use Rattle.std.specs.Prelude.{[], map, string_bytes};
-    ghost use Rattle.fm_encoder.specs.inside.KnownNames.{KnownState, AreTested};
+    ghost use Rattle.fm_encoder.specs.inside.KnownNames.{KnownState, MayFollowInTurn};
 
     ghost Value = { KnownState };
 
     ghost view = { λ k.
         record { metric_type = k.metric_type; names = map string_bytes k.names.items } };
 
-    ghost invariant = { λ k. AreTested k.metric_type [] (map string_bytes k.names.items) };
+    ghost invariant = { λ k. MayFollowInTurn k.metric_type [] (map string_bytes k.names.items) };
 }
 
 impl KnownNames {

@@ -2,14 +2,14 @@
 ghost use Rattle.std.specs.Prelude.{◌≡◌, ◌↔◌, IsTrue, IfOk, ℕ, List, [], ◌∷◌, ◌++◌, Bool, ◌⊎◌, Some, None, Ok, Err, OnOk, MatchResult};
 ghost use Rattle.fm_encode_error.specs.declared.EncodeError.{EncodeError};
 ghost use Rattle.fm_encoder.specs.Labels.{HandedLabel, NamePiece, ValuePiece, written};
-ghost use Rattle.fm_encoder.specs.Gathered.{GatheredPieces, GatheredLabels, result_of, own_refusal};
+ghost use Rattle.fm_encoder.specs.Gathered.{GatheredPieces, GatheredLabels, result_of, IsOutcome};
 ghost use Rattle.fm_encoder.specs.Hands.{HandsPieces};
 ghost use Rattle.fm_encoder.specs.Takes.{Takes, TakesPieces, TakesLabels};
 ghost use Rattle.fm_encoder.specs.inside.Steps.{EndsLabel};
 
+use crate::first_refusal::FirstRefusal;
 use crate::known_names::KnownNames;
 use crate::names::is_reserved;
-use crate::own::own_refusal;
 use fm_encode_error::EncodeError;
 use fm_grammar::MetricType;
 use fm_raw::name::is_label_name;
@@ -71,7 +71,7 @@ pub trait EncodeLabel {
 pub struct LabelEncoder {
     metric_type: MetricType,
     labels: LabelText,
-    refused: Option<EncodeError>,
+    refused: FirstRefusal,
     known: KnownNames,
     // The labels so far have the first of the known names.
     is_known: bool,
@@ -88,7 +88,7 @@ impl Model for LabelEncoder {
       metric_type = e.metric_type;
       labels = e.labels.labels;
       pieces = pieces_of e.labels.name e.labels.value;
-      refused = e.refused;
+      refused = e.refused.error;
     } };
 
     ghost invariant = { λ e.
@@ -103,7 +103,7 @@ impl LabelEncoder {
         ensures pieces { self.new.pieces ≡ [] }
         ensures labels { OnOk result (self.new.labels ≡ before.now.labels) }
     {
-        self.refused = None;
+        self.refused = FirstRefusal::none();
         self.is_known = false;
         self.labels.assign(before)
     }
@@ -114,18 +114,10 @@ impl LabelEncoder {
             ≡ record { metric_type = metric_type; labels = []; pieces = []; refused = None } }
     {
         self.metric_type = metric_type;
-        self.refused = None;
+        self.refused = FirstRefusal::none();
         self.known.begin(metric_type);
         self.labels.clear();
         self.is_known = true;
-    }
-
-    fn refuse(&mut self, error: EncodeError) -> Result<(), EncodeError>
-        ensures refused { self.new ≡ record self.old { refused = Some error } }
-        ensures answered { result ≡ Err error }
-    {
-        self.refused = Some(error);
-        Err(error)
     }
 
     /// Takes the label's name. Errors, in this order: the label already has a piece (`MalformedLabel`); the name is not a valid
@@ -135,35 +127,35 @@ impl LabelEncoder {
     pub fn encode_label_name(&mut self, name: &str) -> Result<(), EncodeError>
         ensures { TakesPieces (NamePiece name.now ∷ []) ⊥ self.old self.new result }
     {
-        if let Some(error) = self.refused {
+        if let Some(error) = self.refused.error {
             return Err(error);
         }
         if self.labels.is_named() || self.labels.is_valued() {
-            return self.refuse(EncodeError::MalformedLabel);
+            return self.refused.refuse(EncodeError::MalformedLabel);
         }
         if self.is_known && self.known.has_at(self.labels.len(), name) {
             return match self.labels.set_name(name) {
                 Ok(()) => Ok(()),
-                Err(_) => self.refuse(EncodeError::Memory),
+                Err(_) => self.refused.refuse(EncodeError::Memory),
             };
         }
         if !is_label_name(name) {
-            return self.refuse(EncodeError::InvalidLabelName);
+            return self.refused.refuse(EncodeError::InvalidLabelName);
         }
         if is_reserved(self.metric_type, name) {
-            return self.refuse(EncodeError::ReservedLabel);
+            return self.refused.refuse(EncodeError::ReservedLabel);
         }
         if self.labels.has_name(name) {
-            return self.refuse(EncodeError::DuplicateLabel);
+            return self.refused.refuse(EncodeError::DuplicateLabel);
         }
         let was_known = self.is_known;
         self.is_known = self.known.learn(was_known, self.labels.len(), name);
         if was_known && !self.is_known {
-            return self.refuse(EncodeError::Memory);
+            return self.refused.refuse(EncodeError::Memory);
         }
         match self.labels.set_name(name) {
             Ok(()) => Ok(()),
-            Err(_) => self.refuse(EncodeError::Memory),
+            Err(_) => self.refused.refuse(EncodeError::Memory),
         }
     }
 
@@ -172,15 +164,15 @@ impl LabelEncoder {
     pub fn encode_str_value(&mut self, value: &str) -> Result<(), EncodeError>
         ensures { TakesPieces (ValuePiece value.now ∷ []) ⊥ self.old self.new result }
     {
-        if let Some(error) = self.refused {
+        if let Some(error) = self.refused.error {
             return Err(error);
         }
         if !self.labels.is_named() || self.labels.is_valued() {
-            return self.refuse(EncodeError::MalformedLabel);
+            return self.refused.refuse(EncodeError::MalformedLabel);
         }
         match self.labels.set_value(value) {
             Ok(()) => Ok(()),
-            Err(_) => self.refuse(EncodeError::Memory),
+            Err(_) => self.refused.refuse(EncodeError::Memory),
         }
     }
 
@@ -196,7 +188,7 @@ impl LabelEncoder {
     {
         match self.labels.end_label() {
             Ok(()) => Ok(()),
-            Err(_) => self.refuse(EncodeError::Memory),
+            Err(_) => self.refused.refuse(EncodeError::Memory),
         }
     }
 
@@ -204,16 +196,11 @@ impl LabelEncoder {
     fn end_label(&mut self, visited: Result<(), EncodeError>) -> Result<(), EncodeError>
         ensures { Takes (EndsLabel visited self.old self.new) self.new.refused result }
     {
-        if let Some(error) = self.refused {
-            return Err(error);
-        }
-        if let Err(error) = visited {
-            return self.refuse(own_refusal(error));
-        }
+        self.refused.end(visited)?;
         match (self.labels.is_named(), self.labels.is_valued()) {
             (false, false) => Ok(()),
             (true, true) => self.write_label(),
-            _ => self.refuse(EncodeError::MalformedLabel),
+            _ => self.refused.refuse(EncodeError::MalformedLabel),
         }
     }
 }
@@ -248,7 +235,7 @@ impl LabelSetEncoder {
             label: LabelEncoder {
                 metric_type,
                 labels: LabelText::new(alloc),
-                refused: None,
+                refused: FirstRefusal::none(),
                 known: KnownNames::new(alloc, metric_type),
                 is_known: false,
             },
@@ -297,19 +284,9 @@ impl LabelSetEncoder {
 
     // The first refusal, after the visited source returned `visited`.
     pub(crate) fn outcome(&self, visited: Result<(), EncodeError>) -> Result<(), EncodeError>
-        ensures { MatchResult result
-            (λ _. (self.now.refused ≡ None) × (visited ≡ Ok tt))
-            (λ k. (self.now.refused ≡ Some k)
-            ⊎ ((e : EncodeError)
-            × (self.now.refused ≡ None) × (visited ≡ Err e) × (k ≡ own_refusal e))) }
+        ensures { IsOutcome self.now.refused visited result }
     {
-        if let Some(error) = self.label.refused {
-            return Err(error);
-        }
-        match visited {
-            Ok(()) => Ok(()),
-            Err(error) => Err(own_refusal(error)),
-        }
+        self.label.refused.outcome(visited)
     }
 
     // The labels.

@@ -6,6 +6,7 @@
 
 mod constants;
 pub mod exemplar;
+mod first_refusal;
 mod gathered;
 mod kept;
 mod known_names;
@@ -19,11 +20,11 @@ mod law;
 pub mod metric;
 pub mod metric_type;
 mod names;
-mod own;
 pub mod point;
 pub mod value;
 
 pub use exemplar::{EncodeExemplar, ExemplarEncoder, LabeledExemplar};
+pub use first_refusal::FirstRefusal;
 pub use fm_encode_error::EncodeError;
 pub use kept::KeptLabels;
 pub use label::{EncodeLabel, EncodeLabelName, EncodeLabelValue, LabelEncoder, LabelSetEncoder};

@@ -11,7 +11,7 @@ ghost use Rattle.fm_writer.specs.Output.{AreShared, OutputText, with_lines};
 ghost use Rattle.fm_encoder.specs.Labels.{LabelsClean, LabelsFault, all_written, handed_again};
 ghost use Rattle.fm_encoder.specs.Points.{Member, UnknownPoint, GaugePoint, CounterPoint, StateSetPoint, InfoPoint, millis};
 ghost use Rattle.fm_encoder.specs.States.{state_of};
-ghost use Rattle.fm_encoder.specs.Gathered.{OwnRefusal, own_refusal};
+ghost use Rattle.fm_encoder.specs.Gathered.{OwnRefusal, IsOutcome};
 ghost use Rattle.fm_encoder.specs.Kept.{Keeps};
 ghost use Rattle.fm_encoder.specs.Hands.{HandsMembers, MembersOf};
 ghost use Rattle.fm_encoder.specs.Takes.{TakesMembers};
@@ -20,7 +20,6 @@ use crate::constants::ConstantLabels;
 use crate::exemplar::EncodeExemplar;
 use crate::kept::KeptLabels;
 use crate::label_set::EncodeLabelSet;
-use crate::own::own_refusal;
 use crate::point::{EncodePoint, PointEncoder};
 use crate::value::{EncodeCounterValue, EncodeGaugeValue, EncodeUnknownValue};
 use fm_encode_error::EncodeError;
@@ -369,19 +368,9 @@ impl MetricEncoder {
 
     /// The first refusal, after the metric returned `visited`. It is for the collector.
     pub fn outcome(&self, visited: Result<(), EncodeError>) -> Result<(), EncodeError>
-        ensures { MatchResult result
-            (λ _. (self.now.refused ≡ None) × (visited ≡ Ok tt))
-            (λ k. (self.now.refused ≡ Some k)
-            ⊎ ((e : EncodeError)
-            × (self.now.refused ≡ None) × (visited ≡ Err e) × (k ≡ own_refusal e))) }
+        ensures { IsOutcome self.now.refused visited result }
     {
-        if let Some(error) = self.points.refused() {
-            return Err(error);
-        }
-        match visited {
-            Ok(()) => Ok(()),
-            Err(error) => Err(own_refusal(error)),
-        }
+        self.points.outcome(visited)
     }
 
     /// The name of the last family, and the sink. It is for the collector.

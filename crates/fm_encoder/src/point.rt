@@ -11,17 +11,17 @@ ghost use Rattle.fm_writer.specs.Output.{AreShared, appended, with_lines};
 ghost use Rattle.fm_encoder.specs.Points.{Point};
 ghost use Rattle.fm_encoder.specs.Labels.{LabelsClean, LabelsFault, all_written, handed_again};
 ghost use Rattle.fm_encoder.specs.inside.FreeLabels.{AreFree};
-ghost use Rattle.fm_encoder.specs.Gathered.{OwnRefusal};
+ghost use Rattle.fm_encoder.specs.Gathered.{OwnRefusal, IsOutcome};
 ghost use Rattle.fm_encoder.specs.Takes.{Takes};
 ghost use Rattle.fm_encoder.specs.Hands.{HandsPoints};
 ghost use Rattle.fm_encoder.specs.Kept.{Keeps};
 ghost use Rattle.fm_encoder.specs.inside.Steps.{FitsType, BeginsPoint, BeginsMember, PushesSample, EndsPoints};
 
 use crate::constants::ConstantLabels;
+use crate::first_refusal::FirstRefusal;
 use crate::kept::KeptLabels;
 use crate::label::LabelSetEncoder;
 use crate::label_set::EncodeLabelSet;
-use crate::own::own_refusal;
 use crate::point::bound_label::BoundLabel;
 use fm_encode_error::EncodeError;
 use fm_exposition::{Exemplar, Value};
@@ -62,7 +62,7 @@ pub struct PointEncoder {
     labels: LabelSetEncoder,
     deferred: Option<EncodeError>,
     sink: Sink,
-    refused: Option<EncodeError>,
+    refused: FirstRefusal,
     // The labels of the buckets of the histogram before.
     bounds: Vec<BoundLabel>,
     // The labels of a sample that has none of its own.
@@ -81,7 +81,7 @@ impl Model for PointEncoder {
       common = e.labels.labels;
       deferred = e.deferred;
       output = e.sink.output;
-      refused = e.refused;
+      refused = e.refused.error;
     } };
 
     ghost use Rattle.fm_encoder.specs.inside.Gathering.{IsGathering};
@@ -178,7 +178,7 @@ impl PointEncoder {
             labels: LabelSetEncoder::new(alloc, metric_type),
             deferred: None,
             sink,
-            refused: None,
+            refused: FirstRefusal::none(),
             bounds: Vec::new(alloc),
             none: LabelText::new(alloc),
         }
@@ -217,26 +217,18 @@ impl PointEncoder {
             .append_heads(self.name.as_str(), metric_type, help, unit)
     }
 
-    fn refuse(&mut self, error: EncodeError) -> Result<(), EncodeError>
-        ensures refused { self.new ≡ record self.old { refused = Some error } }
-        ensures answered { result ≡ Err error }
-    {
-        self.refused = Some(error);
-        Err(error)
-    }
-
     // Tests a point's type, and then whether the common labels were refused. The next sample begins the point.
     fn begin_point(&mut self, metric_type: MetricType) -> Result<(), EncodeError>
         ensures { Takes (BeginsPoint metric_type self.old self.new) self.new.refused result }
     {
-        if let Some(error) = self.refused {
+        if let Some(error) = self.refused.error {
             return Err(error);
         }
         if metric_type != self.labels.metric_type() {
-            return self.refuse(EncodeError::KindMismatch);
+            return self.refused.refuse(EncodeError::KindMismatch);
         }
         if let Some(error) = self.deferred {
-            return self.refuse(error);
+            return self.refused.refuse(error);
         }
         self.sink.end_point();
         Ok(())
@@ -276,7 +268,7 @@ impl PointEncoder {
             exemplar,
         ) {
             Ok(()) => Ok(()),
-            Err(error) => self.refuse(error),
+            Err(error) => self.refused.refuse(error),
         }
     }
 
@@ -310,14 +302,21 @@ impl PointEncoder {
             exemplar,
         ) {
             Ok(()) => Ok(()),
-            Err(error) => self.refuse(error),
+            Err(error) => self.refused.refuse(error),
         }
     }
 
     pub(crate) fn refused(&self) -> Option<EncodeError>
         ensures { result ≡ self.now.refused }
     {
-        self.refused
+        self.refused.error
+    }
+
+    // The first refusal, after the visited source returned `visited`.
+    pub(crate) fn outcome(&self, visited: Result<(), EncodeError>) -> Result<(), EncodeError>
+        ensures { IsOutcome self.now.refused visited result }
+    {
+        self.refused.outcome(visited)
     }
 
     pub(crate) fn time(&self) -> Option<u128>
@@ -354,13 +353,7 @@ impl PointEncoder {
     pub(crate) fn end_points(&mut self, visited: Result<(), EncodeError>) -> Result<(), EncodeError>
         ensures { Takes (EndsPoints visited self.old self.new) self.new.refused result }
     {
-        if let Some(error) = self.refused {
-            return Err(error);
-        }
-        match visited {
-            Ok(()) => Ok(()),
-            Err(error) => self.refuse(own_refusal(error)),
-        }
+        self.refused.end(visited)
     }
 
     // The family's name, and the sink.

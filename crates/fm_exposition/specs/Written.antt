@@ -21,8 +21,8 @@ abbrev pub AppendsDocument : Option Text → Option Text → Exposition → Type
 AppendsDocument old new e = (text : Text) × IsDocumentOf text e × Appends old new text
 
 -- a beginning of the document was appended
-abbrev pub BeginsDocument : Option Text → Option Text → Exposition → Type 0
-BeginsDocument old new e = (text : Text) × IsDocumentOf text e × AppendsBeginning old new text
+abbrev pub AppendsBeginningOfDocument : Option Text → Option Text → Exposition → Type 0
+AppendsBeginningOfDocument old new e = (text : Text) × IsDocumentOf text e × AppendsBeginning old new text
 
 -- the errors of a call that writes
 abbrev pub IsWritingRefusal : EncodeError → Type 0

@@ -15,7 +15,7 @@ use Rattle.fm_grammar.specs.inside.Lines.{State, Open, Headed, closed, Follows, 
 use Rattle.fm_reader_lines.proofs.NameSets.{holds_more}
 use Rattle.std.specs.Option.{option_map}
 use Rattle.fm_reader_lines.specs.inside.Lines.{FoundType, shown_type}
-use Rattle.fm_reader.specs.inside.Steps.{state_of, IsStep, FoundNewType}
+use Rattle.fm_reader.specs.inside.Steps.{reading_state, IsStep, FoundNewType}
 use Rattle.fm_reader.specs.inside.Names.{names_of, state_names, IsFresh, has, HasNames, IsNoted, with_found, FoundNoted}
 use Rattle.fm_reader.specs.declared.machine.Reading.{Reading}
 use Rattle.fm_reader.specs.declared.error.ReadError.{ReadError}
@@ -89,11 +89,11 @@ kept _ line _ none (last_line p) = refl
 
 -- the set has the names of the state where a line leads
 abbrev NamesAfter : BTreeSet (Bor Text) → Option Reading → Type 0
-NamesAfter set next = IfSome next (λ r. HasNames set (state_names (state_of r)))
+NamesAfter set next = IfSome next (λ r. HasNames set (state_names (reading_state r)))
 
 keeps : (set : BTreeSet (Bor Text)) (before : State) (line : Text) (next : Option Reading) → NoType before line → IsStep before line next → HasNames set (state_names before) → NamesAfter set next
 keeps set before line None none h known = tt
-keeps set before line (Some reading) none h known = subst (HasNames set) (sym (kept before line (state_of reading) none h)) known
+keeps set before line (Some reading) none h known = subst (HasNames set) (sym (kept before line (reading_state reading) none h)) known
 
 pub headed_keeps : (set : BTreeSet (Bor Text)) (finished : List Family) (name : Text) (m : MetricType) (line : Text) (r : Result (Option Reading) ReadError) → IfOk r (λ next. IsStep (Headed finished name m) line next) → HasNames set (state_names (Headed finished name m)) → IfOk r (λ next. NamesAfter set next)
 headed_keeps set finished name m line (Err e) h known = h

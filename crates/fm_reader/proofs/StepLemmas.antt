@@ -12,7 +12,7 @@ use Rattle.fm_grammar.proofs.FamilyNames.{IsNameByte, snake_case_bytes}
 use Rattle.fm_grammar.specs.Kinds.{type_word}
 use Rattle.std.proofs.lemmas.List.{append_cancel_left}
 use Rattle.fm_reader_lines.specs.inside.Lines.{FoundHelp, FoundUnit, FoundSample}
-use Rattle.fm_reader.specs.inside.Steps.{state_of, IsStep, IsStepWithin, FoundNewType}
+use Rattle.fm_reader.specs.inside.Steps.{reading_state, IsStep, IsStepWithin, FoundNewType}
 use Rattle.fm_reader.specs.declared.machine.Reading.{Reading}
 use Rattle.fm_reader.specs.declared.error.ReadError.{ReadError}
 
@@ -113,7 +113,7 @@ none_refuses finished current line none last types =
 pub within_step : (finished : List Family) (current : Option Family) (family : Family) (line : Text) (r : Result (Option Reading) ReadError) → current ≡ Some family → (IsLastLine line → ⊥) → FoundNewType (closed finished current) line None
     → IfOk r (λ next. IsStepWithin finished family line next) → IfOk r (λ next. IsStep (Open finished current) line next)
 within_step finished current family line (Err e) some last types h = h
-within_step finished current family line (Ok (Some reading)) some last types h = subst (λ c. Follows (Open finished c) line (state_of reading)) (sym some) h
+within_step finished current family line (Ok (Some reading)) some last types h = subst (λ c. Follows (Open finished c) line (reading_state reading)) (sym some) h
 within_step finished current family line (Ok None) some last types h =
     open_refuses finished current line (record {
       last = last;

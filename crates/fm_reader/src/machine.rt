@@ -5,7 +5,7 @@ ghost use Rattle.fm_grammar.specs.Document.{IsLastLine};
 ghost use Rattle.fm_reader_lines.specs.inside.Lines.{shown_type};
 ghost use Rattle.fm_reader_lines.specs.inside.Samples.{read_sample_of};
 ghost use Rattle.fm_grammar.specs.inside.Lines.{closed, with_unit, with_sample, Open as OpenState, Headed as HeadedState};
-ghost use Rattle.fm_reader.specs.inside.Steps.{state_of, IsStep, IsStepWithin, IsEnding};
+ghost use Rattle.fm_reader.specs.inside.Steps.{reading_state, IsStep, IsStepWithin, IsEnding};
 ghost use Rattle.fm_reader.specs.inside.Names.{names_of, state_names, HasNames, IsNoted, FoundNoted};
 ghost use Rattle.fm_reader.specs.declared.error.ReadError.TheVariants.{Memory};
 
@@ -142,10 +142,10 @@ pub(crate) fn step<'a>(
     reading: Reading,
     line: &'a str,
 ) -> Result<Option<Reading>, ReadError>
-    requires names { HasNames names.old (state_names (state_of reading)) }
+    requires names { HasNames names.old (state_names (reading_state reading)) }
     ensures names { IfOk result
-        (λ next. IfSome next (λ r. HasNames names.new (state_names (state_of r)))) }
-    ensures step { IfOk result (λ next. IsStep (state_of reading) line.now next) }
+        (λ next. IfSome next (λ r. HasNames names.new (state_names (reading_state r)))) }
+    ensures step { IfOk result (λ next. IsStep (reading_state reading) line.now next) }
     ensures memory { IfErr result (λ e. e ≡ Memory) }
 {
     match reading {
@@ -169,7 +169,7 @@ fn step_open<'a>(
 ) -> Result<Option<Reading>, ReadError>
     requires names { HasNames names.old (names_of (closed finished.items current)) }
     ensures names { IfOk result
-        (λ next. IfSome next (λ r. HasNames names.new (state_names (state_of r)))) }
+        (λ next. IfSome next (λ r. HasNames names.new (state_names (reading_state r)))) }
     ensures step { IfOk result (λ next. IsStep (OpenState finished.items current) line.now next) }
     ensures memory { IfErr result (λ e. e ≡ Memory) }
 {
@@ -302,7 +302,7 @@ fn note<'a>(names: &mut BTreeSet<&'a str>, name: &'a str) -> Result<bool, ReadEr
 
 /// The families, if the last line was read.
 pub(crate) fn ended(reading: Reading) -> Option<Vec<FamilySamples>>
-    ensures { IsEnding (state_of reading) result }
+    ensures { IsEnding (reading_state reading) result }
 {
     match reading {
         Reading::Ended { families } => Some(families),

@@ -15,7 +15,7 @@ use Rattle.fm_grammar.proofs.NumberTexts.{IsUnsignedByte, IsNumberByte, one_fixe
 use Rattle.fm_grammar.proofs.Values.{value_bytes, is_spellable}
 use Rattle.fm_reader_parts.specs.inside.Numbers.{FoundWhole, FoundMillis, FoundFixed}
 use Rattle.fm_reader_parts.proofs.LabelNames.{all_from}
-use Rattle.fm_reader_lines.specs.inside.Parts.{tail_text, IsToken, FoundValue, FoundNumber, IsNumber, EndsTime, IsTimeFront, FoundSmall}
+use Rattle.fm_reader_lines.specs.inside.Parts.{tail_text, IsToken, FoundValue, FoundNumber, HasNoMillis, EndsTime, IsTimeFront, FoundSmall}
 
 -- no space is in the text
 abbrev pub IsUnspaced : Text → Type 0
@@ -80,13 +80,13 @@ no_millis_value text h (Whole z) suits fits e = suits
 no_millis_value text h (Fixed z) suits fits e = suits
 no_millis_value text h (Millis t) suits fits e = h t fits e
 
-suits_number : (kind : SampleKind) → kind ≢ Created → (value : Value) → ValueSuits kind value → IsNumber value
+suits_number : (kind : SampleKind) → kind ≢ Created → (value : Value) → ValueSuits kind value → HasNoMillis value
 suits_number kind other (Whole z) s = tt
 suits_number kind other (Fixed z) s = tt
 suits_number Created other (Millis t) s = other refl
 suits_number _ other (Millis t) s = s
 
-number_suits : (kind : SampleKind) → kind ≢ Created → (value : Value) → IsNumber value → ValueSuits kind value
+number_suits : (kind : SampleKind) → kind ≢ Created → (value : Value) → HasNoMillis value → ValueSuits kind value
 number_suits kind other (Millis t) n = absurd n
 number_suits Created other value n = absurd (other refl)
 number_suits _ other (Whole z) n = tt

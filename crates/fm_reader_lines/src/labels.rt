@@ -2,7 +2,7 @@
 ghost use Rattle.std.specs.Prelude.{◌≡◌, ◌↔◌, IsTrue, IfOk, map};
 ghost use Rattle.fm_grammar.specs.Names.{AllDifferent};
 ghost use Rattle.fm_exposition.specs.Samples.{labels_of};
-ghost use Rattle.fm_reader_parts.specs.inside.Fronts.{seen_labels};
+ghost use Rattle.fm_reader_parts.specs.inside.Fronts.{front_labels};
 ghost use Rattle.fm_reader_lines.specs.inside.Parts.{IsBracesFront, IsBlockFront};
 
 use fm_reader_parts::labels::read_labels;
@@ -14,7 +14,7 @@ pub(crate) fn read_block(
     alloc: Global,
     text: &str,
 ) -> Result<Option<(Vec<(String, String)>, &str)>, AllocError>
-    ensures { IfOk result (λ found. IsBlockFront text.now (seen_labels found)) }
+    ensures { IfOk result (λ found. IsBlockFront text.now (front_labels found)) }
 {
     if let Some(rest) = text.strip_prefix(' ') {
         return Ok(Some((Vec::new(alloc), rest)));
@@ -37,7 +37,7 @@ pub(crate) fn read_braces(
     alloc: Global,
     text: &str,
 ) -> Result<Option<(Vec<(String, String)>, &str)>, AllocError>
-    ensures { IfOk result (λ found. IsBracesFront text.now (seen_labels found)) }
+    ensures { IfOk result (λ found. IsBracesFront text.now (front_labels found)) }
 {
     let Some((labels, behind)) = read_labels(alloc, text)? else {
         return Ok(None);

@@ -2,7 +2,7 @@
 ghost use Rattle.std.specs.Prelude.{◌≡◌, ◌↔◌, IsTrue, IfOk, map, string_bytes};
 ghost use Rattle.fm_grammar.specs.Names.{AllDifferent};
 ghost use Rattle.fm_exposition.specs.Samples.{labels_of};
-ghost use Rattle.fm_reader_parts.specs.inside.Fronts.{IsEscapedFront, IsLabelFront, IsLabelsFront, seen, seen_label, seen_labels};
+ghost use Rattle.fm_reader_parts.specs.inside.Fronts.{IsEscapedFront, IsLabelFront, IsLabelsFront, seen, seen_label, front_labels};
 
 use fm_raw::is_label_name;
 use std::alloc::{AllocError, Global};
@@ -68,7 +68,7 @@ pub fn read_labels(
     alloc: Global,
     text: &str,
 ) -> Result<Option<(Vec<(String, String)>, &str)>, AllocError>
-    ensures { IfOk result (λ found. IsLabelsFront text.now (seen_labels found)) }
+    ensures { IfOk result (λ found. IsLabelsFront text.now (front_labels found)) }
 {
     let mut labels = Vec::new(alloc);
     if let Some(rest) = text.strip_prefix('}') {

@@ -15,7 +15,7 @@ use Rattle.fm_exposition.proofs.RowLemmas.{list_joined}
 use Rattle.fm_writer.specs.inside.Grown.{Grown}
 use Rattle.fm_writer.specs.declared.label_text.Part.{Part}
 use Rattle.fm_writer.specs.declared.label_text.Place.{Place}
-use Rattle.fm_writer.specs.inside.LabelTexts.{part_in, label_in, labels_in, names_in, IsPart, IsPlace, AreParts, AreKept, IsListed, AreListed, name_in_list, list_before, LabelsState, whole_label, whole_place}
+use Rattle.fm_writer.specs.inside.LabelTexts.{part_in, label_in, labels_in, names_in, IsPart, IsPlace, AreParts, AreWithin, IsListed, AreListed, name_in_list, list_before, LabelsState, whole_label, whole_place}
 
 -- a part of a text is the same part of a longer one
 same_between : (text more : Text) (i j : ℕ) → j ≤ length text → between i j (text ++ more) ≡ between i j text
@@ -224,7 +224,7 @@ end_listed text n v (l ∷ ls) is =
 
 -- one name more, of the current label
 named_listed : (listed next : Bool) (old new name : Text) (ps : List Place) (n v : Option Part) (p : Part) (is_first : Bool) → (IsTrue next → (listed ≡ true) × (n ≡ None) × (v ≡ None)) → is_first ≡ (length ps == 0)
-    → Grown old new (name_in_list is_first name) → part_in new p ≡ name → AreKept listed old ps n v → AreListed next (Some (part_in new p)) (option_map (part_in new) v) new (labels_in new ps)
+    → Grown old new (name_in_list is_first name) → part_in new p ≡ name → AreWithin listed old ps n v → AreListed next (Some (part_in new p)) (option_map (part_in new) v) new (labels_in new ps)
 named_listed listed false old new name ps n v p is_first may e grown is kept = tt
 named_listed true true old new name ps None None p is_first may e grown is kept =
     let base = name_listed old new name (labels_in old ps) is_first (e ∙ ap (λ (k : ℕ). k == 0) (sym (length-map ps (label_in old)))) grown.bytes kept.listed in
@@ -235,7 +235,7 @@ named_listed true true old new name ps None (Some m) p is_first may e grown is k
 named_listed false true old new name ps n v p is_first may e grown is kept = (let never : false ≡ true = (may refl).0 in absurd cc)
 
 pub kept_named : (listed next : Bool) (old new name : Text) (ps : List Place) (n v : Option Part) (p : Part) (is_first : Bool) → (IsTrue next → (listed ≡ true) × (n ≡ None) × (v ≡ None)) → is_first ≡ (length ps == 0)
-    → Grown old new (name_in_list is_first name) → IsPart new p → part_in new p ≡ name → AreKept listed old ps n v → AreKept next new ps (Some p) v
+    → Grown old new (name_in_list is_first name) → IsPart new p → part_in new p ≡ name → AreWithin listed old ps n v → AreWithin next new ps (Some p) v
 kept_named listed next old new name ps n v p is_first may e grown within is kept = record {
   parts = parts_named old new (name_in_list is_first name) ps n v p grown kept.parts within;
   listed = named_listed listed next old new name ps n v p is_first may e grown is kept;
@@ -243,7 +243,7 @@ kept_named listed next old new name ps n v p is_first may e grown within is kept
 
 -- one value more
 valued_listed : (listed next : Bool) (old new value : Text) (ps : List Place) (n v : Option Part) (p : Part) → (IsTrue next → (listed ≡ true) × IsSome n × (v ≡ None) × (escaped value ≡ value))
-    → Grown old new value → part_in new p ≡ value → AreKept listed old ps n v → AreListed next (option_map (part_in new) n) (Some (part_in new p)) new (labels_in new ps)
+    → Grown old new value → part_in new p ≡ value → AreWithin listed old ps n v → AreListed next (option_map (part_in new) n) (Some (part_in new p)) new (labels_in new ps)
 valued_listed listed false old new value ps n v p may grown is kept = tt
 valued_listed true true old new value ps (Some m) None p may grown is kept =
     let base = value_listed old new (part_in old m) value (labels_in old ps) grown.bytes (may refl).3 kept.listed in
@@ -256,14 +256,14 @@ valued_listed true true old new value ps (Some m) (Some w) p may grown is kept =
 valued_listed false true old new value ps n v p may grown is kept = (let never : false ≡ true = (may refl).0 in absurd cc)
 
 pub kept_valued : (listed next : Bool) (old new value : Text) (ps : List Place) (n v : Option Part) (p : Part) → (IsTrue next → (listed ≡ true) × IsSome n × (v ≡ None) × (escaped value ≡ value))
-    → Grown old new value → IsPart new p → part_in new p ≡ value → AreKept listed old ps n v → AreKept next new ps n (Some p)
+    → Grown old new value → IsPart new p → part_in new p ≡ value → AreWithin listed old ps n v → AreWithin next new ps n (Some p)
 kept_valued listed next old new value ps n v p may grown within is kept = record {
   parts = parts_valued old new value ps n v p grown kept.parts within;
   listed = valued_listed listed next old new value ps n v p may grown is kept;
 }
 
 -- the end of a label
-ended_listed : (listed next : Bool) (text : Text) (ps : List Place) (n v : Option Part) → (IsTrue next → (listed ≡ true) × (is_some n ≡ is_some v)) → AreKept listed text ps n v → AreListed next None None text (labels_in text (ps ++ whole_place n v))
+ended_listed : (listed next : Bool) (text : Text) (ps : List Place) (n v : Option Part) → (IsTrue next → (listed ≡ true) × (is_some n ≡ is_some v)) → AreWithin listed text ps n v → AreListed next None None text (labels_in text (ps ++ whole_place n v))
 ended_listed listed false text ps n v may kept = tt
 ended_listed true true text ps None None may kept = subst (λ (qs : List Place). IsListed None None text (labels_in text qs)) (sym (append-nil ps)) kept.listed
 ended_listed true true text ps (Some n) (Some v) may kept =
@@ -272,22 +272,22 @@ ended_listed true true text ps None (Some v) may kept = (let never : false ≡ t
 ended_listed true true text ps (Some n) None may kept = (let never : true ≡ false = (may refl).1 in absurd cc)
 ended_listed false true text ps n v may kept = (let never : false ≡ true = (may refl).0 in absurd cc)
 
-pub kept_ended : (listed next : Bool) (text : Text) (ps : List Place) (n v : Option Part) → (IsTrue next → (listed ≡ true) × (is_some n ≡ is_some v)) → AreKept listed text ps n v → AreKept next text (ps ++ whole_place n v) None None
+pub kept_ended : (listed next : Bool) (text : Text) (ps : List Place) (n v : Option Part) → (IsTrue next → (listed ≡ true) × (is_some n ≡ is_some v)) → AreWithin listed text ps n v → AreWithin next text (ps ++ whole_place n v) None None
 kept_ended listed next text ps n v may kept = record {
   parts = record { places = places_whole text ps n v kept.parts; name = tt; value = tt };
   listed = ended_listed listed next text ps n v may kept;
 }
 
 -- labels whose parts are within the text, if nothing is known of the list
-pub kept_unlisted : (text : Text) (ps : List Place) (n v : Option Part) → AreParts text ps n v → AreKept false text ps n v
+pub kept_unlisted : (text : Text) (ps : List Place) (n v : Option Part) → AreParts text ps n v → AreWithin false text ps n v
 kept_unlisted text ps n v are = record { parts = are; listed = tt }
 
 -- a copy of other labels
-pub kept_copied : (listed next : Bool) (text other : Text) (ps others : List Place) (n v : Option Part) → (IsTrue next → (listed ≡ true) × (n ≡ None) × (v ≡ None)) → text ≡ other → ps ≡ others → AreKept listed other others n v → AreKept next text ps None None
+pub kept_copied : (listed next : Bool) (text other : Text) (ps others : List Place) (n v : Option Part) → (IsTrue next → (listed ≡ true) × (n ≡ None) × (v ≡ None)) → text ≡ other → ps ≡ others → AreWithin listed other others n v → AreWithin next text ps None None
 kept_copied listed next text other ps others n v may texts places kept =
-    subst (λ (t : Text). AreKept next t ps None None) (sym texts) (subst (λ (qs : List Place). AreKept next other qs None None) (sym places) (copied listed next n v may kept))
+    subst (λ (t : Text). AreWithin next t ps None None) (sym texts) (subst (λ (qs : List Place). AreWithin next other qs None None) (sym places) (copied listed next n v may kept))
   where
-    copied : (listed next : Bool) (n v : Option Part) → (IsTrue next → (listed ≡ true) × (n ≡ None) × (v ≡ None)) → AreKept listed other others n v → AreKept next other others None None
+    copied : (listed next : Bool) (n v : Option Part) → (IsTrue next → (listed ≡ true) × (n ≡ None) × (v ≡ None)) → AreWithin listed other others n v → AreWithin next other others None None
     copied listed false n v may kept = record { parts = record { places = kept.parts.places; name = tt; value = tt }; listed = tt }
     copied true true None None may kept = kept
     copied true true (Some m) v may kept = (let never : Some m ≡ None = (may refl).1 in absurd cc)
@@ -295,16 +295,16 @@ kept_copied listed next text other ps others n v may texts places kept =
     copied false true n v may kept = (let never : false ≡ true = (may refl).0 in absurd cc)
 
 -- the whole list: the text, and the quote at its end
-quoted : (text : Text) (ps : List Place) (n : Bool) → n ≡ (length ps == 0) → AreKept true text ps None None → text ++ (if n then [] else codes "\"") ≡ label_list_text (labels_in text ps)
+quoted : (text : Text) (ps : List Place) (n : Bool) → n ≡ (length ps == 0) → AreWithin true text ps None None → text ++ (if n then [] else codes "\"") ≡ label_list_text (labels_in text ps)
 quoted text [] true e kept = append-nil text ∙ kept.listed
 quoted text [] false e kept = absurd cc
 quoted text (p ∷ ps) true e kept = absurd (grind (arith, nat_tests, e))
 quoted text (p ∷ ps) false e kept = kept.listed
 
-pub list_closed : (listed : Bool) (text : Text) (ps : List Place) (n v : Option Part) (is_empty : Bool) → (listed ≡ true) × (n ≡ None) × (v ≡ None) → is_empty ≡ (length ps == 0) → AreKept listed text ps n v → text ++ (if is_empty then [] else codes "\"") ≡ label_list_text (labels_in text ps)
+pub list_closed : (listed : Bool) (text : Text) (ps : List Place) (n v : Option Part) (is_empty : Bool) → (listed ≡ true) × (n ≡ None) × (v ≡ None) → is_empty ≡ (length ps == 0) → AreWithin listed text ps n v → text ++ (if is_empty then [] else codes "\"") ≡ label_list_text (labels_in text ps)
 list_closed listed text ps n v is_empty may e kept =
     quoted text ps is_empty e
-    (subst (λ (w : Option Part). AreKept true text ps None w) may.2 (subst (λ (w : Option Part). AreKept true text ps w v) may.1 (subst (λ (b : Bool). AreKept b text ps n v) may.0 kept)))
+    (subst (λ (w : Option Part). AreWithin true text ps None w) may.2 (subst (λ (w : Option Part). AreWithin true text ps w v) may.1 (subst (λ (b : Bool). AreWithin b text ps n v) may.0 kept)))
 
 -- a part is in order
 pub part_ordered : (text : Text) (part : Option Part) → IfSome part (IsPart text) → IfSome part (λ p. p.start ≤ p.end)

@@ -236,7 +236,7 @@ pub struct LabelText {
 
 impl Model for LabelText {
     ghost use Rattle.std.specs.Option.{option_map};
-    ghost use Rattle.fm_writer.specs.inside.LabelTexts.{LabelsState, labels_in, part_in, AreKept};
+    ghost use Rattle.fm_writer.specs.inside.LabelTexts.{LabelsState, labels_in, part_in, AreWithin};
 
     ghost Value = { LabelsState };
 
@@ -246,7 +246,7 @@ impl Model for LabelText {
       value = option_map (part_in l.text) l.value;
     } };
 
-    ghost invariant = { λ l. AreKept l.is_listed l.text l.places.items l.name l.value };
+    ghost invariant = { λ l. AreWithin l.is_listed l.text l.places.items l.name l.value };
 }
 
 impl LabelText {

@@ -64,11 +64,11 @@ pub struct Sink {
 
 impl Model for Sink {
     ghost use Rattle.fm_writer.specs.Output.{SinkState};
-    ghost use Rattle.fm_writer.specs.inside.Forms.{state_of};
+    ghost use Rattle.fm_writer.specs.inside.Forms.{sink_state};
 
     ghost Value = { SinkState };
 
-    ghost view = { λ s. state_of s.form };
+    ghost view = { λ s. sink_state s.form };
 }
 
 impl Sink {

@@ -8,7 +8,7 @@ ghost use Rattle.fm_exposition.specs.inside.Points.{HaveInCommon, AreInPoints};
 ghost use Rattle.fm_exposition.specs.Rows.{sample_row, sample_rows};
 ghost use Rattle.fm_exposition.specs.inside.DocumentRows.{family_rows, families_rows, document_rows};
 ghost use Rattle.fm_exposition.specs.Samples.{common_labels, sample_of, samples_of};
-ghost use Rattle.fm_exposition.specs.Written.{AppendsDocument, BeginsDocument, IsWritersFault, IsWritingRefusal};
+ghost use Rattle.fm_exposition.specs.Written.{AppendsDocument, AppendsBeginningOfDocument, IsWritersFault, IsWritingRefusal};
 ghost use Rattle.fm_writer.specs.Utf8.{AppendsUtf8};
 ghost use Rattle.fm_writer.specs.inside.Grown.{Grows, size_of};
 ghost use Rattle.fm_writer.specs.inside.Utf8.{IsUtf8Family};
@@ -204,7 +204,8 @@ pub fn encode_exposition<W: Write>(
         → Keeps (W.contents writer.old) (W.contents writer.new)) }
     // After an error of the writer, a beginning of the document was appended.
     ensures stopped { IfErr result (λ e. IsWritersFault e
-        → BeginsDocument (W.contents writer.old) (W.contents writer.new) exposition.now) }
+        → AppendsBeginningOfDocument
+        (W.contents writer.old) (W.contents writer.new) exposition.now) }
     ensures refusals { IfErr result IsWritingRefusal }
 {
     let Ok(text) = rendered(alloc, exposition.families()) else {

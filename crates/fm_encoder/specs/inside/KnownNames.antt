@@ -16,9 +16,9 @@ pub record MayFollow (type : MetricType) (before : List Text) (name : Text) : Ty
   pub fresh : ¬ (Contains before name)
 
 -- each name may follow those before it
-abbrev pub AreTested : MetricType → List Text → List Text → Type 0
-AreTested type before [] = Unit {0}
-AreTested type before (name ∷ names) = MayFollow type before name × AreTested type (before ++ name ∷ []) names
+abbrev pub MayFollowInTurn : MetricType → List Text → List Text → Type 0
+MayFollowInTurn type before [] = Unit {0}
+MayFollowInTurn type before (name ∷ names) = MayFollow type before name × MayFollowInTurn type (before ++ name ∷ []) names
 
 -- the labels, and the name of the current label, have the first of these names
 abbrev pub HaveNames : List Text → List Label → Option Text → Type 0

@@ -76,10 +76,14 @@ impl PointEncoder {
         buckets: usize,
         slots: usize,
     ) -> Result<(), EncodeError>
-        ensures { Takes (BeginsBuckets metric_type buckets slots self.old self.new) self.new.refused result }
+        ensures { Takes
+            (BeginsBuckets metric_type buckets slots self.old self.new) self.new.refused result }
     {
-        if self.refused.is_none() && metric_type == self.labels.metric_type() && buckets != slots {
-            return self.refuse(EncodeError::ExemplarCountMismatch);
+        if self.refused.error.is_none()
+            && metric_type == self.labels.metric_type()
+            && buckets != slots
+        {
+            return self.refused.refuse(EncodeError::ExemplarCountMismatch);
         }
         self.begin_point(metric_type)
     }
@@ -121,15 +125,11 @@ impl PointEncoder {
             self.old self.new result }
     {
         let Some(values) = before.checked_add(bucket.count()) else {
-            self.refused = Some(EncodeError::BucketOverflow);
-            return Err(EncodeError::BucketOverflow);
+            return self.refused.refuse(EncodeError::BucketOverflow);
         };
         let exemplar = match exemplar_if_any(self.alloc, exemplar) {
             Ok(exemplar) => exemplar,
-            Err(error) => {
-                self.refused = Some(error);
-                return Err(error);
-            }
+            Err(error) => return self.refused.refuse(error),
         };
         self.push_bound(index, bucket, values, exemplar)?;
         Ok(values)
@@ -153,7 +153,7 @@ impl PointEncoder {
             self.old self.new) self.new.refused result }
     {
         let Ok(own) = kept_label(self.alloc, &mut self.bounds, index, bucket) else {
-            return self.refuse(EncodeError::Memory);
+            return self.refused.refuse(EncodeError::Memory);
         };
         match push_to(
             &mut self.sink,
@@ -167,7 +167,7 @@ impl PointEncoder {
             exemplar,
         ) {
             Ok(()) => Ok(()),
-            Err(error) => self.refuse(error),
+            Err(error) => self.refused.refuse(error),
         }
     }
 }

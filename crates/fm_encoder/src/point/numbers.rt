@@ -31,7 +31,7 @@ impl PointEncoder {
         self.begin_point(MetricType::Unknown)?;
         match unknown_number(value) {
             Ok(number) => self.push_sample(SampleKind::Plain, &number, None),
-            Err(error) => self.refuse(error),
+            Err(error) => self.refused.refuse(error),
         }
     }
 
@@ -44,7 +44,7 @@ impl PointEncoder {
         self.begin_point(MetricType::Gauge)?;
         match gauge_number(value) {
             Ok(number) => self.push_sample(SampleKind::Plain, &number, None),
-            Err(error) => self.refuse(error),
+            Err(error) => self.refused.refuse(error),
         }
     }
 
@@ -66,11 +66,11 @@ impl PointEncoder {
         self.begin_point(MetricType::Counter)?;
         let number = match counter_number(total) {
             Ok(number) => number,
-            Err(error) => return self.refuse(error),
+            Err(error) => return self.refused.refuse(error),
         };
         let exemplar = match exemplar_if_any(self.alloc, exemplar) {
             Ok(exemplar) => exemplar,
-            Err(error) => return self.refuse(error),
+            Err(error) => return self.refused.refuse(error),
         };
         self.push_total(number, exemplar, created)
     }

@@ -45,7 +45,7 @@ impl PointEncoder {
         ensures { Takes (TestsStates is_empty self.old self.new) self.new.refused result }
     {
         if !is_empty && self.labels.text().has_name(self.name.as_str()) {
-            return self.refuse(EncodeError::DuplicateLabel);
+            return self.refused.refuse(EncodeError::DuplicateLabel);
         }
         Ok(())
     }
@@ -81,7 +81,7 @@ impl PointEncoder {
     {
         own.clear();
         if let Err(_) = push_label(own, self.name.as_str(), state.0) {
-            return self.refuse(EncodeError::Memory);
+            return self.refused.refuse(EncodeError::Memory);
         }
         let value = Value::Whole(if state.1 { 1 } else { 0 });
         self.push_labeled(SampleKind::Plain, own, &value, None)
@@ -97,11 +97,11 @@ impl PointEncoder {
         self.begin_point(MetricType::Info)?;
         let mut all = LabelSetEncoder::new(self.alloc, self.labels.metric_type());
         if let Err(error) = labels_behind(&mut all, self.labels.text(), None, labels) {
-            return self.refuse(error);
+            return self.refused.refuse(error);
         }
         match labels_from(self.alloc, all.text(), self.labels.text().len()) {
             Ok(own) => self.push_labeled(SampleKind::Info, &own, &Value::Whole(1), None),
-            Err(_) => self.refuse(EncodeError::Memory),
+            Err(_) => self.refused.refuse(EncodeError::Memory),
         }
     }
 }

@@ -70,7 +70,7 @@ impl PointEncoder {
         let text = buffer.format(FixedSum::from(quantile.quantile()));
         own.clear();
         if let Err(_) = push_label(own, QUANTILE_LABEL, text) {
-            return self.refuse(EncodeError::Memory);
+            return self.refused.refuse(EncodeError::Memory);
         }
         let value = Value::Fixed(FixedSum::from(quantile.value()));
         self.push_labeled(SampleKind::Plain, own, &value, None)

@@ -7,7 +7,7 @@ ghost use Rattle.fm_encoder.specs.Gathered.{own_refusal};
 ghost use Rattle.fm_encoder.specs.Takes.{TakesNumbers};
 ghost use Rattle.fm_encoder.specs.inside.Steps.{IsNumber};
 
-use crate::own::own_refusal;
+use crate::first_refusal::FirstRefusal;
 use fm_encode_error::EncodeError;
 use fm_exposition::Value;
 use fm_raw::fixed::{Fixed, FixedSum};
@@ -40,7 +40,7 @@ impl TakesLong for OfGauge {}
 #[derive(Drop)]
 pub struct ValueEncoder<K> {
     number: Option<Value>,
-    refused: Option<EncodeError>,
+    refused: FirstRefusal,
     kind: PhantomData<K>,
 }
 
@@ -53,8 +53,10 @@ impl<K> Model for ValueEncoder<K> {
 
     ghost Value = { GatheredNumbers };
 
-    ghost view = { λ e.
-        record { numbers = option_to_list (option_map value_of e.number); refused = e.refused } };
+    ghost view = { λ e. record {
+      numbers = option_to_list (option_map value_of e.number);
+      refused = e.refused.error;
+    } };
 
     ghost invariant = { λ e. IfSome e.number (λ v. IsNumber (value_of v)) };
 }
@@ -65,7 +67,7 @@ impl<K> ValueEncoder<K> {
     {
         ValueEncoder {
             number: None,
-            refused: None,
+            refused: FirstRefusal::none(),
             kind: PhantomData,
         }
     }
@@ -74,12 +76,11 @@ impl<K> ValueEncoder<K> {
         requires { IsNumber (value_of number) }
         ensures { TakesNumbers (value_of number ∷ []) ⊥ self.old self.new result }
     {
-        if let Some(error) = self.refused {
+        if let Some(error) = self.refused.error {
             return Err(error);
         }
         if self.number.is_some() {
-            self.refused = Some(EncodeError::ValueTwice);
-            return Err(EncodeError::ValueTwice);
+            return self.refused.refuse(EncodeError::ValueTwice);
         }
         self.number = Some(number);
         Ok(())
@@ -95,12 +96,7 @@ impl<K> ValueEncoder<K> {
             ⊎ ((self.refused ≡ None) × (visited ≡ Ok tt)
             × (k ≡ EncodeError.MissingValue) × (self.numbers ≡ [])))) }
     {
-        if let Some(error) = self.refused {
-            return Err(error);
-        }
-        if let Err(error) = visited {
-            return Err(own_refusal(error));
-        }
+        self.refused.outcome(visited)?;
         match self.number {
             Some(number) => Ok(number),
             None => Err(EncodeError::MissingValue),

@@ -14,22 +14,22 @@ use Rattle.fm_grammar.specs.inside.Lines as grammar
 use Rattle.fm_reader.specs.declared.machine.Reading.{Reading}
 use Rattle.fm_reader.specs.declared.machine.Reading.TheVariants.{Open, Headed, Ended}
 
-abbrev pub state_of : Reading → State
-state_of (Open finished current) = grammar.Open finished.items current
-state_of (Headed finished name metric_type) = grammar.Headed finished.items (string_bytes name) metric_type
-state_of (Ended families) = grammar.Ended families.items
+abbrev pub reading_state : Reading → State
+reading_state (Open finished current) = grammar.Open finished.items current
+reading_state (Headed finished name metric_type) = grammar.Headed finished.items (string_bytes name) metric_type
+reading_state (Ended families) = grammar.Ended families.items
 
 -- the state that the line leads to, or None if it leads to none
 abbrev pub IsStep : State → Text → Option Reading → Type 0
 IsStep before line None = (next : State) → Follows before line next → ⊥
-IsStep before line (Some reading) = Follows before line (state_of reading)
+IsStep before line (Some reading) = Follows before line (reading_state reading)
 
 -- the same after a family's first lines, for a line that is neither a type line nor the last one
 abbrev pub IsStepWithin : List Family → Family → Text → Option Reading → Type 0
 IsStepWithin finished family line None =
     ((unit : Text) → IsUnitLine line family.name unit → family.unit ≡ None → family.samples ≡ [] → UnitFits family.name (Some unit) → UnitAllowed family.metric_type (Some unit) → ⊥)
     × ((sample : Sample) → IsSampleLine line family.name sample → IsSample family.metric_type sample → ⊥)
-IsStepWithin finished family line (Some reading) = Follows (grammar.Open finished (Some family)) line (state_of reading)
+IsStepWithin finished family line (Some reading) = Follows (grammar.Open finished (Some family)) line (reading_state reading)
 
 -- a family's name and its type, if no other family has the name
 abbrev pub FoundNewType : List Family → Text → Option (Text × MetricType) → Type 0

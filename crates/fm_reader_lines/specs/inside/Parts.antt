@@ -54,13 +54,13 @@ FoundValue kind text None = (value : Value) → ValueSuits kind value → ValueF
 FoundValue kind text (Some value) = ValueSuits kind value × ValueFits value × (text ≡ value_text value)
 
 -- a value that isn't in milliseconds
-abbrev pub IsNumber : Value → Type 0
-IsNumber (Millis t) = ⊥
-IsNumber _ = ⊤
+abbrev pub HasNoMillis : Value → Type 0
+HasNoMillis (Millis t) = ⊥
+HasNoMillis _ = ⊤
 
 abbrev pub FoundNumber : Text → Option Value → Type 0
-FoundNumber text None = (value : Value) → IsNumber value → ValueFits value → text ≢ value_text value
-FoundNumber text (Some value) = IsNumber value × ValueFits value × (text ≡ value_text value)
+FoundNumber text None = (value : Value) → HasNoMillis value → ValueFits value → text ≢ value_text value
+FoundNumber text (Some value) = HasNoMillis value × ValueFits value × (text ≡ value_text value)
 
 -- what may come after a timestamp, or instead of one: nothing, or an exemplar
 abbrev pub EndsTime : Text → Type 0

@@ -40,6 +40,6 @@ abbrev pub IsLabelsFront : Text → Option (List Label × Text) → Type 0
 IsLabelsFront text None = (labels : List Label) (rest : Text) → AreNamed labels → text ≢ label_list_text labels ++ (125 ∷ rest)
 IsLabelsFront text (Some (labels, rest)) = AreNamed labels × (text ≡ label_list_text labels ++ (125 ∷ rest))
 
-abbrev pub seen_labels : Option (Vec (String Global × String Global) Global × Bor Text) → Option (List Label × Text)
-seen_labels None = None
-seen_labels (Some (labels, rest)) = Some (labels_of labels.items, rest.now)
+abbrev pub front_labels : Option (Vec (String Global × String Global) Global × Bor Text) → Option (List Label × Text)
+front_labels None = None
+front_labels (Some (labels, rest)) = Some (labels_of labels.items, rest.now)

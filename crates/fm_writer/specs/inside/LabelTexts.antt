@@ -61,7 +61,7 @@ AreListed true n v text labels = IsListed n v text labels
 AreListed false n v text labels = Unit {0}
 
 -- all parts are within the text, which may be the list of the labels
-pub record AreKept (is_listed : Bool) (text : Text) (ps : List Place) (n v : Option Part) : Type 0 where
+pub record AreWithin (is_listed : Bool) (text : Text) (ps : List Place) (n v : Option Part) : Type 0 where
   pub parts : AreParts text ps n v
   pub listed : AreListed is_listed (option_map (part_in text) n) (option_map (part_in text) v) text (labels_in text ps)
 

@@ -6,8 +6,8 @@ use Rattle.fm_encoder.proofs.exemplar.ExemplarEncoder.encode.Goals as goal
 pub returns-in-Err : goal.returns-in-Err
 returns-in-Err g c =
     let refused = λ (e : GatheredExemplars). e.refused in
-    let new_refused = ap refused c.refuse-in-Err.ensures.refused in
-    rw c.refuse-in-Err.ensures.answered (record {
-      handed = HandsExemplars-refused _ _ c.in-Err.error _ _ (ap refused (sym c.self.view_is) ∙ c.in_default.is) new_refused c.in-Err.ensures;
-      answered = sym (ap result_of new_refused);
+    let kept = c.refuse-in-Err.ensures.kept in
+    rw c.refuse-in-Err.ensures.returned (record {
+      handed = HandsExemplars-refused _ _ c.in-Err.error _ _ (ap refused (sym c.self.view_is) ∙ c.in_default.is) kept c.in-Err.ensures;
+      answered = sym (ap result_of kept);
     })

@@ -1,0 +1,70 @@
+//! The first refusal of an encoder.
+ghost use Rattle.std.specs.Prelude.{◌≡◌, None, Some, Ok, Err, OnOk};
+ghost use Rattle.fm_encode_error.specs.declared.EncodeError.{EncodeError};
+ghost use Rattle.fm_encoder.specs.Gathered.{own_refusal, result_of, IsOutcome};
+
+use fm_encode_error::EncodeError;
+
+/// The first error that an encoder returned, if it returned one. From then on the encoder stays as it is, and each of its calls
+/// returns this error.
+#[derive(Drop)]
+pub struct FirstRefusal {
+    /// The error.
+    pub error: Option<EncodeError>,
+}
+
+impl FirstRefusal {
+    /// Nothing was refused so far.
+    pub fn none() -> FirstRefusal
+        ensures { result.error ≡ None }
+    {
+        FirstRefusal { error: None }
+    }
+
+    /// Keeps the error, and returns it.
+    pub fn refuse<T>(&mut self, error: EncodeError) -> Result<T, EncodeError>
+        ensures kept { self.new.error ≡ Some error }
+        ensures returned { result ≡ Err error }
+    {
+        self.error = Some(error);
+        Err(error)
+    }
+
+    // The first refusal, after the visited source returned `visited`.
+    pub(crate) fn outcome(&self, visited: Result<(), EncodeError>) -> Result<(), EncodeError>
+        ensures { IsOutcome self.now.error visited result }
+    {
+        if let Some(error) = self.error {
+            return Err(error);
+        }
+        match visited {
+            Ok(()) => Ok(()),
+            Err(error) => Err(own_refusal(error)),
+        }
+    }
+
+    // Keeps the first refusal, after the visited source returned `visited`, and returns it.
+    pub(crate) fn end(&mut self, visited: Result<(), EncodeError>) -> Result<(), EncodeError>
+        ensures kept { (k : EncodeError) → self.old.error ≡ Some k → self.new ≡ self.old }
+        ensures passed { visited ≡ Ok tt → self.new ≡ self.old }
+        ensures accepted { OnOk result ((self.old.error ≡ None) × (visited ≡ Ok tt)) }
+        ensures own { (e : EncodeError)
+            → self.old.error ≡ None → visited ≡ Err e → self.new.error ≡ Some (own_refusal e) }
+        ensures returned { result ≡ result_of self.new.error }
+    {
+        match self.outcome(visited) {
+            Ok(()) => Ok(()),
+            Err(error) => self.refuse(error),
+        }
+    }
+}
+
+// What an encoder makes of an error of the source that it visited.
+fn own_refusal(error: EncodeError) -> EncodeError
+    ensures { result ≡ own_refusal error }
+{
+    match error {
+        EncodeError::Memory => EncodeError::Memory,
+        _ => EncodeError::MetricFault,
+    }
+}
