@@ -1,18 +1,36 @@
 #!/usr/bin/env bash
-# Compares each piece of code in README.md and docs/ with the file that it is cut from: the fenced block after a line
-# `<!-- cut: FILE -->` is that file, whole. With --write it puts the files' text there.
+# Compares each piece of code in README.md and docs/ with the file that it is cut from. The fenced block after a line
+# `<!-- cut: FILE -->` is that file, whole; after a line `<!-- cut: FILE | FIRST | LAST -->` it is the part from the line that begins
+# with FIRST to the next one that ends with LAST, without the indentation of its first line. Fails where they differ, where a file
+# has no such part, and where a block of code names no file. With --write it puts the files' text there.
 set -eu
 cd "$(dirname "$0")/.."
 
 cut_again() {
     awk '
-        /^<!-- cut: .* -->$/ { file = $3 }
-        in_block && /^```$/ { in_block = 0 }
-        !in_block { print }
-        file != "" && /^```/ {
-            while ((status = (getline line < file)) > 0) print line
-            if (status < 0) { print "cannot read " file > "/dev/stderr"; exit 1 }
-            close(file); file = ""; in_block = 1
+        function fail(why) { print FILENAME ", line " FNR ": " why > "/dev/stderr"; exit 1 }
+        function begins(line, text) { sub(/^ +/, "", line); return index(line, text) == 1 }
+        function ends(line, text) { return substr(line, length(line) - length(text) + 1) == text }
+        /^<!-- cut: .* -->$/ {
+            parts = split(substr($0, 11, length($0) - 14), part, " [|] ")
+            file = part[1]
+        }
+        in_block && /^```$/ { in_block = 0; print; next }
+        in_block == 2 { next }
+        { print }
+        !in_block && /^```/ {
+            if (file == "" && /^```rust/) fail("the code is cut from no file")
+            in_block = file == "" ? 1 : 2
+            if (file == "") next
+            began = ended = parts == 1
+            while ((status = (getline line < file)) > 0) {
+                if (!began && begins(line, part[2])) { began = 1; indent = match(line, /[^ ]/) - 1 }
+                if (began) print substr(line, indent + 1)
+                if (parts == 3 && began && ends(line, part[3])) { ended = 1; break }
+            }
+            if (status < 0) fail("cannot read " file)
+            if (!began || !ended) fail("there is no such part of " file)
+            close(file); file = ""; indent = 0
         }
     ' "$1"
 }
