@@ -1,5 +1,5 @@
 //! Ways to write a registry's document, and to read one.
-ghost use Rattle.fastmetrics.specs.HasBook.{HasBook};
+ghost use Rattle.fastmetrics.specs.HasHistory.{HasHistory};
 
 use fastmetrics::format::text::{EncodeError, ReadError, collect, encode, encode_exposition, read};
 use fastmetrics::registry::Registry;
@@ -10,7 +10,7 @@ use std::rt::Files;
 
 /// The document in memory, such as for the body of a web server's response.
 pub fn body(alloc: Global, registry: &Registry) -> Result<Vec<u8>, EncodeError>
-    requires { HasBook registry.now }
+    requires { HasHistory registry.now }
 {
     let mut body = Vec::new(alloc);
     encode(alloc, &mut body, registry)?;
@@ -20,7 +20,7 @@ pub fn body(alloc: Global, registry: &Registry) -> Result<Vec<u8>, EncodeError>
 /// The same in two steps: `collect` visits the metrics, and the exposition may be looked at before it is written. Without a family
 /// there is no body.
 pub fn body_of_any(alloc: Global, registry: &Registry) -> Result<Option<Vec<u8>>, EncodeError>
-    requires { HasBook registry.now }
+    requires { HasHistory registry.now }
 {
     let exposition = collect(alloc, registry)?;
     if exposition.families().is_empty() {
@@ -33,7 +33,7 @@ pub fn body_of_any(alloc: Global, registry: &Registry) -> Result<Option<Vec<u8>>
 
 /// The document as a text.
 pub fn text(alloc: Global, registry: &Registry) -> anyhow::Result<String>
-    requires { HasBook registry.now }
+    requires { HasHistory registry.now }
 {
     let body = body(alloc, registry)?;
     Ok(String::from_utf8(body)?)
@@ -41,7 +41,7 @@ pub fn text(alloc: Global, registry: &Registry) -> anyhow::Result<String>
 
 /// Sends the document to a socket or another writer that likes large pieces.
 pub fn send<W: Write + Drop>(alloc: Global, socket: W, registry: &Registry) -> anyhow::Result<()>
-    requires { HasBook registry.now }
+    requires { HasHistory registry.now }
 {
     let mut writer = BufWriter::new(alloc, socket)?;
     encode(alloc, &mut writer, registry)?;
@@ -57,7 +57,7 @@ pub fn publish<R: Files>(
     registry: &Registry,
     path: &str,
 ) -> anyhow::Result<()>
-    requires { HasBook registry.now }
+    requires { HasHistory registry.now }
 {
     let document = body(alloc, registry)?;
     let mut beside = String::from_str(alloc, path)?;

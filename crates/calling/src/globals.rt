@@ -1,5 +1,5 @@
 //! The registry that a whole program shares.
-ghost use Rattle.fastmetrics.specs.HasBook.{HasBook};
+ghost use Rattle.fastmetrics.specs.HasHistory.{HasHistory};
 
 use crate::documents::body;
 use fastmetrics::encoder::EncodeMetric;
@@ -23,8 +23,8 @@ pub fn share<R: Wait>(
         rt,
         global,
         |registry: &mut Registry| -> Result<(), RegistryError>
-            requires { HasBook registry.old }
-            ensures { HasBook registry.new }
+            requires { HasHistory registry.old }
+            ensures { HasHistory registry.new }
         { registry.register(alloc, name, help, metric) },
     )
 }
@@ -39,7 +39,7 @@ pub fn shared_body<R: Wait>(
         rt,
         global,
         |registry: &Registry| -> Result<Vec<u8>, EncodeError>
-            requires { HasBook registry.now }
+            requires { HasHistory registry.now }
         { body(alloc, registry) },
     )
 }

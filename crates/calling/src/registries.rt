@@ -1,5 +1,5 @@
 //! Where metrics are registered.
-ghost use Rattle.fastmetrics.specs.HasBook.{HasBook};
+ghost use Rattle.fastmetrics.specs.HasHistory.{HasHistory};
 
 use fastmetrics::encoder::EncodeMetric;
 use fastmetrics::raw::Unit;
@@ -32,8 +32,8 @@ pub fn register_in_seconds(
     help: String,
     metric: Box<dyn EncodeMetric>,
 ) -> Result<(), RegistryError>
-    requires { HasBook registry.old }
-    ensures { HasBook registry.new }
+    requires { HasHistory registry.old }
+    ensures { HasHistory registry.new }
 {
     registry
         .subsystem(alloc, below)?
@@ -42,8 +42,8 @@ pub fn register_in_seconds(
 
 /// Makes the subsystem `mysql` with a label of its own, if it is not there.
 pub fn make_engine(alloc: Global, registry: &mut Registry) -> Result<(), RegistryError>
-    requires { HasBook registry.old }
-    ensures { HasBook registry.new }
+    requires { HasHistory registry.old }
+    ensures { HasHistory registry.new }
 {
     let name = String::from_str(alloc, "mysql")?;
     let labels = one_label(alloc, "engine", "innodb")?;
@@ -61,8 +61,8 @@ pub fn run_two(
     registry: &mut Registry,
     metric: Box<dyn EncodeMetric>,
 ) -> Result<(), RegistryError>
-    requires { HasBook registry.old }
-    ensures { HasBook registry.new }
+    requires { HasHistory registry.old }
+    ensures { HasHistory registry.new }
 {
     let subsystem = RegistryCall::Subsystem {
         path: Vec::new(alloc),

@@ -6,7 +6,7 @@ ghost use Rattle.fm_tally.specs.TallyErrors.{error_number as tally_number};
 ghost use Rattle.fm_registry_calls.specs.RegistryErrors.{error_number as registry_number};
 ghost use Rattle.fm_encode_error.specs.EncodeErrors.{error_number as encode_number};
 ghost use Rattle.fm_encode_error.specs.declared.EncodeError.{EncodeError};
-ghost use Rattle.fastmetrics.specs.HasBook.{HasBook};
+ghost use Rattle.fastmetrics.specs.HasHistory.{HasHistory};
 ghost use Rattle.fastmetrics.specs.Tree.{Shows};
 ghost use Rattle.fastmetrics.specs.Listing.{order};
 ghost use Rattle.fastmetrics.specs.Admits.{Admits};
@@ -96,7 +96,7 @@ fn report<E: Write>(errors: &mut E, fault: Fault) -> u8
 
 // Prints the registry's document.
 fn print_document<W: Write>(alloc: Global, out: &mut W, registry: &Registry) -> Result<(), Fault>
-    requires { HasBook registry.now }
+    requires { HasHistory registry.now }
     ensures printed { PrintsDocument
         (λ e. (b : _) → Shows registry.now b
         → Admits (λ m. offers m) (λ m. stamps m) (λ m. may_be_empty m) (order b) e)
@@ -121,7 +121,7 @@ pub fn finish<W: Write, E: Write>(
     out: &mut W,
     errors: &mut E,
 ) -> u8
-    requires { IfOk made (λ registry. HasBook registry) }
+    requires { IfOk made (λ registry. HasHistory registry) }
     ensures { Finishes
         (λ registry e. (b : _) → Shows registry b
         → Admits (λ m. offers m) (λ m. stamps m) (λ m. may_be_empty m) (order b) e)

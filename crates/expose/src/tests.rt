@@ -1,6 +1,6 @@
 //! What the program prints for each scene, and for faults.
 ghost use Rattle.std.specs.Prelude.{IfOk};
-ghost use Rattle.fastmetrics.specs.HasBook.{HasBook};
+ghost use Rattle.fastmetrics.specs.HasHistory.{HasHistory};
 
 // A test alone can make a box of a metric that waits by the handle of the runtime: so it writes the calls of these two scenes.
 
@@ -180,7 +180,7 @@ fn writers_that_take_nothing(rt: HostRuntime) {
 
 // Whether the program ends well with this registry, and prints this document and nothing else.
 fn prints(alloc: Global, made: Result<Registry, Fault>, document: &str) -> bool
-    requires { IfOk made (λ registry. HasBook registry) }
+    requires { IfOk made (λ registry. HasHistory registry) }
 {
     let mut out = Vec::new(alloc);
     let mut errors = Vec::new(alloc);

@@ -23,7 +23,7 @@ pub use Rattle.fm_writer.specs.Output
 pub use Rattle.fm_registry_calls.specs.RegistryErrors
 pub use Rattle.fm_registry_calls.specs.Texts
 pub use Rattle.fm_registry_calls.specs.Registration
-pub use Rattle.fm_registry_calls.specs.Book
+pub use Rattle.fm_registry_calls.specs.History
 pub use Rattle.fm_registry_calls.specs.Taken
 pub use Rattle.fm_registry_calls.specs.Answer
 pub use Rattle.fm_registry_calls.specs.Accepted
@@ -40,7 +40,7 @@ pub use Rattle.fm_encoder.specs.Buckets
 pub use Rattle.fm_encoder.specs.Hands
 pub use Rattle.fm_encoder.specs.Takes
 pub use Rattle.fm_encoder.specs.Offers
-pub use Rattle.fm_registry.specs.HasBook
+pub use Rattle.fm_registry.specs.HasHistory
 pub use Rattle.fm_registry.specs.Building
 pub use Rattle.fm_registry.specs.Calls
 pub use Rattle.fm_registry.specs.Lends

@@ -8,7 +8,7 @@ use Rattle.fm_grammar.specs.Reading.{IsNewName}
 use Rattle.fm_encode_error.specs.declared.EncodeError.{EncodeError}
 use Rattle.fm_encode_error.specs.declared.EncodeError.TheVariants.{Memory}
 use Rattle.fm_exposition.specs.Written.{IsWritersFault}
-use Rattle.fm_registry_calls.specs.Book.{Book}
+use Rattle.fm_registry_calls.specs.History.{History}
 use Rattle.fm_registry_calls.specs.Tree.{Tree, Reads}
 use Rattle.fm_registry_calls.specs.Listing.{Listed, listed_name, IsListable, order}
 use Rattle.fm_registry_calls.proofs.NameLemmas.{printed_names-different}
@@ -73,9 +73,9 @@ module _ {M : Type 0} (Offers : M → Option ℕ → List Member → Type 0) (St
       (before_next (map listed_name (seen_list (take i xs))) (listed_name (seen_listed x)) (map listed_name (seen_list split.0)) (subst AllDifferent parts differ)) admits
 
 module _ {M : Type 0} where
-  -- the names that a tree with a book lists differ
-  pub names_differ : (t : Tree M) (b : Book M) (ls : List (Listed M)) → Reads t b → ls ≡ order b → AllDifferent (map listed_name ls)
-  names_differ t b ls reads is = subst (λ (ms : List (Listed M)). AllDifferent (map listed_name ms)) (sym is) (printed_names-different b reads.book)
+  -- the names that a tree with a history lists differ
+  pub names_differ : (t : Tree M) (b : History M) (ls : List (Listed M)) → Reads t b → ls ≡ order b → AllDifferent (map listed_name ls)
+  names_differ t b ls reads is = subst (λ (ms : List (Listed M)). AllDifferent (map listed_name ms)) (sym is) (printed_names-different b reads.history)
 
   -- a fault in one metric of the list
   pub Fault-at : (k : EncodeError) (Offers : M → Option ℕ → List Member → Type 0) (Stamps : M → Option ℕ → Type 0) (MayFault : M → Type 0) (xs : List (ListedMetric M)) (i : ℕ) (x : ListedMetric M) → i < length xs → x ≡ get_or xs i x → FaultOf k Offers Stamps MayFault (seen_listed x) → Fault k Offers Stamps MayFault (seen_list xs)

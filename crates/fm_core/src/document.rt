@@ -12,7 +12,7 @@ ghost use Rattle.fm_exposition.specs.Written.{AppendsDocument, AppendsBeginningO
 ghost use Rattle.fm_registry_calls.specs.Listing.{listed_name, order, IsListable};
 ghost use Rattle.fm_registry_calls.specs.Tree.{Shows};
 ghost use Rattle.fm_registry.specs.Seen.{seen_list, seen_listed};
-ghost use Rattle.fm_registry.specs.HasBook.{HasBook};
+ghost use Rattle.fm_registry.specs.HasHistory.{HasHistory};
 ghost use Rattle.fm_writer.specs.Output.{with_lines};
 ghost use Rattle.fm_encoder.specs.Offers.{context_at};
 ghost use Rattle.fm_core.specs.Families.{heading_in, FaultUnder};
@@ -141,7 +141,7 @@ fn ended_lines(encoder: MetricEncoder) -> Result<Lines, AllocError>
 
 // The lines of the document of a registry and all below it, or the first refusal. It may wait if a metric waits for a lock.
 pub(crate) fn document_lines(alloc: Global, registry: &Registry) -> Result<Lines, EncodeError>
-    requires { HasBook registry.now }
+    requires { HasHistory registry.now }
     ensures text { IfOk result (λ lines. (e : Exposition)
         × ((b : _) → Shows registry.now b
         → Admits (λ m. offers m) (λ m. stamps m) (λ m. may_be_empty m) (order b) e)

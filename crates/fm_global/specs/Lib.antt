@@ -1,3 +1,3 @@
-pub use Rattle.fm_registry.specs.HasBook
+pub use Rattle.fm_registry.specs.HasHistory
 pub mod Locked
 pub mod inside

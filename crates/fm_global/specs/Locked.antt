@@ -2,11 +2,11 @@
 use Rattle.std.specs.Prelude.{Result}
 use Rattle.fm_registry_calls.specs.Tree.{Tree}
 use Rattle.fm_registry_calls.specs.declared.RegistryError.{RegistryError}
-use Rattle.fm_registry.specs.HasBook.{HasBook}
+use Rattle.fm_registry.specs.HasHistory.{HasHistory}
 
--- the lock protected a registry that reads some book, and this was done there, with this result
+-- the lock protected a registry that reads some history, and this was done there, with this result
 pub record RegistersLocked {M : Type 0} (IsDone : Tree M → Tree M → Result (Unit {0}) RegistryError → Type 0) (result : Result (Unit {0}) RegistryError) : Type 0 where
   pub old : Tree M
   pub new : Tree M
-  pub sound : HasBook old
+  pub sound : HasHistory old
   pub registers : IsDone old new result

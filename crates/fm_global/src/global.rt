@@ -2,7 +2,7 @@
 
 ghost use Rattle.std.specs.Prelude.{◌≡◌};
 ghost use Rattle.std.specs.Fn.{FnOnceTakesAt, FnOnceTakesAtMut, FnOnceReturnsAt, FnOnceReturnsAtMut};
-ghost use Rattle.fm_registry.specs.HasBook.{HasBook};
+ghost use Rattle.fm_registry.specs.HasHistory.{HasHistory};
 
 use fm_encoder::EncodeMetric;
 use fm_registry::Registry;
@@ -41,12 +41,12 @@ impl<M> Model for Kept<M> {
 
 impl<M> Kept<M> {
     ghost use Rattle.std.specs.Prelude.{◌≡◌};
-    ghost use Rattle.fm_registry.specs.HasBook.{HasBook};
+    ghost use Rattle.fm_registry.specs.HasHistory.{HasHistory};
 
     // The registry. It counts as used: no other can be set.
     fn used(&self) -> &Registry<M>
         ensures shown { result.now ≡ self.now }
-        ensures sound { HasBook result.now }
+        ensures sound { HasHistory result.now }
     {
         self.is_initialized.store(true, SeqCst);
         &self.registry
@@ -79,7 +79,7 @@ pub fn set_global_registry<R: Wait, M: Drop>(
     global: &GlobalRegistry<M>,
     registry: Registry<M>,
 ) -> Result<(), SetRegistryError>
-    requires { HasBook registry }
+    requires { HasHistory registry }
 {
     let mut kept = global.kept.write(rt);
     if kept.is_initialized.load(SeqCst) {
@@ -100,8 +100,8 @@ pub fn with_global_registry<R: Wait, M: Drop, T, F: FnOnce(&Registry<M>) -> T>(
     global: &GlobalRegistry<M>,
     f: F,
 ) -> T
-    requires { (registry : _) → HasBook registry → FnOnceTakesAt F.FnOnce f registry }
-    ensures { (registry : _) × HasBook registry × FnOnceReturnsAt F.FnOnce f registry result }
+    requires { (registry : _) → HasHistory registry → FnOnceTakesAt F.FnOnce f registry }
+    ensures { (registry : _) × HasHistory registry × FnOnceReturnsAt F.FnOnce f registry result }
 {
     let kept = global.kept.read(rt);
     f(kept.used())
@@ -114,11 +114,11 @@ pub fn with_global_registry_mut<R: Wait, M: Drop, T, F: FnOnce(&mut Registry<M>)
     global: &GlobalRegistry<M>,
     f: F,
 ) -> T
-    requires takes { (registry : _) → HasBook registry → FnOnceTakesAtMut F.FnOnce f registry }
-    requires leaves { (old : _) (result : T) (new : _) → HasBook old
+    requires takes { (registry : _) → HasHistory registry → FnOnceTakesAtMut F.FnOnce f registry }
+    requires leaves { (old : _) (result : T) (new : _) → HasHistory old
         → FnOnceReturnsAtMut F.FnOnce f old result new
-        → HasBook new }
-    ensures { (old : _) × (new : _) × HasBook old × FnOnceReturnsAtMut F.FnOnce f old result new }
+        → HasHistory new }
+    ensures { (old : _) × (new : _) × HasHistory old × FnOnceReturnsAtMut F.FnOnce f old result new }
 {
     let mut kept = global.kept.write(rt);
     kept.is_initialized.store(true, SeqCst);

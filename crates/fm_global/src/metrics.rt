@@ -1,7 +1,7 @@
 //! Registering metrics in the registry that the program shares.
 ghost use Rattle.std.specs.Prelude.{◌≡◌, Some, None};
 ghost use Rattle.fm_registry.specs.View.{asked_metric};
-ghost use Rattle.fm_registry.specs.HasBook.{HasBook};
+ghost use Rattle.fm_registry.specs.HasHistory.{HasHistory};
 ghost use Rattle.fm_registry.specs.Registers.{Registers};
 ghost use Rattle.fm_global.specs.Locked.{RegistersLocked};
 
@@ -26,7 +26,7 @@ impl<M: Drop> Kept<M> {
     ) -> Result<(), RegistryError>
         ensures registers { Registers (λ t. t ≡ metric_type) (asked_metric name help unit metric)
             self.old self.new result }
-        ensures sound { HasBook self.old }
+        ensures sound { HasHistory self.old }
     {
         self.is_initialized.store(true, SeqCst);
         self.registry

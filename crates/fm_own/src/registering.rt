@@ -1,7 +1,7 @@
 //! Registering metrics by texts.
 ghost use Rattle.std.specs.Prelude.{◌≡◌, None, Some, IfOk, IfErr, string_bytes};
 ghost use Rattle.fm_registry_calls.specs.declared.RegistryError.TheVariants.{Memory};
-ghost use Rattle.fm_registry.specs.HasBook.{HasBook, Grows};
+ghost use Rattle.fm_registry.specs.HasHistory.{HasHistory, Grows};
 ghost use Rattle.fm_own.specs.Named.{named_metric, Adds};
 
 use fm_encoder::EncodeMetric;
@@ -35,7 +35,7 @@ fn add_typed<M: Drop>(
         (named_metric name.now help.now unit metric) registry.old
         registry.new result }
     ensures grows { Grows registry.old registry.new }
-    ensures sound { HasBook registry.old → HasBook registry.new }
+    ensures sound { HasHistory registry.old → HasHistory registry.new }
 {
     let (name, help) = owned(alloc, name, help)?;
     registry.add_metric(alloc, name, help, metric_type, unit, metric)
@@ -54,7 +54,7 @@ fn add_metric(
         (named_metric name.now help.now unit metric) registry.old
         registry.new result }
     ensures grows { Grows registry.old registry.new }
-    ensures sound { HasBook registry.old → HasBook registry.new }
+    ensures sound { HasHistory registry.old → HasHistory registry.new }
 {
     let metric_type = type_of(&metric);
     add_typed(alloc, registry, name, help, metric_type, unit, metric)
@@ -75,7 +75,7 @@ pub fn add(
         (named_metric name.now help.now None metric) registry.old
         registry.new result }
     ensures grows { Grows registry.old registry.new }
-    ensures sound { HasBook registry.old → HasBook registry.new }
+    ensures sound { HasHistory registry.old → HasHistory registry.new }
 {
     add_metric(alloc, registry, name, help, None, metric)
 }
@@ -93,7 +93,7 @@ pub fn add_with_unit(
         (named_metric name.now help.now (Some unit) metric) registry.old
         registry.new result }
     ensures grows { Grows registry.old registry.new }
-    ensures sound { HasBook registry.old → HasBook registry.new }
+    ensures sound { HasHistory registry.old → HasHistory registry.new }
 {
     add_metric(alloc, registry, name, help, Some(unit), metric)
 }

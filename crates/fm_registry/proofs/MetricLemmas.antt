@@ -13,7 +13,7 @@ use Rattle.fm_raw.specs.Metadata.{IsSameMetric}
 use Rattle.fm_raw.specs.declared.metadata.Metadata.{Metadata}
 use Rattle.fm_raw.proofs.MetadataLemmas.{types_decide}
 use Rattle.fm_registry_calls.specs.Registration.{is_same_metric, same_type, same_bool, same_unit}
-use Rattle.fm_registry_calls.proofs.MetricLemmas as book
+use Rattle.fm_registry_calls.proofs.MetricLemmas as history
 use Rattle.fm_registry.specs.View.{seen_metric}
 use Rattle.fm_registry.specs.inside.TreeView.{seen_metrics}
 use Rattle.fm_registry.specs.declared.names.Tailed.{Tailed}
@@ -46,7 +46,7 @@ module _ {M : Type 0} where
   same_metric-Decides : (a b : Metadata) (x y : M) → Decides (is_same_metric (seen_metric a x) (seen_metric b y)) (IsSameMetric a b)
   same_metric-Decides a b x y =
       let types : Decides (same_type a.metric_type b.metric_type) (a.metric_type ≡ b.metric_type) =
-      Decides-at (same_type a.metric_type b.metric_type) (types.ghosts.eq a.metric_type b.metric_type) (book.same_type-eq a.metric_type b.metric_type) (types_decide a.metric_type b.metric_type) in
+      Decides-at (same_type a.metric_type b.metric_type) (types.ghosts.eq a.metric_type b.metric_type) (history.same_type-eq a.metric_type b.metric_type) (types_decide a.metric_type b.metric_type) in
       let parts = Decides-and (bytes_eq (string_bytes a.name) (string_bytes b.name)) (same_type a.metric_type b.metric_type && same_unit (option_map seen_unit a.unit) (option_map seen_unit b.unit))
       (bytes_eq-Decides (string_bytes a.name) (string_bytes b.name))
       (Decides-and (same_type a.metric_type b.metric_type) (same_unit (option_map seen_unit a.unit) (option_map seen_unit b.unit)) types (same_unit-Decides (option_map seen_unit a.unit) (option_map seen_unit b.unit))) in

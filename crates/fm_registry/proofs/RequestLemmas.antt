@@ -5,7 +5,7 @@ use Rattle.std.specs.String.{string_bytes}
 use Rattle.std.proofs.lemmas.List.{map-append}
 use Rattle.fm_grammar.specs.declared.MetricType.{MetricType}
 use Rattle.fm_registry_calls.specs.Texts.{Text, Path}
-use Rattle.fm_registry_calls.specs.Book.{Call, Book, in_front}
+use Rattle.fm_registry_calls.specs.History.{Call, History, in_front}
 use Rattle.fm_registry_calls.specs.Tree.{Tree, Reads}
 use Rattle.fm_registry_calls.specs.inside.Forests.{place_in}
 use Rattle.fm_registry_calls.specs.Answer.{Refusal, NoSuchSubsystem, refusal_of, after}
@@ -14,7 +14,7 @@ use Rattle.fm_registry_calls.specs.inside.Paths.{path_of}
 use Rattle.fm_registry_calls.specs.declared.RegistryError.{RegistryError}
 use Rattle.fm_registry_calls.proofs.ApplyLemmas.{apply-missing}
 use Rattle.fm_registry_calls.proofs.RunLemmas.{Runs-more, path_of-++, path_of-reversed}
-use Rattle.fm_registry.specs.HasBook.{HasBook, Grows}
+use Rattle.fm_registry.specs.HasHistory.{HasHistory, Grows}
 use Rattle.fm_registry.specs.inside.Request.{call_at}
 use Rattle.fm_registry.specs.Calls.{IsCall, AreCalls, RunsCalls, seen_path}
 use Rattle.fm_registry.specs.inside.CallSteps.{RunsCall}
@@ -34,7 +34,7 @@ module _ {M : Type 0} where
 
   -- a name that is not there
   pub request-missing : (t : Tree M) (all names : List (String Global)) (name : String Global) (r : Request M) → all ≡ names ++ name ∷ [] → place_in t.children (string_bytes name) ≡ None
-      → (b : Book M) → Reads t b → IsReply (Some (NoSuchSubsystem (string_bytes name))) b (call_at (path_of all) r)
+      → (b : History M) → Reads t b → IsReply (Some (NoSuchSubsystem (string_bytes name))) b (call_at (path_of all) r)
   request-missing t all names name r e none b reads =
       subst (λ call. IsReply (Some (NoSuchSubsystem (string_bytes name))) b call) (sym (call_at-pop all names name r e))
       (apply-missing t (string_bytes name) (call_at (path_of names) r) none b reads)
@@ -43,9 +43,9 @@ module _ {M : Type 0} where
   pub call_at-reversed : (path names : List (String Global)) (r : Request M) → names ≡ reverse path → call_at (path_of names) r ≡ call_at (seen_path path) r
   call_at-reversed path names r same = ap (λ p. call_at p r) (ap path_of same ∙ path_of-reversed path)
 
-  -- at the end of a run there is a book
-  Runs-sound : (b : Book M) (calls : List (Call M)) (replies : List (Option Refusal)) (t : Tree M) → Runs b calls replies t → HasBook t
-  Runs-sound b [] [] t h = record { book = b; reads = h }
+  -- at the end of a run there is a history
+  Runs-sound : (b : History M) (calls : List (Call M)) (replies : List (Option Refusal)) (t : Tree M) → Runs b calls replies t → HasHistory t
+  Runs-sound b [] [] t h = record { history = b; reads = h }
   Runs-sound b [] (q ∷ replies) t h = absurd h
   Runs-sound b (call ∷ calls) [] t h = absurd h
   Runs-sound b (call ∷ calls) (q ∷ replies) t h = Runs-sound (after_reply q b call) calls replies t h.1
@@ -53,13 +53,13 @@ module _ {M : Type 0} where
   module _ (Types : M → MetricType → Type 0) where
     -- what a call does, by what its request did
     pub called : (g : RegistryCall M) (call made : Call M) (old new : Tree M) (r : Result (Unit {0}) RegistryError) → IsCall Types g call → made ≡ call
-        → ((b : Book M) → Reads old b → IsReply (refusal_of r) b made) → OnOk r ((b : Book M) → Reads old b → Reads new (after b made)) → OnErr r (new ≡ old)
+        → ((b : History M) → Reads old b → IsReply (refusal_of r) b made) → OnOk r ((b : History M) → Reads old b → Reads new (after b made)) → OnErr r (new ≡ old)
         → RunsCall Types g old new r
     called g call made old new r is same said reads kept = record {
       call = call;
       is = is;
-      reply = subst (λ k. (b : Book M) → Reads old b → IsReply (refusal_of r) b k) same said;
-      ok = subst (λ k. OnOk r ((b : Book M) → Reads old b → Reads new (after b k))) same reads;
+      reply = subst (λ k. (b : History M) → Reads old b → IsReply (refusal_of r) b k) same said;
+      ok = subst (λ k. OnOk r ((b : History M) → Reads old b → Reads new (after b k))) same reads;
       err = kept;
     }
 
@@ -84,9 +84,9 @@ module _ {M : Type 0} where
           (Runs-more b h.calls (map refusal_of olds) one.call r t u one.reply one.ok one.err (h.runs b reads));
     }
 
-    -- a registry that read a book reads one at the end
-    pub RunsCalls-sound : (gs : List (RegistryCall M)) (s t : Tree M) (replies : List (Option Refusal)) → RunsCalls Types gs s t replies → HasBook s → HasBook t
-    RunsCalls-sound gs s t replies h sound = Runs-sound sound.book h.calls replies t (h.runs sound.book sound.reads)
+    -- a registry that read a history reads one at the end
+    pub RunsCalls-sound : (gs : List (RegistryCall M)) (s t : Tree M) (replies : List (Option Refusal)) → RunsCalls Types gs s t replies → HasHistory s → HasHistory t
+    RunsCalls-sound gs s t replies h sound = Runs-sound sound.history h.calls replies t (h.runs sound.history sound.reads)
 
     -- and a longer one
     pub RunsCalls-grows : (gs : List (RegistryCall M)) (s t : Tree M) (replies : List (Option Refusal)) → RunsCalls Types gs s t replies → Grows s t

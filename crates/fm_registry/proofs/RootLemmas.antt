@@ -12,7 +12,7 @@ use Rattle.fm_exposition.specs.Samples.{label_of, labels_of}
 use Rattle.fm_registry_calls.specs.Texts.{Text, Label, Labels, has_text}
 use Rattle.fm_registry_calls.specs.Answer.{Refusal, InvalidLabelName, DuplicateLabel, label_refusal_behind, labels_refusal_behind, root_labels_refusal, or_then}
 use Rattle.fm_registry_calls.proofs.RootLemmas.{labels_refusal_behind-++, root_labels_valid}
-use Rattle.fm_registry.specs.HasBook.{IsNewRoot, root_tree}
+use Rattle.fm_registry.specs.HasHistory.{IsNewRoot, root_tree}
 use Rattle.fm_registry.specs.inside.RootLabels.{takes_namespace, takes_labels, label_fault, IsRefusedAt}
 use Rattle.fm_registry.proofs.SoundLemmas.{new_root}
 

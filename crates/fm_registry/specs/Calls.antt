@@ -5,8 +5,8 @@ use Rattle.std.specs.String.{string_bytes}
 use Rattle.fm_grammar.specs.declared.MetricType.{MetricType}
 use Rattle.fm_exposition.specs.Samples.{labels_of}
 use Rattle.fm_registry_calls.specs.Texts.{Path}
-use Rattle.fm_registry_calls.specs.Book as book
-use Rattle.fm_registry_calls.specs.Book.{Book, Call}
+use Rattle.fm_registry_calls.specs.History as history
+use Rattle.fm_registry_calls.specs.History.{History, Call}
 use Rattle.fm_registry_calls.specs.Answer.{Refusal}
 use Rattle.fm_registry_calls.specs.Tree.{Tree, Reads}
 use Rattle.fm_registry_calls.specs.Running.{Runs}
@@ -18,11 +18,11 @@ abbrev pub seen_path : List (String Global) → Path
 seen_path names = map string_bytes names
 
 module _ {M : Type 0} (Types : M → MetricType → Type 0) where
-  -- a call of the book that was made: a metric is registered with a type that it may declare
+  -- a call of the history that was made: a metric is registered with a type that it may declare
   abbrev pub IsCall : given.RegistryCall M → Call M → Type 0
   IsCall (given.TheVariants.Register path name help unit metric) call =
-      (t : MetricType) × Types metric t × (call ≡ book.Register (seen_path path.items) (asked_metric name help unit metric t))
-  IsCall (given.TheVariants.Subsystem path name labels) call = call ≡ book.Subsystem (seen_path path.items) (string_bytes name) (labels_of labels.items)
+      (t : MetricType) × Types metric t × (call ≡ history.Register (seen_path path.items) (asked_metric name help unit metric t))
+  IsCall (given.TheVariants.Subsystem path name labels) call = call ≡ history.Subsystem (seen_path path.items) (string_bytes name) (labels_of labels.items)
 
   -- each of these calls, in order
   abbrev pub AreCalls : List (given.RegistryCall M) → List (Call M) → Type 0
@@ -31,9 +31,9 @@ module _ {M : Type 0} (Types : M → MetricType → Type 0) where
   AreCalls [] (call ∷ calls) = ⊥
   AreCalls (g ∷ gs) [] = ⊥
 
-  -- what calls in turn do: for every book that the registry read, each reply is that of the book at that moment, or
-  -- there was no memory and the call may need some; the registry reads the book that results
+  -- what calls in turn do: for every history that the registry read, each reply is that of the history at that moment, or
+  -- there was no memory and the call may need some; the registry reads the history that results
   pub record RunsCalls (gs : List (given.RegistryCall M)) (old new : Tree M) (replies : List (Option Refusal)) : Type 0 where
     pub calls : List (Call M)
     pub are : AreCalls gs calls
-    pub runs : (b : Book M) → Reads old b → Runs b calls replies new
+    pub runs : (b : History M) → Reads old b → Runs b calls replies new

@@ -1,7 +1,7 @@
 pub use Rattle.fm_exposition.specs.Samples
 pub use Rattle.fm_registry_calls.specs.Texts
 pub use Rattle.fm_registry_calls.specs.Registration
-pub use Rattle.fm_registry_calls.specs.Book
+pub use Rattle.fm_registry_calls.specs.History
 pub use Rattle.fm_registry_calls.specs.Taken
 pub use Rattle.fm_registry_calls.specs.Answer
 pub use Rattle.fm_registry_calls.specs.Accepted
@@ -13,7 +13,7 @@ pub use Rattle.fm_registry_calls.specs.Running
 pub mod Lists
 pub mod View
 pub mod Seen
-pub mod HasBook
+pub mod HasHistory
 pub mod Registers
 pub mod Lends
 pub mod Building

@@ -1,6 +1,6 @@
 //! The registry tree: registries accept metrics and subsystems, and keep them for a scrape.
 //!
-//! Contracts see a registry as a `Tree`. For each book of accepted calls that the tree reads, they state what a call
+//! Contracts see a registry as a `Tree`. For each history of accepted calls that the tree reads, they state what a call
 //! does.
 #![tactic(auto)]
 

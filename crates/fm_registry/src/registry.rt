@@ -62,7 +62,7 @@ impl<M> Model for Registry<M> {
 /// A root with no namespace, no labels and no metrics. It allocates nothing.
 impl<M> Default for Registry<M> {
     ghost use Rattle.std.specs.Prelude.{None, []};
-    ghost use Rattle.fm_registry.specs.HasBook.{IsNewRoot};
+    ghost use Rattle.fm_registry.specs.HasHistory.{IsNewRoot};
 
     ghost is_default = { λ t. IsNewRoot None [] t };
 
@@ -91,17 +91,17 @@ impl<M> Registry<M> {
     ghost use Rattle.std.specs.Prelude.{◌≡◌, ◌++◌, [], OnOk, IfOk};
     ghost use Rattle.std.specs.Option.{option_map};
     ghost use Rattle.fm_exposition.specs.Samples.{labels_of};
-    ghost use Rattle.fm_registry_calls.specs.Book.{namespace_at, labels_at};
+    ghost use Rattle.fm_registry_calls.specs.History.{namespace_at, labels_at};
     ghost use Rattle.fm_registry_calls.specs.Tree.{Shows};
     ghost use Rattle.fm_registry_calls.specs.Listing.{own_metrics, listed_tree, order};
-    ghost use Rattle.fm_registry.specs.HasBook.{HasBook};
+    ghost use Rattle.fm_registry.specs.HasHistory.{HasHistory};
     ghost use Rattle.fm_registry.specs.Seen.{seen_list};
 
     /// The prefix of the names of this registry's metrics: the root's namespace and the names of the subsystems down to
     /// this one, joined by underscores.
     pub fn namespace(&self) -> Option<&str>
         ensures tree { option_map (λ namespace. namespace.now) result ≡ self.now.facts.namespace }
-        ensures book { (b : _) → Shows self.now b
+        ensures history { (b : _) → Shows self.now b
             → option_map (λ namespace. namespace.now) result ≡ namespace_at b [] }
     {
         match &self.namespace {
@@ -113,7 +113,7 @@ impl<M> Registry<M> {
     /// The labels that each sample of this registry's metrics carries, including those of the registries above.
     pub fn constant_labels(&self) -> &[(String, String)]
         ensures tree { labels_of result.now ≡ self.now.facts.labels }
-        ensures book { (b : _) → Shows self.now b → labels_of result.now ≡ labels_at b [] }
+        ensures history { (b : _) → Shows self.now b → labels_of result.now ≡ labels_at b [] }
     {
         kept_labels(&self.const_labels)
     }
@@ -148,8 +148,8 @@ impl<M> Registry<M> {
     /// allocates the list only.
     pub fn listing(&self, alloc: Global) -> Result<Vec<ListedMetric<'_, M>>, AllocError>
         ensures tree { IfOk result (λ list. seen_list list.items ≡ listed_tree self.now) }
-        ensures book { IfOk result
-            (λ list. HasBook self.now → (b : _) → Shows self.now b
+        ensures history { IfOk result
+            (λ list. HasHistory self.now → (b : _) → Shows self.now b
             → seen_list list.items ≡ order b) }
     {
         let mut list = Vec::new(alloc);

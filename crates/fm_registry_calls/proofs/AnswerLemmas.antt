@@ -5,10 +5,10 @@ use Rattle.fm_grammar.specs.declared.MetricType.{MetricType}
 use Rattle.fm_registry_calls.specs.Texts.{Text, Path, Labels, has_text}
 use Rattle.fm_registry_calls.specs.Taken.{tail_of, tails_of, is_tail_taken, is_child_taken}
 use Rattle.fm_registry_calls.specs.Registration.{Registration, SeenUnit, takes_no_unit, text_of_unit}
-use Rattle.fm_registry_calls.specs.Book.{Call, Subsystem, Register, Book, metrics_at, children_at, missing_along, in_front, book_below, calls_below}
+use Rattle.fm_registry_calls.specs.History.{Call, Subsystem, Register, History, metrics_at, children_at, missing_along, in_front, history_below, calls_below}
 use Rattle.fm_registry_calls.specs.Answer.{Refusal, InvalidNameFormat, MustHaveAnEmptyUnitString, OtherUnitFormatMustBeLowercase, AlreadyExists, InvalidNamespace, InvalidSubsystemName, InvalidLabelName, DuplicateLabel, NoSuchSubsystem, TooDeep, NameTaken, IsAnswered, MayTakeMemory, first_of, or_then, is_bad_unit, has_metric, metric_refusal, name_or_depth_refusal, first_bad_label, asking_refusal, new_name_refusal, child_refusal, subsystem_refusal, namespace_refusal, label_refusal_behind, missing_name, answer, gained}
 use Rattle.fm_registry_calls.specs.inside.Refusals.{name_refusal, standing_refusal}
-use Rattle.fm_registry_calls.proofs.BookLemmas.{metrics_at-calls_below, children_at-calls_below, missing_along-calls_below}
+use Rattle.fm_registry_calls.proofs.HistoryLemmas.{metrics_at-calls_below, children_at-calls_below, missing_along-calls_below}
 
 some_not_none : {T : Type 0} {x : T} → Some x ≡ None → ⊥
 some_not_none e = cc
@@ -170,24 +170,24 @@ subsystem_refusal-there depth there children n labels h =
 
 module _ {M : Type 0} where
   -- a registration that is not refused has a free tail in its registry
-  pub registered_free : (b : Book M) (p : Path) (r : Registration M) → answer b (Register p r) ≡ None → is_tail_taken (tails_of (metrics_at b.calls p)) (children_at b.calls p) (tail_of r) ≡ false
+  pub registered_free : (b : History M) (p : Path) (r : Registration M) → answer b (Register p r) ≡ None → is_tail_taken (tails_of (metrics_at b.calls p)) (children_at b.calls p) (tail_of r) ≡ false
   registered_free b p r h =
       tail_free (metrics_at b.calls p) (children_at b.calls p) r (or_then-none (missing_name (missing_along b.calls [] p)) (metric_refusal (metrics_at b.calls p) (children_at b.calls p) r) h).1
 
   -- what a subsystem that is not refused passed
-  pub asked_passed : (b : Book M) (p : Path) (n : Text) (labels : Labels) → answer b (Subsystem p n labels) ≡ None → subsystem_refusal (b.depth + length p) (metrics_at b.calls p) (children_at b.calls p) n labels ≡ None
+  pub asked_passed : (b : History M) (p : Path) (n : Text) (labels : Labels) → answer b (Subsystem p n labels) ≡ None → subsystem_refusal (b.depth + length p) (metrics_at b.calls p) (children_at b.calls p) n labels ≡ None
   asked_passed b p n labels h =
       (or_then-none (missing_name (missing_along b.calls [] p)) (subsystem_refusal (b.depth + length p) (metrics_at b.calls p) (children_at b.calls p) n labels) h).1
 
-  -- the reply of a book to a call below a subsystem is that of the subsystem's book
-  pub answer-in_front : (b : Book M) (n : Text) (call : Call M) → has_text (children_at b.calls []) n ≡ true → answer b (in_front n call) ≡ answer (book_below b n) call
+  -- the reply of a history to a call below a subsystem is that of the subsystem's history
+  pub answer-in_front : (b : History M) (n : Text) (call : Call M) → has_text (children_at b.calls []) n ≡ true → answer b (in_front n call) ≡ answer (history_below b n) call
   answer-in_front b n (Register p r) there =
       rw there (λ i. or_then (missing_name (missing_along-calls_below b.calls n [] p i)) (metric_refusal (metrics_at-calls_below b.calls n p i) (children_at-calls_below b.calls n p i) r))
   answer-in_front b n (Subsystem p m labels) there =
       let depths : b.depth + length (n ∷ p) ≡ (b.depth + 1) + length p = omega arith in
       rw there (λ i. or_then (missing_name (missing_along-calls_below b.calls n [] p i)) (subsystem_refusal (depths i) (metrics_at-calls_below b.calls n p i) (children_at-calls_below b.calls n p i) m labels))
 
-  pub gained-in_front : (b : Book M) (n : Text) (call : Call M) → gained b (in_front n call) ≡ map (in_front n) (gained (book_below b n) call)
+  pub gained-in_front : (b : History M) (n : Text) (call : Call M) → gained b (in_front n call) ≡ map (in_front n) (gained (history_below b n) call)
   gained-in_front b n (Register p r) = refl
   gained-in_front b n (Subsystem p m labels) =
       ap (λ ms. if◌then◌else◌ {A = List (Call M)} (has_text ms m) [] (Subsystem (n ∷ p) m labels ∷ [])) (children_at-calls_below b.calls n p)
@@ -195,26 +195,26 @@ module _ {M : Type 0} where
       [ true ↦ refl | false ↦ refl ]
 
   -- a call below a subsystem that adds nothing adds nothing there
-  pub gained_below-empty : (b : Book M) (n : Text) (call : Call M) → gained b (in_front n call) ≡ [] → gained (book_below b n) call ≡ []
-  gained_below-empty b n call none = map_empty (in_front n) (gained (book_below b n) call) (sym (gained-in_front b n call) ∙ none)
+  pub gained_below-empty : (b : History M) (n : Text) (call : Call M) → gained b (in_front n call) ≡ [] → gained (history_below b n) call ≡ []
+  gained_below-empty b n call none = map_empty (in_front n) (gained (history_below b n) call) (sym (gained-in_front b n call) ∙ none)
 
   -- a registration adds itself
-  pub registered-gained : (b : Book M) (p : Path) (r : Registration M) → ¬ (gained b (Register p r) ≡ [])
+  pub registered-gained : (b : History M) (p : Path) (r : Registration M) → ¬ (gained b (Register p r) ≡ [])
   registered-gained b p r e = cons_not_nil e
 
   -- a subsystem that adds nothing is there
-  pub there_where_empty : (b : Book M) (p : Path) (n : Text) (labels : Labels) → gained b (Subsystem p n labels) ≡ [] → has_text (children_at b.calls p) n ≡ true
+  pub there_where_empty : (b : History M) (p : Path) (n : Text) (labels : Labels) → gained b (Subsystem p n labels) ≡ [] → has_text (children_at b.calls p) n ≡ true
   there_where_empty b p n labels none =
       elim (has_text (children_at b.calls p) n) as (λ c. if◌then◌else◌ {A = List (Call M)} c [] (Subsystem p n labels ∷ []) ≡ [] → c ≡ true)
       [ true ↦ λ e. refl | false ↦ λ e. absurd (cons_not_nil e) ] none
 
   -- a call below a subsystem that is not there
-  pub missing-answer : (b : Book M) (n : Text) (call : Call M) → has_text (children_at b.calls []) n ≡ false → answer b (in_front n call) ≡ Some (NoSuchSubsystem n)
+  pub missing-answer : (b : History M) (n : Text) (call : Call M) → has_text (children_at b.calls []) n ≡ false → answer b (in_front n call) ≡ Some (NoSuchSubsystem n)
   missing-answer b n (Register p r) absent = rw absent refl
   missing-answer b n (Subsystem p m labels) absent = rw absent refl
 
   -- a call is gained as it is, or not at all
-  pub gained_cases : (b : Book M) (call : Call M) → (gained b call ≡ []) ⊎ (gained b call ≡ call ∷ [])
+  pub gained_cases : (b : History M) (call : Call M) → (gained b call ≡ []) ⊎ (gained b call ≡ call ∷ [])
   gained_cases b (Register p r) = inr refl
   gained_cases b (Subsystem p n labels) =
       elim (has_text (children_at b.calls p) n) as (λ c. (if◌then◌else◌ {A = List (Call M)} c [] (Subsystem p n labels ∷ []) ≡ []) ⊎ (if◌then◌else◌ {A = List (Call M)} c [] (Subsystem p n labels ∷ []) ≡ Subsystem p n labels ∷ []))

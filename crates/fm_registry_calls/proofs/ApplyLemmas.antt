@@ -2,7 +2,7 @@
 use Rattle.std.proofs.Common.{◌≡◌, ℕ, ◌+◌, true, false, Option, None, Some, Result, Ok, Err, OnOk, OnErr, if◌then◌else◌, refl, sym, ap, subst, inr, ◌∙◌}
 use Rattle.std.specs.Str.{bytes_eq}
 use Rattle.fm_registry_calls.specs.Texts.{Text, has_text}
-use Rattle.fm_registry_calls.specs.Book.{Call, Book, in_front}
+use Rattle.fm_registry_calls.specs.History.{Call, History, in_front}
 use Rattle.fm_registry_calls.specs.Tree.{Forest, Leaf, Child, Tree, Reads, find_child, names_in}
 use Rattle.fm_registry_calls.specs.Steps.{with_named, with_child}
 use Rattle.fm_registry_calls.specs.inside.Forests.{nth_in, nth_name, with_nth, place_from, place_in}
@@ -34,7 +34,7 @@ module _ {M : Type 0} where
       [ true ↦ λ h. refl | false ↦ λ h. there_from_place rest n (k + 1) i h ] e
 
   -- a name that is not there
-  pub apply-missing : (t : Tree M) (n : Text) (call : Call M) → place_in t.children n ≡ None → (b : Book M) → Reads t b → IsReply (Some (NoSuchSubsystem n)) b (in_front n call)
+  pub apply-missing : (t : Tree M) (n : Text) (call : Call M) → place_in t.children n ≡ None → (b : History M) → Reads t b → IsReply (Some (NoSuchSubsystem n)) b (in_front n call)
   apply-missing t n call none b reads =
       let missing = missing-answer b n call (ap (λ ns. has_text ns n) (sym (reads_root t b reads).children) ∙ absent_from_place t.children n 0 none) in
       record { answered = inr (sym missing); there = λ nothing. sym missing }
@@ -43,7 +43,7 @@ module _ {M : Type 0} where
     found : find_child t.children n ≡ Some now
     found = (place_in-IsPlace t.children n i place).found ∙ value ∙ ap Some (sym shows)
 
-    pub apply-reply : (got : Option Refusal) → ((b : Book M) → Reads now b → IsReply got b call) → (b : Book M) → Reads t b → IsReply got b whole
+    pub apply-reply : (got : Option Refusal) → ((b : History M) → Reads now b → IsReply got b call) → (b : History M) → Reads t b → IsReply got b whole
     apply-reply got said b reads = subst (λ c. IsReply got b c) (sym front) (down-reply t now n call got found said b reads)
 
     module _ (m : Text) (name : nth_name t.children i ≡ Some m) (w : Tree M) where
@@ -54,9 +54,9 @@ module _ {M : Type 0} where
       written : record { facts = t.facts; children = with_nth t.children i m w } ≡ with_child t n w
       written = ap (λ f. record { facts = t.facts; children = f }) ((place_in-IsPlace t.children n i place).replaced m w ∙ ap (λ k. with_named t.children n k w) same_name)
 
-      pub apply-ok : (r : Result (Unit {0}) RegistryError) → ((b : Book M) → Reads now b → IsReply (refusal_of r) b call) → OnOk r ((b : Book M) → Reads now b → Reads w (after b call))
-          → OnOk r ((b : Book M) → Reads t b → Reads (record { facts = t.facts; children = with_nth t.children i m w }) (after b whole))
-      apply-ok r said reads = subst (λ c. OnOk r ((b : Book M) → Reads t b → Reads (record { facts = t.facts; children = with_nth t.children i m w }) (after b c))) (sym front)
+      pub apply-ok : (r : Result (Unit {0}) RegistryError) → ((b : History M) → Reads now b → IsReply (refusal_of r) b call) → OnOk r ((b : History M) → Reads now b → Reads w (after b call))
+          → OnOk r ((b : History M) → Reads t b → Reads (record { facts = t.facts; children = with_nth t.children i m w }) (after b whole))
+      apply-ok r said reads = subst (λ c. OnOk r ((b : History M) → Reads t b → Reads (record { facts = t.facts; children = with_nth t.children i m w }) (after b c))) (sym front)
           (down-reads t (record { facts = t.facts; children = with_nth t.children i m w }) now w n call r found written (λ b h. (said b h).answered) reads)
 
       pub apply-err : (r : Result (Unit {0}) RegistryError) → OnErr r (w ≡ now) → OnErr r (record { facts = t.facts; children = with_nth t.children i m w } ≡ t)

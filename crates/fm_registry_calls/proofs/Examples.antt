@@ -1,9 +1,9 @@
--- A book by example: replies, refusals in their order, names and labels.
+-- A history by example: replies, refusals in their order, names and labels.
 use Rattle.std.proofs.Common.{◌≡◌, false, true, [], ◌∷◌, codes, Option, None, Some, map, refl}
 use Rattle.fm_grammar.specs.declared.MetricType.TheVariants.{Counter, Gauge, Info}
 use Rattle.fm_registry_calls.specs.Texts.{Text, Label, set_label}
 use Rattle.fm_registry_calls.specs.Registration.{Registration, SeenUnit}
-use Rattle.fm_registry_calls.specs.Book.{Book, Call, Subsystem, Register, root_book, book_below}
+use Rattle.fm_registry_calls.specs.History.{History, Call, Subsystem, Register, root_history, history_below}
 use Rattle.fm_registry_calls.specs.Answer.{InvalidNameFormat, MustHaveAnEmptyUnitString, OtherUnitFormatMustBeLowercase, AlreadyExists, InvalidSubsystemName, InvalidLabelName, DuplicateLabel, NoSuchSubsystem, TooDeep, NameTaken, Refusal, answer, after, gained, root_labels_refusal}
 use Rattle.fm_registry_calls.specs.Listing.{listed_name, order}
 
@@ -16,16 +16,16 @@ label name value = record { name = name; value = value }
 abbrev seconds : Registration (Unit {0})
 seconds = record { name = codes "busy"; help = []; metric_type = Counter; unit = Some (unit_of (codes "seconds")); metric = tt }
 
-abbrev root : Book (Unit {0})
-root = root_book (Some (codes "app")) []
+abbrev root : History (Unit {0})
+root = root_history (Some (codes "app")) []
 
 abbrev asked : Call (Unit {0})
 asked = Subsystem [] (codes "http") (label (codes "zone") (codes "a") ∷ [])
 
-abbrev filled : Book (Unit {0})
+abbrev filled : History (Unit {0})
 filled = after (after root asked) (Register (codes "http" ∷ []) seconds)
 
--- a book with a subsystem and a metric below it
+-- a history with a subsystem and a metric below it
 asked_once : answer root asked ≡ None
 asked_once = refl
 
@@ -35,7 +35,7 @@ asked_again = refl
 names : map listed_name (order filled) ≡ codes "app_http_busy_seconds" ∷ []
 names = refl
 
-labels_below : (book_below filled (codes "http")).labels ≡ label (codes "zone") (codes "a") ∷ []
+labels_below : (history_below filled (codes "http")).labels ≡ label (codes "zone") (codes "a") ∷ []
 labels_below = refl
 
 -- each refusal, before those that come after it
@@ -74,8 +74,8 @@ later_value = refl
 abbrev gauge : Text → Option SeenUnit → Registration (Unit {0})
 gauge name unit = record { name = name; help = []; metric_type = Gauge; unit = unit; metric = tt }
 
-abbrev empty : Book (Unit {0})
-empty = root_book None []
+abbrev empty : History (Unit {0})
+empty = root_history None []
 
 abbrev second : Call (Unit {0}) → Call (Unit {0}) → Option Refusal
 second first then = answer (after empty first) then

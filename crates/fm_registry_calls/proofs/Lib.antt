@@ -1,6 +1,6 @@
 pub mod TextLemmas
 pub mod LabelLemmas
-pub mod BookLemmas
+pub mod HistoryLemmas
 pub mod AnswerLemmas
 pub mod AcceptedLemmas
 pub mod TreeLemmas

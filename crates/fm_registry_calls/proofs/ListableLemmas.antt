@@ -1,4 +1,4 @@
--- Every metric that a book lists makes a well-formed family.
+-- Every metric that a history lists makes a well-formed family.
 use Rattle.std.proofs.Common.{◌≡◌, ℕ, zero, suc, ◌&&◌, Bool, true, false, List, [], ◌∷◌, length, Option, None, Some, IfSome, is_some, if◌then◌else◌, refl, sym, subst, true≢false}
 use Rattle.std.specs.Prelude.{flat_map}
 use Rattle.std.specs.List.{AllByRecursion}
@@ -11,16 +11,16 @@ use Rattle.fm_grammar.specs.declared.MetricType.TheVariants.{Unknown, Gauge, Cou
 use Rattle.fm_grammar.proofs.Runs.{all_append}
 use Rattle.fm_registry_calls.specs.Texts.{Text, Path, Labels, path_eq, has_text, prefixed_name, printed_name}
 use Rattle.fm_registry_calls.specs.Registration.{Registration, SeenUnit, takes_no_unit, printed_unit}
-use Rattle.fm_registry_calls.specs.Book.{Call, Subsystem, Register, Book, metrics_at, children_at, with_more, book_below}
+use Rattle.fm_registry_calls.specs.History.{Call, Subsystem, Register, History, metrics_at, children_at, with_more, history_below}
 use Rattle.fm_registry_calls.specs.Answer.{is_bad_unit}
 use Rattle.fm_registry_calls.specs.inside.Refusals.{name_refusal}
-use Rattle.fm_registry_calls.specs.Accepted.{AreAccepted, IsBook}
+use Rattle.fm_registry_calls.specs.Accepted.{AreAccepted, IsHistory}
 use Rattle.fm_registry_calls.specs.Listing.{Listed, IsListable, listed_with, order}
 use Rattle.fm_registry_calls.proofs.TextLemmas.{bytes_eq-refl}
 use Rattle.fm_raw.proofs.NameLemmas.{snake_case_is, word_decides, snake_case_joined, snake_case_word}
 use Rattle.fm_registry_calls.proofs.AnswerLemmas.{or_then-none, not_false, name_passed, name_refusal-none}
 use Rattle.fm_registry_calls.proofs.DepthLemmas.{order_to, order-to}
-use Rattle.fm_registry_calls.proofs.AcceptedLemmas.{IsBook-below}
+use Rattle.fm_registry_calls.proofs.AcceptedLemmas.{IsHistory-below}
 
 -- a type that has no unit was given none
 unit_allowed : (t : MetricType) (u : Option SeenUnit) → (is_some u && takes_no_unit t) ≡ false → UnitAllowed t (printed_unit u)
@@ -68,7 +68,7 @@ module _ {M : Type 0} where
       }
 
   -- the name and the unit of every registered metric passed
-  pub metrics_passed : (calls : List (Call M)) (b : Book M) (p : Path) → AreAccepted b calls → AllByRecursion (λ r. name_refusal r.name r.metric_type r.unit ≡ None) (metrics_at calls p)
+  pub metrics_passed : (calls : List (Call M)) (b : History M) (p : Path) → AreAccepted b calls → AllByRecursion (λ r. name_refusal r.name r.metric_type r.unit ≡ None) (metrics_at calls p)
   metrics_passed [] b p h = tt
   metrics_passed (Subsystem q n labels ∷ calls) b p h = metrics_passed calls (with_more b (Subsystem q n labels ∷ [])) p h.1
   metrics_passed (Register q r ∷ calls) b p h =
@@ -81,7 +81,7 @@ module _ {M : Type 0} where
   all_listable namespace labels [] outer valid passed = tt
   all_listable namespace labels (r ∷ rs) outer valid passed = (listable namespace labels r outer valid passed.0, all_listable namespace labels rs outer valid passed.1)
 
-  pub own_listable : (b : Book M) → IsBook b → AllByRecursion IsListable (listed_with b.namespace b.labels (metrics_at b.calls []))
+  pub own_listable : (b : History M) → IsHistory b → AllByRecursion IsListable (listed_with b.namespace b.labels (metrics_at b.calls []))
   own_listable b h = all_listable b.namespace b.labels (metrics_at b.calls []) h.root.namespace h.root.labels (metrics_passed b.calls (record b { calls = [] }) [] h.accepted)
 
   -- what holds of the metrics of each name
@@ -94,12 +94,12 @@ module _ {M : Type 0} where
       later m true e = refl
       later m false e = e
 
-  fits_to : (depth : ℕ) (b : Book M) → IsBook b → AllByRecursion IsListable (order_to depth b)
+  fits_to : (depth : ℕ) (b : History M) → IsHistory b → AllByRecursion IsListable (order_to depth b)
   fits_to zero b h = own_listable b h
   fits_to (suc depth) b h =
-      all_append IsListable (listed_with b.namespace b.labels (metrics_at b.calls [])) (flat_map (λ n. order_to depth (book_below b n)) (children_at b.calls []))
-      (own_listable b h) (all_below (λ n. order_to depth (book_below b n)) (children_at b.calls []) (λ n there. fits_to depth (book_below b n) (IsBook-below b n h there)))
+      all_append IsListable (listed_with b.namespace b.labels (metrics_at b.calls [])) (flat_map (λ n. order_to depth (history_below b n)) (children_at b.calls []))
+      (own_listable b h) (all_below (λ n. order_to depth (history_below b n)) (children_at b.calls []) (λ n there. fits_to depth (history_below b n) (IsHistory-below b n h there)))
 
-  -- each metric that a book lists
-  pub listed_fits : (b : Book M) → IsBook b → AllByRecursion IsListable (order b)
+  -- each metric that a history lists
+  pub listed_fits : (b : History M) → IsHistory b → AllByRecursion IsListable (order b)
   listed_fits b h = subst (λ ls. AllByRecursion IsListable ls) (sym (order-to b)) (fits_to (length b.calls) b h)

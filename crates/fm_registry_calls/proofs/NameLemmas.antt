@@ -1,4 +1,4 @@
--- The three rules hold in every registry of a book, so no two metrics of a book are printed under one name.
+-- The three rules hold in every registry of a history, so no two metrics of a history are printed under one name.
 use Rattle.std.proofs.Common.{◌≡◌, ◌≢◌, ℕ, zero, suc, ◌+◌, Bool, true, false, ◌||◌, List, [], ◌∷◌, ◌++◌, map, Option, None, Some, ◌⊎◌, inl, inr, if◌then◌else◌, refl, sym, ap, subst, ◌∙◌, append_assoc, append-nil, length, drop, codes, true≢false}
 use Rattle.std.specs.Prelude.{flat_map}
 use Rattle.std.specs.List.{AllByRecursion, list_any}
@@ -10,15 +10,15 @@ use Rattle.fm_grammar.proofs.Runs.{all_append, all_weaker}
 use Rattle.fm_registry_calls.specs.Texts.{Text, Path, Labels, path_eq, has_text, prefixed_name, suffixed_name, printed_name}
 use Rattle.fm_registry_calls.specs.inside.Once.{is_once}
 use Rattle.fm_registry_calls.specs.Registration.{Registration, printed_unit}
-use Rattle.fm_registry_calls.specs.Book.{Call, Subsystem, Register, Book, metrics_at, children_at, with_more, book_below}
+use Rattle.fm_registry_calls.specs.History.{Call, Subsystem, Register, History, metrics_at, children_at, with_more, history_below}
 use Rattle.fm_registry_calls.specs.Taken.{IsBelow, AreApart, AllApart, AreSeparate, tail_of, tails_of, is_below, is_tail_taken, is_child_taken}
-use Rattle.fm_registry_calls.specs.Accepted.{IsAccepted, AreAccepted, IsBook}
+use Rattle.fm_registry_calls.specs.Accepted.{IsAccepted, AreAccepted, IsHistory}
 use Rattle.fm_registry_calls.specs.Listing.{Listed, listed_with, listed_name, order}
 use Rattle.fm_registry_calls.proofs.TextLemmas.{bytes_eq-refl, same_path, both_once}
-use Rattle.fm_registry_calls.proofs.BookLemmas.{metrics_at-++, children_at-++}
+use Rattle.fm_registry_calls.proofs.HistoryLemmas.{metrics_at-++, children_at-++}
 use Rattle.fm_registry_calls.proofs.AnswerLemmas.{registered_free, asked_passed, child_free}
 use Rattle.fm_registry_calls.proofs.DepthLemmas.{order_to, order-to}
-use Rattle.fm_registry_calls.proofs.AcceptedLemmas.{IsBook-below, is_once-children}
+use Rattle.fm_registry_calls.proofs.AcceptedLemmas.{IsHistory-below, is_once-children}
 use Rattle.std.proofs.lemmas.Bool.Decides.{Decides-eqb}
 
 -- both of two tests fail
@@ -117,7 +117,7 @@ module _ {M : Type 0} where
       nil_not_cons h = cc
   absent calls q n labels false e = refl
 
-  separate_step : (b : Book M) (call : Call M) (p : Path) → IsAccepted b call → Separate b.calls p → Separate (b.calls ++ call ∷ []) p
+  separate_step : (b : History M) (call : Call M) (p : Path) → IsAccepted b call → Separate b.calls p → Separate (b.calls ++ call ∷ []) p
   separate_step b (Register q r) p h rules =
       let children : children_at (b.calls ++ Register q r ∷ []) p ≡ children_at b.calls p = children_at-++ b.calls (Register q r ∷ []) p ∙ append-nil (children_at b.calls p) in
       subst (λ ns. AreSeparate (tails_of (metrics_at (b.calls ++ Register q r ∷ []) p)) ns) (sym children)
@@ -141,13 +141,13 @@ module _ {M : Type 0} where
         | false ↦ λ e. subst (λ ns. AreSeparate (tails_of (metrics_at b.calls p)) ns) (sym (append-nil (children_at b.calls p))) rules
       ] refl))
 
-  separate_along : (calls : List (Call M)) (b : Book M) (p : Path) → AreAccepted b calls → Separate b.calls p → Separate (b.calls ++ calls) p
+  separate_along : (calls : List (Call M)) (b : History M) (p : Path) → AreAccepted b calls → Separate b.calls p → Separate (b.calls ++ calls) p
   separate_along [] b p h rules = subst (λ cs. Separate cs p) (sym (append-nil b.calls)) rules
   separate_along (call ∷ calls) b p h rules =
       subst (λ cs. Separate cs p) (append_assoc b.calls (call ∷ []) calls) (separate_along calls (with_more b (call ∷ [])) p h.1 (separate_step b call p h.0 rules))
 
-  -- the three rules hold in every registry of a book
-  pub names_separate : (b : Book M) (p : Path) → IsBook b → AreSeparate (tails_of (metrics_at b.calls p)) (children_at b.calls p)
+  -- the three rules hold in every registry of a history
+  pub names_separate : (b : History M) (p : Path) → IsHistory b → AreSeparate (tails_of (metrics_at b.calls p)) (children_at b.calls p)
   names_separate b p h = separate_along b.calls (record b { calls = [] }) p h.accepted (record { different = tt; free = tt; apart = tt })
 
 -- a name in the exposition is the tail after the namespace
@@ -269,27 +269,27 @@ module _ {M : Type 0} where
   names-flat f (n ∷ ns) = map-append listed_name (f n) (flat_map f ns) ∙ ap (λ xs. map listed_name (f n) ++ xs) (names-flat f ns)
 
   -- the names of the metrics down to a depth
-  abbrev names_to : ℕ → Book M → List Text
+  abbrev names_to : ℕ → History M → List Text
   names_to k b = map listed_name (order_to k b)
 
-  names_to-suc : (k : ℕ) (b : Book M) → names_to (suc k) b ≡ map (prefixed_name b.namespace) (tails_of (metrics_at b.calls [])) ++ flat_map (λ n. names_to k (book_below b n)) (children_at b.calls [])
+  names_to-suc : (k : ℕ) (b : History M) → names_to (suc k) b ≡ map (prefixed_name b.namespace) (tails_of (metrics_at b.calls [])) ++ flat_map (λ n. names_to k (history_below b n)) (children_at b.calls [])
   names_to-suc k b =
-      map-append listed_name (listed_with b.namespace b.labels (metrics_at b.calls [])) (flat_map (λ n. order_to k (book_below b n)) (children_at b.calls []))
-      ∙ (λ i. own_names b.namespace b.labels (metrics_at b.calls []) i ++ names-flat (λ n. order_to k (book_below b n)) (children_at b.calls []) i)
+      map-append listed_name (listed_with b.namespace b.labels (metrics_at b.calls [])) (flat_map (λ n. order_to k (history_below b n)) (children_at b.calls []))
+      ∙ (λ i. own_names b.namespace b.labels (metrics_at b.calls []) i ++ names-flat (λ n. order_to k (history_below b n)) (children_at b.calls []) i)
 
-  names_behind : (k : ℕ) (b : Book M) → AllByRecursion (IsBehind b.namespace) (names_to k b)
+  names_behind : (k : ℕ) (b : History M) → AllByRecursion (IsBehind b.namespace) (names_to k b)
   names_behind zero b = subst (AllByRecursion (IsBehind b.namespace)) (sym (own_names b.namespace b.labels (metrics_at b.calls []))) (tails_behind b.namespace (tails_of (metrics_at b.calls [])))
   names_behind (suc k) b =
       subst (AllByRecursion (IsBehind b.namespace)) (sym (names_to-suc k b))
-      (all_append (IsBehind b.namespace) (map (prefixed_name b.namespace) (tails_of (metrics_at b.calls []))) (flat_map (λ n. names_to k (book_below b n)) (children_at b.calls []))
+      (all_append (IsBehind b.namespace) (map (prefixed_name b.namespace) (tails_of (metrics_at b.calls []))) (flat_map (λ n. names_to k (history_below b n)) (children_at b.calls []))
       (tails_behind b.namespace (tails_of (metrics_at b.calls [])))
-      (flat_behind b.namespace (λ n. names_to k (book_below b n)) (children_at b.calls []) (λ n. names_behind k (book_below b n))))
+      (flat_behind b.namespace (λ n. names_to k (history_below b n)) (children_at b.calls []) (λ n. names_behind k (history_below b n))))
 
-  names_below : (k : ℕ) (b : Book M) (n : Text) → AllByRecursion (λ x. IsPrintedBelow b.namespace n x) (names_to k (book_below b n))
+  names_below : (k : ℕ) (b : History M) (n : Text) → AllByRecursion (λ x. IsPrintedBelow b.namespace n x) (names_to k (history_below b n))
   names_below k b n =
-      all_weaker (IsBehind (Some (prefixed_name b.namespace n))) (λ x. IsPrintedBelow b.namespace n x) (λ x h. below_behind b.namespace n x h) (names_to k (book_below b n)) (names_behind k (book_below b n))
+      all_weaker (IsBehind (Some (prefixed_name b.namespace n))) (λ x. IsPrintedBelow b.namespace n x) (λ x h. below_behind b.namespace n x h) (names_to k (history_below b n)) (names_behind k (history_below b n))
 
-  names_different : (k : ℕ) (b : Book M) → IsBook b → AllDifferent (names_to k b)
+  names_different : (k : ℕ) (b : History M) → IsHistory b → AllDifferent (names_to k b)
   names_different zero b h =
       let rules = names_separate b [] h in
       subst AllDifferent (sym (own_names b.namespace b.labels (metrics_at b.calls []))) (different-behind b.namespace (tails_of (metrics_at b.calls [])) rules.different)
@@ -298,11 +298,11 @@ module _ {M : Type 0} where
       let tails = tails_of (metrics_at b.calls []) in
       let children = children_at b.calls [] in
       subst AllDifferent (sym (names_to-suc k b))
-      (different-++ (map (prefixed_name b.namespace) tails) (flat_map (λ n. names_to k (book_below b n)) children)
+      (different-++ (map (prefixed_name b.namespace) tails) (flat_map (λ n. names_to k (history_below b n)) children)
       (different-behind b.namespace tails rules.different)
-      (different-flat b.namespace (λ n. names_to k (book_below b n)) (names_below k b) children (λ n there. names_different k (book_below b n) (IsBook-below b n h there)) (is_once-children b [] h) rules.apart)
-      (tails_differ b.namespace (λ n. names_to k (book_below b n)) (names_below k b) tails children rules.free))
+      (different-flat b.namespace (λ n. names_to k (history_below b n)) (names_below k b) children (λ n there. names_different k (history_below b n) (IsHistory-below b n h there)) (is_once-children b [] h) rules.apart)
+      (tails_differ b.namespace (λ n. names_to k (history_below b n)) (names_below k b) tails children rules.free))
 
-  -- no two metrics of a book are printed under one name
-  pub printed_names-different : (b : Book M) → IsBook b → AllDifferent (map listed_name (order b))
+  -- no two metrics of a history are printed under one name
+  pub printed_names-different : (b : History M) → IsHistory b → AllDifferent (map listed_name (order b))
   printed_names-different b h = subst (λ ls. AllDifferent (map listed_name ls)) (sym (order-to b)) (names_different (length b.calls) b h)

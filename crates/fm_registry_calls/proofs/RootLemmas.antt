@@ -1,17 +1,17 @@
--- What a root was tested for, and that a new root reads its book.
+-- What a root was tested for, and that a new root reads its history.
 use Rattle.std.proofs.Common.{◌≡◌, ◌≢◌, ◌+◌, arith, length, IfSome, Bool, true, false, List, [], ◌∷◌, ◌++◌, map, Option, None, Some, if◌then◌else◌, refl, sym, ap, ◌∙◌, append-nil, append_assoc, true≢false}
 use Rattle.std.specs.List.{AllByRecursion}
 use Rattle.std.specs.Str.{bytes_eq}
 use Rattle.fm_grammar.specs.Names.{IsSnakeCase, IsLabelName, AllDifferent}
 use Rattle.fm_grammar.specs.WellFormed.{AreLabels}
 use Rattle.fm_grammar.proofs.Runs.{all_weaker}
-use Rattle.fm_registry_calls.specs.Book.{root_book, labels_at, namespace_at}
+use Rattle.fm_registry_calls.specs.History.{root_history, labels_at, namespace_at}
 use Rattle.fm_registry_calls.specs.Tree.{Tree, Leaf, Reads, subtree_from, metrics_of, children_of}
 use Rattle.fm_registry_calls.specs.Texts.{Text, Path, Labels, has_text}
 use Rattle.fm_registry_calls.specs.Answer.{Refusal, namespace_refusal, label_refusal_behind, labels_refusal_behind, root_labels_refusal, or_then}
 use Rattle.fm_registry_calls.proofs.TextLemmas.{bytes_eq-refl}
 use Rattle.fm_raw.proofs.NameLemmas.{snake_case_is, label_name_decides}
-use Rattle.fm_registry_calls.proofs.AcceptedLemmas.{IsBook-root_book}
+use Rattle.fm_registry_calls.proofs.AcceptedLemmas.{IsHistory-root_history}
 use Rattle.fm_registry_calls.proofs.AnswerLemmas.{or_then-none, namespace_passed, label_passed}
 
 -- a namespace that is not refused
@@ -77,12 +77,12 @@ labels_refusal_behind-stays before (x ∷ xs) ys why h = by (label_refusal_behin
     by (Some r) e later = e
 
 module _ {M : Type 0} where
-  -- a new root reads its book
-  pub reads-root_book : (namespace : Option Text) (labels : Labels) → IfSome namespace IsSnakeCase → AreLabels labels
-      → Reads {M = M} (record { facts = record { namespace = namespace; labels = labels; depth = 0; metrics = [] }; children = Leaf }) (root_book namespace labels)
-  reads-root_book namespace labels valid are = record {
+  -- a new root reads its history
+  pub reads-root_history : (namespace : Option Text) (labels : Labels) → IfSome namespace IsSnakeCase → AreLabels labels
+      → Reads {M = M} (record { facts = record { namespace = namespace; labels = labels; depth = 0; metrics = [] }; children = Leaf }) (root_history namespace labels)
+  reads-root_history namespace labels valid are = record {
     shows = record { metrics = metrics; children = children; namespace = namespaces; labels = all_labels; depth = depths };
-    book = IsBook-root_book namespace labels valid are;
+    history = IsHistory-root_history namespace labels valid are;
   }
     where
       root : Tree M
@@ -96,11 +96,11 @@ module _ {M : Type 0} where
       children [] = refl
       children (n ∷ p) = refl
 
-      namespaces : (p : Path) → IfSome (subtree_from (Some root) p) (λ c. c.facts.namespace ≡ namespace_at (root_book {M = M} namespace labels) p)
+      namespaces : (p : Path) → IfSome (subtree_from (Some root) p) (λ c. c.facts.namespace ≡ namespace_at (root_history {M = M} namespace labels) p)
       namespaces [] = refl
       namespaces (n ∷ p) = tt
 
-      all_labels : (p : Path) → IfSome (subtree_from (Some root) p) (λ c. c.facts.labels ≡ labels_at (root_book {M = M} namespace labels) p)
+      all_labels : (p : Path) → IfSome (subtree_from (Some root) p) (λ c. c.facts.labels ≡ labels_at (root_history {M = M} namespace labels) p)
       all_labels [] = refl
       all_labels (n ∷ p) = tt
 

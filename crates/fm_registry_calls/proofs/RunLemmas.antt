@@ -2,7 +2,7 @@
 use Rattle.std.proofs.Common.{◌≡◌, List, [], ◌∷◌, ◌++◌, map, Option, Result, Ok, Err, OnOk, OnErr, refl, sym, ap, subst, append-nil, length, arith, ◌∙◌, String, Global}
 use Rattle.std.specs.String.{string_bytes}
 use Rattle.fm_registry_calls.specs.Texts.{Path}
-use Rattle.fm_registry_calls.specs.Book.{Book, Call}
+use Rattle.fm_registry_calls.specs.History.{History, Call}
 use Rattle.fm_registry_calls.specs.Tree.{Tree, Reads}
 use Rattle.fm_registry_calls.specs.Answer.{Refusal, after, refusal_of}
 use Rattle.fm_registry_calls.specs.Running.{Runs, IsReply, after_reply}
@@ -13,14 +13,14 @@ use Rattle.fm_registry_calls.specs.declared.RegistryError.{RegistryError}
 
 module _ {M : Type 0} where
   -- one call more, with its reply
-  last : (b : Book M) (call : Call M) (r : Result (Unit {0}) RegistryError) (t u : Tree M)
-      → ((c : Book M) → Reads t c → IsReply (refusal_of r) c call) → OnOk r ((c : Book M) → Reads t c → Reads u (after c call)) → OnErr r (u ≡ t)
+  last : (b : History M) (call : Call M) (r : Result (Unit {0}) RegistryError) (t u : Tree M)
+      → ((c : History M) → Reads t c → IsReply (refusal_of r) c call) → OnOk r ((c : History M) → Reads t c → Reads u (after c call)) → OnErr r (u ≡ t)
       → Reads t b → Runs b (call ∷ []) (refusal_of r ∷ []) u
   last b call (Ok x) t u said reads same h = (said b h, reads b h)
   last b call (Err e) t u said reads same h = (said b h, subst (λ v. Reads v b) (sym same) h)
 
-  pub Runs-more : (b : Book M) (calls : List (Call M)) (replies : List (Option Refusal)) (call : Call M) (r : Result (Unit {0}) RegistryError) (t u : Tree M)
-      → ((c : Book M) → Reads t c → IsReply (refusal_of r) c call) → OnOk r ((c : Book M) → Reads t c → Reads u (after c call)) → OnErr r (u ≡ t)
+  pub Runs-more : (b : History M) (calls : List (Call M)) (replies : List (Option Refusal)) (call : Call M) (r : Result (Unit {0}) RegistryError) (t u : Tree M)
+      → ((c : History M) → Reads t c → IsReply (refusal_of r) c call) → OnOk r ((c : History M) → Reads t c → Reads u (after c call)) → OnErr r (u ≡ t)
       → Runs b calls replies t → Runs b (calls ++ call ∷ []) (replies ++ refusal_of r ∷ []) u
   Runs-more b [] [] call r t u said reads same h = last b call r t u said reads same h
   Runs-more b [] (q ∷ replies) call r t u said reads same h = absurd h

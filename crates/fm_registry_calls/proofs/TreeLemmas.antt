@@ -1,17 +1,17 @@
--- How the steps of a tree follow the calls of its book.
+-- How the steps of a tree follow the calls of its history.
 use Rattle.std.proofs.Common.{◌≡◌, ◌+◌, true, false, ◌&&◌, List, [], ◌∷◌, ◌++◌, map, Option, None, Some, IfSome, length, if◌then◌else◌, refl, sym, ap, subst, ◌∙◌, append-nil, true≢false, arith}
 use Rattle.std.specs.Str.{bytes_eq}
 use Rattle.fm_registry_calls.specs.Texts.{Text, Path, Labels, path_eq, has_text, merge_labels, join_name}
 use Rattle.fm_registry_calls.specs.Registration.{Registration}
-use Rattle.fm_registry_calls.specs.Book.{Call, Subsystem, Register, Book, metrics_at, children_at, labels_given, labels_at, namespace_at, with_more, in_front, calls_below, book_below}
+use Rattle.fm_registry_calls.specs.History.{Call, Subsystem, Register, History, metrics_at, children_at, labels_given, labels_at, namespace_at, with_more, in_front, calls_below, history_below}
 use Rattle.fm_registry_calls.specs.Tree.{Facts, Forest, Leaf, Child, Tree, names_in, find_child, subtree_from, metrics_of, children_of, ShowsFrom, Shows, ReadsFrom, Reads}
 use Rattle.fm_registry_calls.specs.inside.Forests.{subtree_at, with_metric}
 use Rattle.fm_registry_calls.specs.Steps.{new_facts, add_child, with_named, with_child}
 use Rattle.fm_registry_calls.specs.Answer.{answer, gained}
-use Rattle.fm_registry_calls.specs.Accepted.{IsBook}
+use Rattle.fm_registry_calls.specs.Accepted.{IsHistory}
 use Rattle.fm_registry_calls.proofs.TextLemmas.{bytes_eq-refl, same_text, has_text-last}
-use Rattle.fm_registry_calls.proofs.AcceptedLemmas.{IsBook-below, IsBook-gained, IsBook-with_more, IsBook-in_front}
-use Rattle.fm_registry_calls.proofs.BookLemmas.{metrics_at-calls_below, children_at-calls_below, labels_at-book_below, metrics_at-++, children_at-++, labels_given-++, calls_below-++}
+use Rattle.fm_registry_calls.proofs.AcceptedLemmas.{IsHistory-below, IsHistory-gained, IsHistory-with_more, IsHistory-in_front}
+use Rattle.fm_registry_calls.proofs.HistoryLemmas.{metrics_at-calls_below, children_at-calls_below, labels_at-history_below, metrics_at-++, children_at-++, labels_given-++, calls_below-++}
 
 module _ {M : Type 0} where
   -- a name is among a forest's names if a registry with it is found
@@ -24,42 +24,42 @@ module _ {M : Type 0} where
       elim (bytes_eq m n) as (λ d. (if d then Some (record { facts = facts; children = below }) else find_child rest n) ≡ Some c → (if d then true else has_text (names_in rest) n) ≡ true)
       [ true ↦ λ h. refl | false ↦ λ h. has_found rest n c h ] e
 
-  -- a subsystem that is found has a book of its own
-  book_found : (o : Option (Tree M)) (t : Tree M) (b : Book M) (n : Text) → find_child t.children n ≡ o → Reads t b → IfSome o (λ c. IsBook (book_below b n))
-  book_found None t b n e r = tt
-  book_found (Some c) t b n e r = IsBook-below b n r.book (ap (λ ns. has_text ns n) (sym (r.shows.children [])) ∙ has_found t.children n c e)
+  -- a subsystem that is found has a history of its own
+  history_found : (o : Option (Tree M)) (t : Tree M) (b : History M) (n : Text) → find_child t.children n ≡ o → Reads t b → IfSome o (λ c. IsHistory (history_below b n))
+  history_found None t b n e r = tt
+  history_found (Some c) t b n e r = IsHistory-below b n r.history (ap (λ ns. has_text ns n) (sym (r.shows.children [])) ∙ has_found t.children n c e)
 
   -- each subsystem shows the calls below it
-  pub shows_below : (t : Tree M) (b : Book M) → Shows t b → (n : Text) → ShowsFrom (find_child t.children n) (book_below b n)
+  pub shows_below : (t : Tree M) (b : History M) → Shows t b → (n : Text) → ShowsFrom (find_child t.children n) (history_below b n)
   shows_below t b r n = record {
     metrics = λ p. r.metrics (n ∷ p) ∙ metrics_at-calls_below b.calls n p;
     children = λ p. r.children (n ∷ p) ∙ children_at-calls_below b.calls n p;
     namespace = λ p. r.namespace (n ∷ p);
-    labels = λ p. subst (λ ls. IfSome (subtree_from (find_child t.children n) p) (λ c. c.facts.labels ≡ ls)) (labels_at-book_below b n p) (r.labels (n ∷ p));
+    labels = λ p. subst (λ ls. IfSome (subtree_from (find_child t.children n) p) (λ c. c.facts.labels ≡ ls)) (labels_at-history_below b n p) (r.labels (n ∷ p));
     depth = λ p. subst (λ k. IfSome (subtree_from (find_child t.children n) p) (λ c. c.facts.depth ≡ k)) (omega arith) (r.depth (n ∷ p));
   }
 
   -- each subsystem reads the calls below it
-  pub reads_below : (t : Tree M) (b : Book M) → Reads t b → (n : Text) → ReadsFrom (find_child t.children n) (book_below b n)
-  reads_below t b r n = record { shows = shows_below t b r.shows n; book = book_found (find_child t.children n) t b n refl r }
+  pub reads_below : (t : Tree M) (b : History M) → Reads t b → (n : Text) → ReadsFrom (find_child t.children n) (history_below b n)
+  reads_below t b r n = record { shows = shows_below t b r.shows n; history = history_found (find_child t.children n) t b n refl r }
 
   -- what a root shows of itself
-  pub record ReadsRoot (t : Tree M) (b : Book M) : Type 0 where
+  pub record ReadsRoot (t : Tree M) (b : History M) : Type 0 where
     pub metrics : t.facts.metrics ≡ metrics_at b.calls []
     pub children : names_in t.children ≡ children_at b.calls []
     pub namespace : t.facts.namespace ≡ b.namespace
     pub labels : t.facts.labels ≡ b.labels
     pub depth : t.facts.depth ≡ b.depth
-    pub book : IsBook b
+    pub history : IsHistory b
 
-  pub reads_root : (t : Tree M) (b : Book M) → Reads t b → ReadsRoot t b
-  reads_root t b r = record { metrics = r.shows.metrics []; children = r.shows.children []; namespace = r.shows.namespace []; labels = r.shows.labels []; depth = r.shows.depth [] ∙ omega arith; book = r.book }
+  pub reads_root : (t : Tree M) (b : History M) → Reads t b → ReadsRoot t b
+  reads_root t b r = record { metrics = r.shows.metrics []; children = r.shows.children []; namespace = r.shows.namespace []; labels = r.shows.labels []; depth = r.shows.depth [] ∙ omega arith; history = r.history }
 
-  -- and a tree reads a book if its root does and each subsystem reads the calls below it
-  pub reads_above : (t : Tree M) (b : Book M) → ReadsRoot t b → ((n : Text) → ReadsFrom (find_child t.children n) (book_below b n)) → Reads t b
+  -- and a tree reads a history if its root does and each subsystem reads the calls below it
+  pub reads_above : (t : Tree M) (b : History M) → ReadsRoot t b → ((n : Text) → ReadsFrom (find_child t.children n) (history_below b n)) → Reads t b
   reads_above t b root below = record {
     shows = record { metrics = metrics; children = children; namespace = namespace; labels = labels; depth = depth };
-    book = root.book;
+    history = root.history;
   }
     where
       metrics : (p : Path) → metrics_of (subtree_at t p) ≡ metrics_at b.calls p
@@ -76,21 +76,21 @@ module _ {M : Type 0} where
 
       labels : (p : Path) → IfSome (subtree_at t p) (λ c. c.facts.labels ≡ labels_at b p)
       labels [] = root.labels
-      labels (n ∷ p) = subst (λ ls. IfSome (subtree_from (find_child t.children n) p) (λ c. c.facts.labels ≡ ls)) (sym (labels_at-book_below b n p)) ((below n).shows.labels p)
+      labels (n ∷ p) = subst (λ ls. IfSome (subtree_from (find_child t.children n) p) (λ c. c.facts.labels ≡ ls)) (sym (labels_at-history_below b n p)) ((below n).shows.labels p)
 
       depth : (p : Path) → IfSome (subtree_at t p) (λ c. c.facts.depth ≡ b.depth + length p)
       depth [] = root.depth ∙ omega arith
       depth (n ∷ p) = subst (λ k. IfSome (subtree_from (find_child t.children n) p) (λ c. c.facts.depth ≡ k)) (omega arith) ((below n).shows.depth p)
 
   -- a call at the root, seen from a subsystem
-  book_below-with_more : (b : Book M) (more : List (Call M)) (n : Text) → labels_given more [] n ≡ [] → calls_below more n ≡ [] → book_below (with_more b more) n ≡ book_below b n
-  book_below-with_more b more n no_labels no_calls =
+  history_below-with_more : (b : History M) (more : List (Call M)) (n : Text) → labels_given more [] n ≡ [] → calls_below more n ≡ [] → history_below (with_more b more) n ≡ history_below b n
+  history_below-with_more b more n no_labels no_calls =
       let given : labels_given (b.calls ++ more) [] n ≡ labels_given b.calls [] n = labels_given-++ b.calls more [] n ∙ ap (λ ls. labels_given b.calls [] n ++ ls) no_labels ∙ append-nil (labels_given b.calls [] n) in
       let below : calls_below (b.calls ++ more) n ≡ calls_below b.calls n = calls_below-++ b.calls more n ∙ ap (λ cs. calls_below b.calls n ++ cs) no_calls ∙ append-nil (calls_below b.calls n) in
       λ i. record { namespace = join_name b.namespace n; labels = merge_labels b.labels (given i); depth = b.depth + 1; calls = below i }
 
   -- a registration at the root
-  pub reads-with_metric : (t : Tree M) (b : Book M) (m : Registration M) → answer b (Register [] m) ≡ None → Reads t b → Reads (with_metric t m) (with_more b (Register [] m ∷ []))
+  pub reads-with_metric : (t : Tree M) (b : History M) (m : Registration M) → answer b (Register [] m) ≡ None → Reads t b → Reads (with_metric t m) (with_more b (Register [] m ∷ []))
   reads-with_metric t b m none r =
       let root = reads_root t b r in
       reads_above (with_metric t m) (with_more b (Register [] m ∷ []))
@@ -100,9 +100,9 @@ module _ {M : Type 0} where
         namespace = root.namespace;
         labels = root.labels;
         depth = root.depth;
-        book = IsBook-gained b (Register [] m) root.book none;
+        history = IsHistory-gained b (Register [] m) root.history none;
       })
-      (λ n. subst (λ c. ReadsFrom (find_child t.children n) c) (sym (book_below-with_more b (Register [] m ∷ []) n refl refl)) (reads_below t b r n))
+      (λ n. subst (λ c. ReadsFrom (find_child t.children n) c) (sym (history_below-with_more b (Register [] m ∷ []) n refl refl)) (reads_below t b r n))
 
   -- a name that is not there was given no labels
   labels_given-absent : (calls : List (Call M)) (q : Path) (n : Text) → has_text (children_at calls q) n ≡ false → labels_given calls q n ≡ []
@@ -145,11 +145,11 @@ module _ {M : Type 0} where
       [ true ↦ refl | false ↦ find_child-add_child rest n facts m ]
 
   -- a new subsystem reads no calls
-  reads_new : (b : Book M) (f : Facts M) (n : Text) (labels : Labels) → ReadsFrom None (book_below b n) → has_text (children_at b.calls []) n ≡ false → f.namespace ≡ b.namespace → f.labels ≡ b.labels → f.depth ≡ b.depth → IsBook (book_below (with_more b (Subsystem [] n labels ∷ [])) n)
-      → ReadsFrom (Some (record { facts = new_facts f n labels; children = Leaf })) (book_below (with_more b (Subsystem [] n labels ∷ [])) n)
-  reads_new b f n labels r absent namespace given depth book = record {
+  reads_new : (b : History M) (f : Facts M) (n : Text) (labels : Labels) → ReadsFrom None (history_below b n) → has_text (children_at b.calls []) n ≡ false → f.namespace ≡ b.namespace → f.labels ≡ b.labels → f.depth ≡ b.depth → IsHistory (history_below (with_more b (Subsystem [] n labels ∷ [])) n)
+      → ReadsFrom (Some (record { facts = new_facts f n labels; children = Leaf })) (history_below (with_more b (Subsystem [] n labels ∷ [])) n)
+  reads_new b f n labels r absent namespace given depth history = record {
     shows = record { metrics = metrics; children = children; namespace = namespaces; labels = all_labels; depth = depths };
-    book = book;
+    history = history;
   }
     where
       below : calls_below (b.calls ++ Subsystem [] n labels ∷ []) n ≡ calls_below b.calls n
@@ -169,11 +169,11 @@ module _ {M : Type 0} where
       children [] = r.shows.children [] ∙ ap (λ cs. children_at cs []) (sym below)
       children (q ∷ p) = r.shows.children (q ∷ p) ∙ ap (λ cs. children_at cs (q ∷ p)) (sym below)
 
-      namespaces : (p : Path) → IfSome (subtree_from (Some (record { facts = new_facts f n labels; children = Leaf })) p) (λ c. c.facts.namespace ≡ namespace_at (book_below (with_more b (Subsystem [] n labels ∷ [])) n) p)
+      namespaces : (p : Path) → IfSome (subtree_from (Some (record { facts = new_facts f n labels; children = Leaf })) p) (λ c. c.facts.namespace ≡ namespace_at (history_below (with_more b (Subsystem [] n labels ∷ [])) n) p)
       namespaces [] = ap (λ o. join_name o n) namespace
       namespaces (q ∷ p) = tt
 
-      all_labels : (p : Path) → IfSome (subtree_from (Some (record { facts = new_facts f n labels; children = Leaf })) p) (λ c. c.facts.labels ≡ labels_at (book_below (with_more b (Subsystem [] n labels ∷ [])) n) p)
+      all_labels : (p : Path) → IfSome (subtree_from (Some (record { facts = new_facts f n labels; children = Leaf })) p) (λ c. c.facts.labels ≡ labels_at (history_below (with_more b (Subsystem [] n labels ∷ [])) n) p)
       all_labels [] = ap (λ ls. merge_labels ls labels) given ∙ ap (λ ls. merge_labels b.labels ls) (sym all_given)
       all_labels (q ∷ p) = tt
 
@@ -182,19 +182,19 @@ module _ {M : Type 0} where
       depths (q ∷ p) = tt
 
   -- a subsystem that is not there is gained, and is the last child
-  gained_absent : (b : Book M) (n : Text) (labels : Labels) → has_text (children_at b.calls []) n ≡ false → gained b (Subsystem [] n labels) ≡ Subsystem [] n labels ∷ []
+  gained_absent : (b : History M) (n : Text) (labels : Labels) → has_text (children_at b.calls []) n ≡ false → gained b (Subsystem [] n labels) ≡ Subsystem [] n labels ∷ []
   gained_absent b n labels absent = rw absent refl
 
-  last_child : (b : Book M) (n : Text) (labels : Labels) → has_text (children_at (b.calls ++ Subsystem [] n labels ∷ []) []) n ≡ true
+  last_child : (b : History M) (n : Text) (labels : Labels) → has_text (children_at (b.calls ++ Subsystem [] n labels ∷ []) []) n ≡ true
   last_child b n labels = ap (λ ns. has_text ns n) (children_at-++ b.calls (Subsystem [] n labels ∷ []) []) ∙ has_text-last (children_at b.calls []) n
 
   -- a new subsystem of the root
-  pub reads-add_child : (t : Tree M) (b : Book M) (n : Text) (labels : Labels) → answer b (Subsystem [] n labels) ≡ None → Reads t b → find_child t.children n ≡ None
+  pub reads-add_child : (t : Tree M) (b : History M) (n : Text) (labels : Labels) → answer b (Subsystem [] n labels) ≡ None → Reads t b → find_child t.children n ≡ None
       → Reads (record t { children = add_child t.children n (new_facts t.facts n labels) }) (with_more b (Subsystem [] n labels ∷ []))
   reads-add_child t b n labels accepted r none =
       let root = reads_root t b r in
       let absent : has_text (children_at b.calls []) n ≡ false = ap (λ ns. has_text ns n) (sym root.children) ∙ absent_from_find t.children n none in
-      let book : IsBook (with_more b (Subsystem [] n labels ∷ [])) = IsBook-with_more b (Subsystem [] n labels ∷ []) root.book (record { answer = accepted; new = gained_absent b n labels absent }, tt) in
+      let history : IsHistory (with_more b (Subsystem [] n labels ∷ [])) = IsHistory-with_more b (Subsystem [] n labels ∷ []) root.history (record { answer = accepted; new = gained_absent b n labels absent }, tt) in
       reads_above (record t { children = add_child t.children n (new_facts t.facts n labels) }) (with_more b (Subsystem [] n labels ∷ []))
       (record {
         metrics = root.metrics ∙ sym (metrics_at-++ b.calls (Subsystem [] n labels ∷ []) [] ∙ append-nil (metrics_at b.calls []));
@@ -202,19 +202,19 @@ module _ {M : Type 0} where
         namespace = root.namespace;
         labels = root.labels;
         depth = root.depth;
-        book = book;
+        history = history;
       })
-      (λ m. below root absent book m)
+      (λ m. below root absent history m)
     where
-      below : ReadsRoot t b → has_text (children_at b.calls []) n ≡ false → IsBook (with_more b (Subsystem [] n labels ∷ [])) → (m : Text) → ReadsFrom (find_child (add_child t.children n (new_facts t.facts n labels)) m) (book_below (with_more b (Subsystem [] n labels ∷ [])) m)
-      below root absent book m =
-          subst (λ o. ReadsFrom o (book_below (with_more b (Subsystem [] n labels ∷ [])) m)) (sym (find_child-add_child t.children n (new_facts t.facts n labels) m)) (
-          elim (bytes_eq n m) as (λ c. bytes_eq n m ≡ c → ReadsFrom (or_else (find_child t.children m) (if c then Some (record { facts = new_facts t.facts n labels; children = Leaf }) else None)) (book_below (with_more b (Subsystem [] n labels ∷ [])) m)) [
-            | true ↦ λ e. subst (λ k. ReadsFrom (or_else (find_child t.children k) (Some (record { facts = new_facts t.facts n labels; children = Leaf }))) (book_below (with_more b (Subsystem [] n labels ∷ [])) k)) (same_text n m e)
-                (subst (λ o. ReadsFrom (or_else o (Some (record { facts = new_facts t.facts n labels; children = Leaf }))) (book_below (with_more b (Subsystem [] n labels ∷ [])) n)) (sym none)
-                (reads_new b t.facts n labels (subst (λ o. ReadsFrom o (book_below b n)) none (reads_below t b r n)) absent root.namespace root.labels root.depth (IsBook-below (with_more b (Subsystem [] n labels ∷ [])) n book (last_child b n labels))))
-            | false ↦ λ e. subst (λ o. ReadsFrom o (book_below (with_more b (Subsystem [] n labels ∷ [])) m)) (sym (or_else-None (find_child t.children m)))
-                (subst (λ c. ReadsFrom (find_child t.children m) c) (sym (book_below-with_more b (Subsystem [] n labels ∷ []) m (rw e refl) refl)) (reads_below t b r m))
+      below : ReadsRoot t b → has_text (children_at b.calls []) n ≡ false → IsHistory (with_more b (Subsystem [] n labels ∷ [])) → (m : Text) → ReadsFrom (find_child (add_child t.children n (new_facts t.facts n labels)) m) (history_below (with_more b (Subsystem [] n labels ∷ [])) m)
+      below root absent history m =
+          subst (λ o. ReadsFrom o (history_below (with_more b (Subsystem [] n labels ∷ [])) m)) (sym (find_child-add_child t.children n (new_facts t.facts n labels) m)) (
+          elim (bytes_eq n m) as (λ c. bytes_eq n m ≡ c → ReadsFrom (or_else (find_child t.children m) (if c then Some (record { facts = new_facts t.facts n labels; children = Leaf }) else None)) (history_below (with_more b (Subsystem [] n labels ∷ [])) m)) [
+            | true ↦ λ e. subst (λ k. ReadsFrom (or_else (find_child t.children k) (Some (record { facts = new_facts t.facts n labels; children = Leaf }))) (history_below (with_more b (Subsystem [] n labels ∷ [])) k)) (same_text n m e)
+                (subst (λ o. ReadsFrom (or_else o (Some (record { facts = new_facts t.facts n labels; children = Leaf }))) (history_below (with_more b (Subsystem [] n labels ∷ [])) n)) (sym none)
+                (reads_new b t.facts n labels (subst (λ o. ReadsFrom o (history_below b n)) none (reads_below t b r n)) absent root.namespace root.labels root.depth (IsHistory-below (with_more b (Subsystem [] n labels ∷ [])) n history (last_child b n labels))))
+            | false ↦ λ e. subst (λ o. ReadsFrom o (history_below (with_more b (Subsystem [] n labels ∷ [])) m)) (sym (or_else-None (find_child t.children m)))
+                (subst (λ c. ReadsFrom (find_child t.children m) c) (sym (history_below-with_more b (Subsystem [] n labels ∷ []) m (rw e refl) refl)) (reads_below t b r m))
           ] refl)
 
   -- the calls of a subsystem, with its name in front
@@ -267,9 +267,9 @@ module _ {M : Type 0} where
         | false ↦ λ e. ap (λ o. if bytes_eq k m then Some (record { facts = g; children = below }) else o) (find_child-others rest n m w other)
       ] refl
 
-  -- what a subsystem's book gained follows in the book above it, with the name in front
-  pub reads-with_child : (t : Tree M) (b : Book M) (n : Text) (c w : Tree M) (more : List (Call M)) → Reads t b → find_child t.children n ≡ Some c
-      → Reads w (with_more (book_below b n) more) → Reads (with_child t n w) (with_more b (map (in_front n) more))
+  -- what a subsystem's history gained follows in the history above it, with the name in front
+  pub reads-with_child : (t : Tree M) (b : History M) (n : Text) (c w : Tree M) (more : List (Call M)) → Reads t b → find_child t.children n ≡ Some c
+      → Reads w (with_more (history_below b n) more) → Reads (with_child t n w) (with_more b (map (in_front n) more))
   reads-with_child t b n c w more r there read =
       let root = reads_root t b r in
       reads_above (with_child t n w) (with_more b (map (in_front n) more))
@@ -279,24 +279,24 @@ module _ {M : Type 0} where
         namespace = root.namespace;
         labels = root.labels;
         depth = root.depth;
-        book = IsBook-in_front b n more root.book (ap (λ ns. has_text ns n) (sym root.children) ∙ has_found t.children n c there) read.book;
+        history = IsHistory-in_front b n more root.history (ap (λ ns. has_text ns n) (sym root.children) ∙ has_found t.children n c there) read.history;
       })
       below
     where
-      own : book_below (with_more b (map (in_front n) more)) n ≡ with_more (book_below b n) more
+      own : history_below (with_more b (map (in_front n) more)) n ≡ with_more (history_below b n) more
       own =
           let given : labels_given (b.calls ++ map (in_front n) more) [] n ≡ labels_given b.calls [] n = labels_given-++ b.calls (map (in_front n) more) [] n ∙ ap (λ ls. labels_given b.calls [] n ++ ls) (labels_given-in_front more n n) ∙ append-nil (labels_given b.calls [] n) in
           let calls : calls_below (b.calls ++ map (in_front n) more) n ≡ calls_below b.calls n ++ more = calls_below-++ b.calls (map (in_front n) more) n ∙ ap (λ cs. calls_below b.calls n ++ cs) (calls_below-in_front more n) in
           λ i. record { namespace = join_name b.namespace n; labels = merge_labels b.labels (given i); depth = b.depth + 1; calls = calls i }
 
-      below : (m : Text) → ReadsFrom (find_child (with_named t.children n n w) m) (book_below (with_more b (map (in_front n) more)) m)
+      below : (m : Text) → ReadsFrom (find_child (with_named t.children n n w) m) (history_below (with_more b (map (in_front n) more)) m)
       below m =
-          elim (bytes_eq n m) as (λ d. bytes_eq n m ≡ d → ReadsFrom (find_child (with_named t.children n n w) m) (book_below (with_more b (map (in_front n) more)) m)) [
-            | true ↦ λ e. subst (λ k. ReadsFrom (find_child (with_named t.children n n w) k) (book_below (with_more b (map (in_front n) more)) k)) (same_text n m e)
-                (subst (λ o. ReadsFrom o (book_below (with_more b (map (in_front n) more)) n)) (sym (find_child-with_named t.children n c w there))
+          elim (bytes_eq n m) as (λ d. bytes_eq n m ≡ d → ReadsFrom (find_child (with_named t.children n n w) m) (history_below (with_more b (map (in_front n) more)) m)) [
+            | true ↦ λ e. subst (λ k. ReadsFrom (find_child (with_named t.children n n w) k) (history_below (with_more b (map (in_front n) more)) k)) (same_text n m e)
+                (subst (λ o. ReadsFrom o (history_below (with_more b (map (in_front n) more)) n)) (sym (find_child-with_named t.children n c w there))
                 (subst (λ d. ReadsFrom (Some w) d) (sym own) read))
-            | false ↦ λ e. subst (λ o. ReadsFrom o (book_below (with_more b (map (in_front n) more)) m)) (sym (find_child-others t.children n m w e))
-                (subst (λ d. ReadsFrom (find_child t.children m) d) (sym (book_below-with_more b (map (in_front n) more) m (labels_given-in_front more n m) (calls_below-others more n m e))) (reads_below t b r m))
+            | false ↦ λ e. subst (λ o. ReadsFrom o (history_below (with_more b (map (in_front n) more)) m)) (sym (find_child-others t.children n m w e))
+                (subst (λ d. ReadsFrom (find_child t.children m) d) (sym (history_below-with_more b (map (in_front n) more) m (labels_given-in_front more n m) (calls_below-others more n m e))) (reads_below t b r m))
           ] refl
 
   -- writing back what was there changes nothing

@@ -5,7 +5,7 @@ use Rattle.fm_grammar.specs.NameTests.{is_snake_case, is_word, is_label_name}
 use Rattle.fm_registry_calls.specs.Texts.{Text, Labels, has_text}
 use Rattle.fm_registry_calls.specs.Registration.{Registration, SeenUnit, takes_no_unit, is_same_metric, text_of_unit}
 use Rattle.fm_registry_calls.specs.Taken.{tail_of, tails_of, is_tail_taken, is_child_taken}
-use Rattle.fm_registry_calls.specs.Book.{Call, Subsystem, Register, Book, metrics_at, children_at, missing_along, with_more}
+use Rattle.fm_registry_calls.specs.History.{Call, Subsystem, Register, History, metrics_at, children_at, missing_along, with_more}
 use Rattle.fm_registry_calls.specs.declared.RegistryError as errors
 
 -- why a call is refused, with the text that caused it
@@ -124,23 +124,23 @@ missing_name None = None
 missing_name (Some name) = Some (NoSuchSubsystem name)
 
 module _ {M : Type 0} where
-  -- the reply to a call, which the book alone decides
-  abbrev pub answer : Book M → Call M → Option Refusal
+  -- the reply to a call, which the history alone decides
+  abbrev pub answer : History M → Call M → Option Refusal
   answer b (Subsystem path name labels) = or_then (missing_name (missing_along b.calls [] path)) (subsystem_refusal (b.depth + length path) (metrics_at b.calls path) (children_at b.calls path) name labels)
   answer b (Register path registration) = or_then (missing_name (missing_along b.calls [] path)) (metric_refusal (metrics_at b.calls path) (children_at b.calls path) registration)
 
-  -- what an accepted call adds to the book: nothing if it creates a subsystem that exists
-  abbrev pub gained : Book M → Call M → List (Call M)
+  -- what an accepted call adds to the history: nothing if it creates a subsystem that exists
+  abbrev pub gained : History M → Call M → List (Call M)
   gained b (Subsystem path name labels) = if has_text (children_at b.calls path) name then [] else Subsystem path name labels ∷ []
   gained b (Register path registration) = Register path registration ∷ []
 
-  -- the book after a reply
-  abbrev pub after_if : Option Refusal → Book M → Call M → Book M
+  -- the history after a reply
+  abbrev pub after_if : Option Refusal → History M → Call M → History M
   after_if None b call = with_more b (gained b call)
   after_if (Some _) b call = b
 
-  -- the book after a call
-  abbrev pub after : Book M → Call M → Book M
+  -- the history after a call
+  abbrev pub after : History M → Call M → History M
   after b call = after_if (answer b call) b call
 
 -- whether a call may run out of memory before it finds this reply: a name that is not in snake case, a unit, a depth, a

@@ -4,7 +4,7 @@ use Rattle.fm_grammar.specs.Names.{IsSnakeCase}
 use Rattle.fm_grammar.specs.WellFormed.{UnitFits, UnitAllowed, AreLabels}
 use Rattle.fm_registry_calls.specs.Texts.{Text, Path, Labels, printed_name}
 use Rattle.fm_registry_calls.specs.Registration.{Registration, printed_unit}
-use Rattle.fm_registry_calls.specs.Book.{Book, metrics_at, children_at, labels_at, namespace_at}
+use Rattle.fm_registry_calls.specs.History.{History, metrics_at, children_at, labels_at, namespace_at}
 use Rattle.fm_registry_calls.specs.Tree.{Facts, Forest, Leaf, Child, Tree}
 
 -- a registration with the namespace and labels of its registry
@@ -32,17 +32,17 @@ module _ {M : Type 0} where
   listed_tree t = own_metrics t.facts ++ listed_forest t.children
 
   -- the metrics registered at a path, each with the namespace and the labels there
-  abbrev pub listed_at : Book M → Path → List (Listed M)
+  abbrev pub listed_at : History M → Path → List (Listed M)
   listed_at b path = listed_with (namespace_at b path) (labels_at b path) (metrics_at b.calls path)
 
   -- The metrics at a path and below it, down to a depth: those of the registry there in order of registration,
   -- then those of each subsystem in order of creation.
-  abbrev pub order_from : Book M → ℕ → Path → List (Listed M)
+  abbrev pub order_from : History M → ℕ → Path → List (Listed M)
   order_from b zero path = listed_at b path
   order_from b (suc depth) path = listed_at b path ++ flat_map (λ name. order_from b depth (path ++ name ∷ [])) (children_at b.calls path)
 
   -- all of them, since no subsystem is deeper than the number of calls
-  abbrev pub order : Book M → List (Listed M)
+  abbrev pub order : History M → List (Listed M)
   order b = order_from b (length b.calls) []
 
   -- the metric's name in the exposition

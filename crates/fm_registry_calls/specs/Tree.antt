@@ -1,10 +1,10 @@
--- How contracts see a registry, as a tree, and what it means that the tree reads a book.
+-- How contracts see a registry, as a tree, and what it means that the tree reads a history.
 use Rattle.std.specs.Prelude.{◌≡◌, ℕ, ◌+◌, List, [], ◌∷◌, length, Option, None, Some, IfSome, if◌then◌else◌}
 use Rattle.std.specs.Str.{bytes_eq}
 use Rattle.fm_registry_calls.specs.Texts.{Text, Path, Labels}
 use Rattle.fm_registry_calls.specs.Registration.{Registration}
-use Rattle.fm_registry_calls.specs.Book.{Book, metrics_at, children_at, labels_at, namespace_at}
-use Rattle.fm_registry_calls.specs.Accepted.{IsBook}
+use Rattle.fm_registry_calls.specs.History.{History, metrics_at, children_at, labels_at, namespace_at}
+use Rattle.fm_registry_calls.specs.Accepted.{IsHistory}
 
 -- one registry, without its subsystems
 pub record Facts (M : Type 0) : Type 0 where
@@ -50,24 +50,24 @@ module _ {M : Type 0} where
   children_of None = []
   children_of (Some t) = names_in t.children
 
-  -- A tree, or its absence, shows a book: at every path it has the book's metrics and subsystems, and each registry that
-  -- exists has the book's namespace, labels and depth.
-  pub record ShowsFrom (o : Option (Tree M)) (b : Book M) : Type 0 where
+  -- A tree, or its absence, shows a history: at every path it has the history's metrics and subsystems, and each registry that
+  -- exists has the history's namespace, labels and depth.
+  pub record ShowsFrom (o : Option (Tree M)) (b : History M) : Type 0 where
     pub metrics : (path : Path) → metrics_of (subtree_from o path) ≡ metrics_at b.calls path
     pub children : (path : Path) → children_of (subtree_from o path) ≡ children_at b.calls path
     pub namespace : (path : Path) → IfSome (subtree_from o path) (λ t. t.facts.namespace ≡ namespace_at b path)
     pub labels : (path : Path) → IfSome (subtree_from o path) (λ t. t.facts.labels ≡ labels_at b path)
     pub depth : (path : Path) → IfSome (subtree_from o path) (λ t. t.facts.depth ≡ b.depth + length path)
 
-  -- a tree shows a book
-  abbrev pub Shows : Tree M → Book M → Type 0
+  -- a tree shows a history
+  abbrev pub Shows : Tree M → History M → Type 0
   Shows t b = ShowsFrom (Some t) b
 
-  -- it reads a book: it shows the book, which is one of calls that were accepted in turn
-  pub record ReadsFrom (o : Option (Tree M)) (b : Book M) : Type 0 where
+  -- it reads a history: it shows the history, which is one of calls that were accepted in turn
+  pub record ReadsFrom (o : Option (Tree M)) (b : History M) : Type 0 where
     pub shows : ShowsFrom o b
-    pub book : IfSome o (λ t. IsBook b)
+    pub history : IfSome o (λ t. IsHistory b)
 
-  -- a tree reads a book
-  abbrev pub Reads : Tree M → Book M → Type 0
+  -- a tree reads a history
+  abbrev pub Reads : Tree M → History M → Type 0
   Reads t b = ReadsFrom (Some t) b

@@ -1,12 +1,12 @@
-//! `RegistryError`, and the definitions of registry calls: books of accepted calls, and the trees that read them.
+//! `RegistryError`, and the definitions of registry calls: histories of accepted calls, and the trees that read them.
 #![tactic(auto)]
 
 ghost use Rattle.std.specs.Prelude.{◌≡◌, map};
 ghost use Rattle.fm_grammar.specs.Names.{AllDifferent};
 ghost use Rattle.fm_registry_calls.specs.Texts.{Path};
 ghost use Rattle.fm_registry_calls.specs.Taken.{AreSeparate, tails_of};
-ghost use Rattle.fm_registry_calls.specs.Book.{Book, metrics_at, children_at};
-ghost use Rattle.fm_registry_calls.specs.Accepted.{IsBook};
+ghost use Rattle.fm_registry_calls.specs.History.{History, metrics_at, children_at};
+ghost use Rattle.fm_registry_calls.specs.Accepted.{IsHistory};
 ghost use Rattle.fm_registry_calls.specs.Listing.{listed_name, order};
 ghost use Rattle.fm_registry_calls.specs.RegistryErrors.{error_number};
 ghost use Rattle.fm_registry_calls.specs.declared.RegistryError.TheVariants.{Memory};
@@ -94,10 +94,10 @@ impl<T: Drop> From<AllocFailed<T>> for RegistryError {
     }
 }
 
-/// In every book of accepted calls the rules for names hold in each registry, and no two of all its metrics have the
+/// In every history of accepted calls the rules for names hold in each registry, and no two of all its metrics have the
 /// same name in the exposition.
 pub fn names_are_different<M>()
-    ensures rules { (b : Book M) (path : Path) → IsBook b
+    ensures rules { (b : History M) (path : Path) → IsHistory b
         → AreSeparate (tails_of (metrics_at b.calls path)) (children_at b.calls path) }
-    ensures names { (b : Book M) → IsBook b → AllDifferent (map listed_name (order b)) }
+    ensures names { (b : History M) → IsHistory b → AllDifferent (map listed_name (order b)) }
 {}

@@ -1,5 +1,5 @@
 //! What the tests share: writers that stop, patience with refused memory, and documents of registries.
-ghost use Rattle.fm_registry.specs.HasBook.{HasBook};
+ghost use Rattle.fm_registry.specs.HasHistory.{HasHistory};
 
 use crate::trees::register_with;
 use fastmetrics::encoder::EncodeMetric;
@@ -86,7 +86,7 @@ fn encoded_both_ways(
     before: &str,
     registry: &Registry,
 ) -> Result<(Result<(), EncodeError>, String), Fail>
-    requires { HasBook registry.now }
+    requires { HasHistory registry.now }
 {
     let mut bytes = before.as_bytes().to_vec(alloc)?;
     let answer = encode(alloc, &mut bytes, registry);
@@ -103,7 +103,7 @@ fn encoded_both_ways(
 
 /// The document of a registry.
 pub fn document_of(alloc: Global, registry: &Registry) -> Result<String, Fail>
-    requires { HasBook registry.now }
+    requires { HasHistory registry.now }
 {
     let (answer, document) = encoded_both_ways(alloc, "", registry)?;
     answer?;
@@ -121,7 +121,7 @@ pub fn expect_text(text: &str, want: &str) -> Result<(), Fail> {
 
 /// Fails if this is not the document of a registry.
 pub fn expect_document_of(alloc: Global, registry: &Registry, want: &str) -> Result<(), Fail>
-    requires { HasBook registry.now }
+    requires { HasHistory registry.now }
 {
     let document = document_of(alloc, registry)?;
     expect_text(document.as_str(), want)

@@ -1,5 +1,5 @@
 //! What tests of trees share: paths, lists of labels, calls, and what is done below a registry.
-ghost use Rattle.fm_registry.specs.HasBook.{HasBook};
+ghost use Rattle.fm_registry.specs.HasHistory.{HasHistory};
 
 use fastmetrics::encoder::EncodeMetric;
 use fastmetrics::metrics::gauge::ConstGauge;
@@ -180,8 +180,8 @@ pub fn register_with(
     unit: Option<Unit>,
     metric: Box<dyn EncodeMetric>,
 ) -> Result<(), RegistryError>
-    requires { HasBook registry.old }
-    ensures { HasBook registry.new }
+    requires { HasHistory registry.old }
+    ensures { HasHistory registry.new }
 {
     let (Ok(name), Ok(help)) = (String::from_str(alloc, name), String::from_str(alloc, help)) else {
         return Err(RegistryError::Memory);
@@ -196,8 +196,8 @@ pub fn register(
     name: &str,
     metric: Box<dyn EncodeMetric>,
 ) -> Result<(), RegistryError>
-    requires { HasBook registry.old }
-    ensures { HasBook registry.new }
+    requires { HasHistory registry.old }
+    ensures { HasHistory registry.new }
 {
     register_with(alloc, registry, name, "H", None, metric)
 }
@@ -211,8 +211,8 @@ pub fn register_below_with(
     help: &str,
     metric: Box<dyn EncodeMetric>,
 ) -> Result<(), RegistryError>
-    requires { HasBook registry.old }
-    ensures { HasBook registry.new }
+    requires { HasHistory registry.old }
+    ensures { HasHistory registry.new }
 {
     let (Ok(below), Ok(name), Ok(help)) = (
         String::from_str(alloc, below),
@@ -234,8 +234,8 @@ pub fn register_below(
     name: &str,
     metric: Box<dyn EncodeMetric>,
 ) -> Result<(), RegistryError>
-    requires { HasBook registry.old }
-    ensures { HasBook registry.new }
+    requires { HasHistory registry.old }
+    ensures { HasHistory registry.new }
 {
     register_below_with(alloc, registry, below, name, "H", metric)
 }
@@ -247,8 +247,8 @@ pub fn build_below(
     below: &str,
     pairs: &[(&str, &str)],
 ) -> Result<(), RegistryError>
-    requires { HasBook registry.old }
-    ensures { HasBook registry.new }
+    requires { HasHistory registry.old }
+    ensures { HasHistory registry.new }
 {
     let (Ok(below), Ok(labels)) = (String::from_str(alloc, below), labels(alloc, pairs)) else {
         return Err(RegistryError::Memory);

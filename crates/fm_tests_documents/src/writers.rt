@@ -1,5 +1,5 @@
 //! Writers that stop, and what they have taken by then.
-ghost use Rattle.fm_registry.specs.HasBook.{HasBook};
+ghost use Rattle.fm_registry.specs.HasHistory.{HasHistory};
 
 use fastmetrics::format::text::{EncodeError, encode};
 use fastmetrics::metrics::counter::ConstCounter;
@@ -26,7 +26,7 @@ fn stopped_at(
     step: usize,
     end: Option<ErrorKind>,
 ) -> (Result<(), EncodeError>, bool)
-    requires { HasBook registry.now }
+    requires { HasHistory registry.now }
 {
     let mut writer = Stopping::new(alloc, room, step, end);
     let answer = encode(alloc, &mut writer, registry);
@@ -35,7 +35,7 @@ fn stopped_at(
 
 // Whether a writer that stops after this number of bytes ends the writing there, however it stops.
 fn stops_at(alloc: Global, registry: &Registry, room: usize) -> bool
-    requires { HasBook registry.now }
+    requires { HasHistory registry.now }
 {
     let failed = stopped_at(alloc, registry, room, 1000, Some(ErrorKind::Other));
     let interrupted = stopped_at(alloc, registry, room, 7, Some(ErrorKind::Interrupted));
@@ -65,7 +65,7 @@ fn expect_ten_bytes(
     end: Option<ErrorKind>,
     want: EncodeError,
 ) -> Result<(), Fail>
-    requires { HasBook registry.now }
+    requires { HasHistory registry.now }
 {
     let mut stopping = Stopping::new(alloc, 10, 1000, end);
     let answer = encode(alloc, &mut stopping, registry);
@@ -78,7 +78,7 @@ fn expect_ten_bytes(
 
 // Fails where encoding after a beginning writes anything but the document after it.
 fn expect_after_beginning(alloc: Global, registry: &Registry) -> Result<(), Fail>
-    requires { HasBook registry.now }
+    requires { HasHistory registry.now }
 {
     let mut used = b"before\n".to_vec(alloc)?;
     encode(alloc, &mut used, registry)?;

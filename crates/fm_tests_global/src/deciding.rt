@@ -1,5 +1,5 @@
 //! What decides which registry a program shares.
-ghost use Rattle.fm_registry.specs.HasBook.{HasBook};
+ghost use Rattle.fm_registry.specs.HasHistory.{HasHistory};
 
 use crate::support::{One, UpAndDown, document};
 use fastmetrics::encoder::EncodeMetric;
@@ -105,8 +105,8 @@ fn a_loan_to_change_decides(rt: HostRuntime) -> Result<(), Fail> {
         &rt,
         &global,
         |registry: &mut Registry| -> bool
-            requires { HasBook registry.old }
-            ensures { HasBook registry.new }
+            requires { HasHistory registry.old }
+            ensures { HasHistory registry.new }
         { registry.namespace().is_none() },
     );
     assert!(rt; is_unnamed);

@@ -1,5 +1,5 @@
 //! What is registered in the registry under the lock.
-ghost use Rattle.fm_registry.specs.HasBook.{HasBook};
+ghost use Rattle.fm_registry.specs.HasHistory.{HasHistory};
 
 use crate::support::{One, UpAndDown, document};
 use fastmetrics::encoder::EncodeMetric;
@@ -58,8 +58,8 @@ fn metrics_go_on_after_those_of_others(rt: HostRuntime) -> Result<(), Fail> {
         &rt,
         &global,
         |registry: &mut Registry| -> Result<(), RegistryError>
-            requires { HasBook registry.old }
-            ensures { HasBook registry.new }
+            requires { HasHistory registry.old }
+            ensures { HasHistory registry.new }
         { registry.register(alloc, name, help, metric) },
     )?;
     expect_text(

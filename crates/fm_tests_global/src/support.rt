@@ -1,6 +1,6 @@
 //! Metrics that register themselves, and what a global registry holds.
 ghost use Rattle.std.specs.Prelude.{◌≡◌, OnErr};
-ghost use Rattle.fm_registry.specs.HasBook.{HasBook};
+ghost use Rattle.fm_registry.specs.HasHistory.{HasHistory};
 
 use fastmetrics::format::text::{EncodeError, encode};
 use fastmetrics::raw::MetricType;
@@ -69,7 +69,7 @@ fn add_gauge<M: Drop>(
     name: &str,
     gauge: Option<M>,
 ) -> Result<(), RegistryError>
-    ensures sound { HasBook registry.old → HasBook registry.new }
+    ensures sound { HasHistory registry.old → HasHistory registry.new }
     ensures refused { OnErr result (registry.new ≡ registry.old) }
 {
     let Some(gauge) = gauge else {
@@ -88,7 +88,7 @@ fn owned(alloc: Global, text: &str) -> Result<String, RegistryError> {
 
 /// The document of a registry.
 fn document_of(alloc: Global, registry: &Registry) -> Result<Vec<u8>, EncodeError>
-    requires { HasBook registry.now }
+    requires { HasHistory registry.now }
 {
     let mut bytes = Vec::new(alloc);
     encode(alloc, &mut bytes, registry)?;
@@ -101,7 +101,7 @@ pub fn document<R: Wait>(rt: &R, alloc: Global, global: &GlobalRegistry) -> Resu
         rt,
         global,
         |registry: &Registry| -> Result<Vec<u8>, EncodeError>
-            requires { HasBook registry.now }
+            requires { HasHistory registry.now }
         { document_of(alloc, registry) },
     )?;
     match String::from_utf8(bytes) {

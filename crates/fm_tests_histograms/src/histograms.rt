@@ -1,7 +1,7 @@
 //! Histograms from the calls to the document: bounds, reserved labels, and buckets of a user's own.
 ghost use Rattle.std.specs.Prelude.{◌≡◌, [], ◌∷◌, None, pos};
 ghost use Rattle.fastmetrics.specs.Points.{HistogramPoint};
-ghost use Rattle.fm_registry.specs.HasBook.{HasBook};
+ghost use Rattle.fm_registry.specs.HasHistory.{HasHistory};
 
 use crate::own_buckets::OwnBuckets;
 use fastmetrics::encoder::{EncodeMetric, EncodePoint, PointEncoder};
@@ -112,7 +112,7 @@ fn one_value_for_each_bound(rt: HostRuntime) -> Result<(), Fail> {
 
 // Fails where a registry's document is not refused for a reserved label, or where a refusal writes something.
 fn expect_reserved(alloc: Global, registry: &Registry) -> Result<(), Fail>
-    requires { HasBook registry.now }
+    requires { HasHistory registry.now }
 {
     let mut bytes = Vec::new(alloc);
     match encode(alloc, &mut bytes, registry) {

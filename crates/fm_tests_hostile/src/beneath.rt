@@ -1,5 +1,5 @@
 //! Metrics beneath the subsystem `sub`, which has constant labels.
-ghost use Rattle.fm_registry.specs.HasBook.{HasBook};
+ghost use Rattle.fm_registry.specs.HasHistory.{HasHistory};
 
 use fastmetrics::encoder::EncodeMetric;
 use fastmetrics::format::text::{EncodeError, collect, encode};
@@ -49,7 +49,7 @@ pub(crate) fn expect_refused(
     registry: &Registry,
     want: EncodeError,
 ) -> Result<(), Fail>
-    requires { HasBook registry.now }
+    requires { HasHistory registry.now }
 {
     let mut bytes = b"before\n".to_vec(alloc)?;
     let Err(error) = encode(alloc, &mut bytes, registry) else {

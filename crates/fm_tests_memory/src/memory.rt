@@ -3,7 +3,7 @@
 //! `scripts/refuse_allocations.sh` refuses each request of the process in turn. Each story is a pair of tests: one in
 //! which the refused call is made again, and one that fails at the first refusal, so that the script knows when to stop.
 ghost use Rattle.std.specs.Prelude.{IfOk};
-ghost use Rattle.fm_registry.specs.HasBook.{HasBook};
+ghost use Rattle.fm_registry.specs.HasHistory.{HasHistory};
 
 use fastmetrics::encoder::EncodeMetric;
 use fastmetrics::format::text::{EncodeError, Exposition, collect, encode, encode_exposition};
@@ -35,7 +35,7 @@ const ALL: &[u8] =
 
 // The document is this one.
 fn expect_document(alloc: Global, registry: &Registry, document: &str) -> Result<(), Fail>
-    requires { HasBook registry.now }
+    requires { HasHistory registry.now }
 {
     if document_of(alloc, registry)?.as_str() == document {
         return Ok(());
@@ -49,7 +49,7 @@ fn patient_root(
     patience: &mut Patience,
     pairs: &[(&str, &str)],
 ) -> Result<Registry, Fail>
-    ensures { IfOk result HasBook }
+    ensures { IfOk result HasHistory }
 {
     let namespace = match String::from_str(alloc, "myapp") {
         Ok(namespace) => namespace,
@@ -78,8 +78,8 @@ fn register_up(
     registry: &mut Registry,
     metric: Box<dyn EncodeMetric>,
 ) -> Result<(), RegistryError>
-    requires { HasBook registry.old }
-    ensures { HasBook registry.new }
+    requires { HasHistory registry.old }
+    ensures { HasHistory registry.new }
 {
     register_with(alloc, registry, "up", "H", Some(Unit::Bytes), metric)
 }
@@ -107,8 +107,8 @@ fn add_up(
     metric: Box<dyn EncodeMetric>,
     spare: Box<dyn EncodeMetric>,
 ) -> Result<(), Fail>
-    requires { HasBook registry.old }
-    ensures { HasBook registry.new }
+    requires { HasHistory registry.old }
+    ensures { HasHistory registry.new }
 {
     if let Err(RegistryError::Memory) = register_up(alloc, registry, metric) {
         patience.bear()?;
@@ -120,8 +120,8 @@ fn add_up(
 
 // Makes the subsystem `db` with a label. A refused call leaves the document as it was.
 fn add_db(alloc: Global, patience: &mut Patience, registry: &mut Registry) -> Result<(), Fail>
-    requires { HasBook registry.old }
-    ensures { HasBook registry.new }
+    requires { HasHistory registry.old }
+    ensures { HasHistory registry.new }
 {
     if let Err(RegistryError::Memory) = build_below(alloc, registry, "db", &[("k", "v")]) {
         patience.bear()?;
@@ -139,8 +139,8 @@ fn add_size(
     metric: Box<dyn EncodeMetric>,
     spare: Box<dyn EncodeMetric>,
 ) -> Result<(), Fail>
-    requires { HasBook registry.old }
-    ensures { HasBook registry.new }
+    requires { HasHistory registry.old }
+    ensures { HasHistory registry.new }
 {
     if let Err(RegistryError::Memory) = register_below(alloc, registry, "db", "size", metric) {
         patience.bear()?;
@@ -152,7 +152,7 @@ fn add_size(
 
 // A root with a gauge.
 fn with_up(alloc: Global, patience: &mut Patience) -> Result<Registry, Fail>
-    ensures { IfOk result HasBook }
+    ensures { IfOk result HasHistory }
 {
     let mut registry = patient_root(alloc, patience, &[("env", "prod")])?;
     let metric = patient_gauge(alloc, patience, 1)?;
@@ -163,7 +163,7 @@ fn with_up(alloc: Global, patience: &mut Patience) -> Result<Registry, Fail>
 
 // A root with a gauge, and a subsystem with a label and a gauge.
 fn built(alloc: Global, patience: &mut Patience) -> Result<Registry, Fail>
-    ensures { IfOk result HasBook }
+    ensures { IfOk result HasHistory }
 {
     let mut registry = with_up(alloc, patience)?;
     add_db(alloc, patience, &mut registry)?;
@@ -267,7 +267,7 @@ fn collected(
     registry: &Registry,
     patience: &mut Patience,
 ) -> Result<Exposition, Fail>
-    requires { HasBook registry.now }
+    requires { HasHistory registry.now }
 {
     match collect(alloc, registry) {
         Ok(exposition) => Ok(exposition),
@@ -291,8 +291,8 @@ fn run_calls(
     calls: Vec<RegistryCall>,
     spare: Vec<RegistryCall>,
 ) -> Result<Vec<Result<(), RegistryError>>, Fail>
-    requires { HasBook registry.old }
-    ensures { HasBook registry.new }
+    requires { HasHistory registry.old }
+    ensures { HasHistory registry.new }
 {
     if let Ok(answers) = registry.run(alloc, calls) {
         return Ok(answers);

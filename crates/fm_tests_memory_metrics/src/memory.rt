@@ -2,7 +2,7 @@
 //!
 //! `scripts/refuse_allocations.sh` refuses each request of the process in turn. Each story is a pair of tests: one in
 //! which the refused call is made again, and one that fails at the first refusal, so that the script knows when to stop.
-ghost use Rattle.fm_registry.specs.HasBook.{HasBook};
+ghost use Rattle.fm_registry.specs.HasHistory.{HasHistory};
 
 use fastmetrics::encoder::EncodeMetric;
 use fastmetrics::format::text::{EncodeError, encode};
@@ -64,8 +64,8 @@ fn add_m(
     metric: Box<dyn EncodeMetric>,
     spare: Box<dyn EncodeMetric>,
 ) -> Result<(), Fail>
-    requires { HasBook registry.old }
-    ensures { HasBook registry.new }
+    requires { HasHistory registry.old }
+    ensures { HasHistory registry.new }
 {
     if let Err(RegistryError::Memory) = register(alloc, registry, "m", metric) {
         patience.bear()?;

@@ -1,6 +1,6 @@
 //! Registries and calls whose metrics are boxed gauges.
 ghost use Rattle.std.specs.Prelude.{IfOk};
-ghost use Rattle.fm_registry.specs.HasBook.{HasBook};
+ghost use Rattle.fm_registry.specs.HasHistory.{HasHistory};
 
 use fastmetrics::registry::{Registry, RegistryCall};
 use fm_test_support::trees;
@@ -10,7 +10,7 @@ use std::test::Fail;
 
 /// A root with this namespace and these labels.
 pub(crate) fn root(alloc: Global, namespace: &str, pairs: &[(&str, &str)]) -> Result<Registry, Fail>
-    ensures { IfOk result HasBook }
+    ensures { IfOk result HasHistory }
 {
     let namespace = String::from_str(alloc, namespace)?;
     let labels = labels(alloc, pairs)?;

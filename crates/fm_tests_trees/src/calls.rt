@@ -1,6 +1,6 @@
 //! Calls at the registries of a tree, one by one and as one list.
 ghost use Rattle.std.specs.Prelude.{IfOk};
-ghost use Rattle.fm_registry.specs.HasBook.{HasBook};
+ghost use Rattle.fm_registry.specs.HasHistory.{HasHistory};
 
 use crate::boxed::{calls_at, root, six_calls};
 use fastmetrics::registry::{Registry, RegistryCall, RegistryError};
@@ -35,7 +35,7 @@ fn six_calls_as_a_list(rt: HostRuntime) -> Result<(), Fail> {
 
 // A root with the subsystem `db` and a gauge in it, by single calls.
 fn built_one_by_one(alloc: Global) -> Result<Registry, Fail>
-    ensures { IfOk result HasBook }
+    ensures { IfOk result HasHistory }
 {
     let mut registry = root(alloc, "myapp", &[])?;
     build_below(alloc, &mut registry, "db", &[])?;

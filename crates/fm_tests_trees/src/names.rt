@@ -1,6 +1,6 @@
 //! Which names clash in one registry, and what a refused name leaves.
 ghost use Rattle.std.specs.Prelude.{IfOk};
-ghost use Rattle.fm_registry.specs.HasBook.{HasBook};
+ghost use Rattle.fm_registry.specs.HasHistory.{HasHistory};
 
 use crate::boxed::{calls_at, gauge_at};
 use crate::calls::all_refused;
@@ -137,7 +137,7 @@ fn taken_names_in_a_run(rt: HostRuntime) -> Result<(), Fail> {
 
 // A root with the subsystem `db`, and in it the gauge `up`.
 fn root_with_a_lent_subsystem(alloc: Global) -> Result<Registry, Fail>
-    ensures { IfOk result HasBook }
+    ensures { IfOk result HasHistory }
 {
     let mut registry = Registry::default();
     register_below(alloc, &mut registry, "db", "up", gauge(alloc, 1)?)?;
@@ -160,7 +160,7 @@ fn a_taken_name_in_a_lent_subsystem(rt: HostRuntime) -> Result<(), Fail> {
 
 // A root with the gauge `a_b` and the subsystem `a_c`.
 fn root_with_two_names(alloc: Global) -> Result<Registry, Fail>
-    ensures { IfOk result HasBook }
+    ensures { IfOk result HasHistory }
 {
     let mut registry = Registry::default();
     register(alloc, &mut registry, "a_b", gauge(alloc, 1)?)?;

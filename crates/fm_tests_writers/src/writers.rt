@@ -1,6 +1,6 @@
 //! Writers that end at any place of a document: what they have then, and that they are left alone from then on.
 ghost use Rattle.std.specs.Prelude.{IfOk};
-ghost use Rattle.fm_registry.specs.HasBook.{HasBook};
+ghost use Rattle.fm_registry.specs.HasHistory.{HasHistory};
 
 use fastmetrics::encoder::EncodeMetric;
 use fastmetrics::format::text::{EncodeError, collect, encode, encode_exposition};
@@ -98,7 +98,7 @@ fn ends_encoding(
     mut writer: Ending,
     answer: Result<(), EncodeError>,
 ) -> bool
-    requires { HasBook registry.now }
+    requires { HasHistory registry.now }
 {
     let room = writer.room;
     encode(alloc, &mut writer, registry) == answer && writer.has_beginning(document, room)
@@ -112,7 +112,7 @@ fn ends_writing(
     mut writer: Ending,
     answer: Result<(), EncodeError>,
 ) -> bool
-    requires { HasBook registry.now }
+    requires { HasHistory registry.now }
 {
     let room = writer.room;
     match collect(alloc, registry) {
@@ -136,7 +136,7 @@ const WAYS: [(usize, Option<ErrorKind>); 6] = [
 
 // Whether every way to end after this number of bytes ends the writing there.
 fn every_way_ends(alloc: Global, registry: &Registry, document: &str, room: usize) -> bool
-    requires { HasBook registry.now }
+    requires { HasHistory registry.now }
 {
     for (step, end) in WAYS {
         let refusal = match end {
@@ -157,7 +157,7 @@ fn every_way_ends(alloc: Global, registry: &Registry, document: &str, room: usiz
 // The first number of bytes after which a writer's end does not end the writing there. A writer that takes just the document, one
 // byte a call, has all of it, and is not flushed.
 fn first_fault(alloc: Global, registry: &Registry, document: &str) -> Option<usize>
-    requires { HasBook registry.now }
+    requires { HasHistory registry.now }
 {
     for room in 0..document.len() {
         if !every_way_ends(alloc, registry, document, room) {
@@ -193,8 +193,8 @@ fn metric_call<M: Drop>(
 
 // Makes all calls, which are accepted.
 fn filled(alloc: Global, mut registry: Registry, calls: Vec<RegistryCall>) -> Result<Registry, Fail>
-    requires { HasBook registry }
-    ensures { IfOk result HasBook }
+    requires { HasHistory registry }
+    ensures { IfOk result HasHistory }
 {
     let answers = registry.run(alloc, calls)?;
     if answers.iter().any(|answer| answer.is_err()) {
@@ -275,7 +275,7 @@ fn application_calls(alloc: Global) -> Result<Vec<RegistryCall>, AllocError> {
 
 // The root of an application.
 fn application(alloc: Global) -> Result<Registry, Fail>
-    ensures { IfOk result HasBook }
+    ensures { IfOk result HasHistory }
 {
     let env = labels(alloc, &[("env", "prod")])?;
     let namespace = String::from_str(alloc, "myapp")?;

@@ -1,7 +1,7 @@
 //! The registry that a whole program shares: it is set, a counter is registered in it, and its document is written.
 #![tactic(auto)]
 
-ghost use Rattle.fastmetrics.specs.HasBook.{HasBook};
+ghost use Rattle.fastmetrics.specs.HasHistory.{HasHistory};
 
 use fastmetrics::encoder::EncodeMetric;
 use fastmetrics::format::text::{EncodeError, encode};
@@ -20,7 +20,7 @@ fn body<R: Wait>(rt: &R, alloc: Global, global: &GlobalRegistry) -> Result<Vec<u
         rt,
         global,
         |registry: &Registry| -> Result<Vec<u8>, EncodeError>
-            requires { HasBook registry.now }
+            requires { HasHistory registry.now }
         {
             let mut body = Vec::new(alloc);
             encode(alloc, &mut body, registry)?;

@@ -3,7 +3,7 @@
 //! `scripts/refuse_allocations.sh` refuses each request of the process in turn. Each story is a pair of tests: one in
 //! which the refused call is made again, and one that fails at the first refusal, so that the script knows when to stop.
 ghost use Rattle.std.specs.Prelude.{IfOk};
-ghost use Rattle.fastmetrics.specs.HasBook.{HasBook};
+ghost use Rattle.fastmetrics.specs.HasHistory.{HasHistory};
 
 use super::scenes::{filled, states_calls, tally_calls};
 use super::{APPLICATION, JOBS, NUMBERS, TASK};
@@ -76,7 +76,7 @@ fn expect_written(writer: &[u8], document: &str) -> Result<(), Fail> {
 
 // Collects a registry.
 fn collected(alloc: Global, refusals: &mut u32, registry: &Registry) -> Result<Exposition, Fail>
-    requires { HasBook registry.now }
+    requires { HasHistory registry.now }
 {
     match collect(alloc, registry) {
         Ok(exposition) => Ok(exposition),
@@ -109,7 +109,7 @@ fn encode_whole(
     registry: &Registry,
     document: &str,
 ) -> Result<(), Fail>
-    requires { HasBook registry.now }
+    requires { HasHistory registry.now }
 {
     let mut writer = roomy_writer(alloc, refusals)?;
     if let Err(error) = encode(alloc, &mut writer, registry) {
@@ -126,7 +126,7 @@ fn expect_document(
     registry: &Registry,
     document: &str,
 ) -> Result<(), Fail>
-    requires { HasBook registry.now }
+    requires { HasHistory registry.now }
 {
     let exposition = collected(alloc, refusals, registry)?;
     write_collected(alloc, refusals, &exposition, document)?;
@@ -140,7 +140,7 @@ fn is_exposed(
     made: Result<Registry, Fault>,
     document: &str,
 ) -> Result<bool, Fail>
-    requires { IfOk made (λ registry. HasBook registry) }
+    requires { IfOk made (λ registry. HasHistory registry) }
 {
     match made {
         Ok(registry) => {

@@ -1,6 +1,6 @@
 //! The registry of each scene, filled by the calls that the program makes.
 ghost use Rattle.std.specs.Prelude.{IfOk};
-ghost use Rattle.fastmetrics.specs.HasBook.{HasBook};
+ghost use Rattle.fastmetrics.specs.HasHistory.{HasHistory};
 
 use crate::calls::{all_accepted, one_metric};
 use crate::output::Fault;
@@ -32,7 +32,7 @@ pub(super) fn filled(
     root: Result<RegistryBuilder, Fault>,
     calls: Result<Vec<RegistryCall>, Fault>,
 ) -> Result<Registry, Fault>
-    ensures { IfOk result HasBook }
+    ensures { IfOk result HasHistory }
 {
     let (root, calls) = (root?, calls?);
     let mut registry = root.build().map_err(Fault::of_registry)?;

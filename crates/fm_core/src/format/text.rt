@@ -9,7 +9,7 @@ ghost use Rattle.fm_exposition.specs.Written.{IsWritersFault};
 ghost use Rattle.fm_registry_calls.specs.Listing.{listed_name, order, IsListable};
 ghost use Rattle.fm_registry_calls.specs.Tree.{Shows};
 ghost use Rattle.fm_registry.specs.Seen.{seen_listed};
-ghost use Rattle.fm_registry.specs.HasBook.{HasBook};
+ghost use Rattle.fm_registry.specs.HasHistory.{HasHistory};
 ghost use Rattle.fm_core.specs.Families.{heading_in, AddsFamily, FaultUnder};
 ghost use Rattle.fm_core.specs.Admits.{Admits, AdmitsNext, FaultOf, Fault};
 ghost use Rattle.fm_core.specs.Encoded.{WritesAdmitted, BeginsAdmitted};
@@ -85,8 +85,8 @@ fn encode_listed<'a>(
 /// It stops at the first error: `Memory` if memory runs out, or a refusal of an encoder, even if the metric ignores it. It may
 /// wait if a metric waits for a lock.
 pub fn collect(alloc: Global, registry: &Registry) -> Result<Exposition, EncodeError>
-    requires { HasBook registry.now }
-    // Every book that the registry reads admits the exposition.
+    requires { HasHistory registry.now }
+    // Every history that the registry reads admits the exposition.
     ensures admitted { IfOk result (λ e. (b : _) → Shows registry.now b
         → Admits (λ m. offers m) (λ m. stamps m) (λ m. may_be_empty m) (order b) e) }
     // A refusal names a fault that the tree has.
@@ -115,8 +115,8 @@ pub fn encode<W: Write>(
     writer: &mut W,
     registry: &Registry,
 ) -> Result<(), EncodeError>
-    requires { HasBook registry.now }
-    // The document, and nothing else, of an exposition that every book of the registry admits, and of no other exposition.
+    requires { HasHistory registry.now }
+    // The document, and nothing else, of an exposition that every history of the registry admits, and of no other exposition.
     ensures document { OnOk result (WritesAdmitted
         (λ e. (b : _) → Shows registry.now b
         → Admits (λ m. offers m) (λ m. stamps m) (λ m. may_be_empty m) (order b) e)

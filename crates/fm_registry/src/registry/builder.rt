@@ -6,7 +6,7 @@ ghost use Rattle.fm_exposition.specs.Samples.{labels_of};
 ghost use Rattle.fm_registry_calls.specs.Answer.{refusal_of, namespace_refusal, root_labels_refusal};
 ghost use Rattle.fm_registry.specs.View.{seen_labels};
 ghost use Rattle.fm_registry.specs.inside.RootLabels.{takes_namespace, takes_labels};
-ghost use Rattle.fm_registry.specs.HasBook.{IsNewRoot};
+ghost use Rattle.fm_registry.specs.HasHistory.{IsNewRoot};
 
 use super::Registry;
 use crate::labels::tested_root_labels;

@@ -7,14 +7,14 @@ ghost use Rattle.indexmap.specs.IndexMap.{get};
 ghost use Rattle.fm_registry_calls.specs.Registration.{is_same_metric, takes_no_unit as has_no_unit};
 ghost use Rattle.fm_registry_calls.specs.Answer.{refusal_of, has_metric, metric_refusal, IsAnswered, answer, after};
 ghost use Rattle.fm_registry_calls.specs.inside.Refusals.{name_refusal, standing_refusal};
-ghost use Rattle.fm_registry_calls.specs.Book.{Register};
+ghost use Rattle.fm_registry_calls.specs.History.{Register};
 ghost use Rattle.fm_registry_calls.specs.Tree.{Reads, names_in};
 ghost use Rattle.fm_registry_calls.specs.inside.Forests.{with_metric};
 ghost use Rattle.fm_registry.specs.inside.Names.{refusal_beside};
 ghost use Rattle.fm_registry.specs.contracts.names.TailedPartialEq.TheImpl.{ghosts as tailed};
 ghost use Rattle.fm_registry.specs.View.{seen_metric, asked, asked_metric};
 ghost use Rattle.fm_registry.specs.inside.TreeView.{metrics_in, seen_metrics};
-ghost use Rattle.fm_registry.specs.HasBook.{HasBook, Grows};
+ghost use Rattle.fm_registry.specs.HasHistory.{HasHistory, Grows};
 ghost use Rattle.fm_registry.specs.Registers.{Registers};
 
 use super::Registry;
@@ -198,7 +198,7 @@ impl<M: Drop> Registry<M> {
             (after b (Register [] (seen_metric (asked name help metric_type unit) metric)))) }
         ensures err { OnErr result (self.new ≡ self.old) }
         ensures grows { Grows self.old self.new }
-        ensures sound { HasBook self.old → HasBook self.new }
+        ensures sound { HasHistory self.old → HasHistory self.new }
     {
         self.insert_here(alloc, name, help, metric_type, unit, metric)
     }
@@ -227,7 +227,7 @@ impl Registry {
             (asked_metric name help unit metric)
             self.old self.new result }
         ensures grows { Grows self.old self.new }
-        ensures sound { HasBook self.old → HasBook self.new }
+        ensures sound { HasHistory self.old → HasHistory self.new }
     {
         let metric_type = metric.metric_type();
         self.add_metric(alloc, name, help, metric_type, unit, metric)
@@ -246,7 +246,7 @@ impl Registry {
             (asked_metric name help (Some unit) metric)
             self.old self.new result }
         ensures grows { Grows self.old self.new }
-        ensures sound { HasBook self.old → HasBook self.new }
+        ensures sound { HasHistory self.old → HasHistory self.new }
     {
         self.register_metric(alloc, name, help, Some(unit), metric)
     }
@@ -263,7 +263,7 @@ impl Registry {
             (asked_metric name help None metric)
             self.old self.new result }
         ensures grows { Grows self.old self.new }
-        ensures sound { HasBook self.old → HasBook self.new }
+        ensures sound { HasHistory self.old → HasHistory self.new }
     {
         self.register_metric(alloc, name, help, None, metric)
     }

@@ -3,7 +3,7 @@ ghost use Rattle.std.specs.Prelude.{◌≡◌, OnOk, OnErr, IfOk, None, true, []
 ghost use Rattle.std.specs.String.{string_bytes};
 ghost use Rattle.fm_exposition.specs.Samples.{labels_of};
 ghost use Rattle.fm_registry_calls.specs.Answer.{refusal_of, asking_refusal, subsystem_refusal, after, IsAnswered};
-ghost use Rattle.fm_registry_calls.specs.Book.{Subsystem as AskSubsystem};
+ghost use Rattle.fm_registry_calls.specs.History.{Subsystem as AskSubsystem};
 ghost use Rattle.fm_registry_calls.specs.Texts.{has_text};
 ghost use Rattle.fm_registry_calls.specs.Tree.{Reads, names_in};
 ghost use Rattle.fm_registry_calls.specs.Steps.{with_subsystem};
@@ -12,7 +12,7 @@ ghost use Rattle.fm_registry_calls.specs.inside.Paths.{path_of};
 ghost use Rattle.fm_registry.specs.inside.Request.{call_at};
 ghost use Rattle.fm_registry.specs.Calls.{RunsCalls};
 ghost use Rattle.fm_registry.specs.inside.CallSteps.{RunsCall};
-ghost use Rattle.fm_registry.specs.HasBook.{HasBook, Grows};
+ghost use Rattle.fm_registry.specs.HasHistory.{HasHistory, Grows};
 
 use super::Registry;
 use fm_encoder::EncodeMetric;
@@ -80,7 +80,7 @@ impl<M: Drop> Registry<M> {
         }
     }
 
-    // The same, stated for every book that the tree reads.
+    // The same, stated for every history that the tree reads.
     fn ask_subsystem(
         &mut self,
         alloc: Global,
@@ -197,7 +197,7 @@ impl Registry {
         ensures answer { IsAnswered (refusal_of result) None }
         ensures err { OnErr result (self.new ≡ self.old) }
         ensures grows { Grows self.old self.new }
-        ensures sound { HasBook self.old → HasBook self.new }
+        ensures sound { HasHistory self.old → HasHistory self.new }
     {
         let Ok(mut replies) = Vec::with_capacity(alloc, calls.len()) else {
             return Err(RegistryError::Memory);

@@ -4,13 +4,13 @@ ghost use Rattle.std.specs.Borrow.{sem};
 ghost use Rattle.std.specs.String.{string_bytes};
 ghost use Rattle.fm_exposition.specs.Samples.{labels_of};
 ghost use Rattle.fm_registry_calls.specs.Answer.{refusal_of, name_or_depth_refusal, asking_refusal, subsystem_refusal, first_bad_label, after, IsAnswered};
-ghost use Rattle.fm_registry_calls.specs.Book.{Subsystem as AskSubsystem};
+ghost use Rattle.fm_registry_calls.specs.History.{Subsystem as AskSubsystem};
 ghost use Rattle.fm_registry_calls.specs.Texts.{has_text};
 ghost use Rattle.fm_registry_calls.specs.Tree.{Reads, names_in};
 ghost use Rattle.fm_registry_calls.specs.Steps.{with_subsystem};
 ghost use Rattle.fm_registry_calls.specs.Loan.{LoanReads};
 ghost use Rattle.fm_registry.specs.Building.{rests_if_refused, builder_rests, lends_built};
-ghost use Rattle.fm_registry.specs.HasBook.{HasBook};
+ghost use Rattle.fm_registry.specs.HasHistory.{HasHistory};
 
 use super::subsystems::DEPTH_LIMIT;
 use super::{Registry, Subsystem};
@@ -139,7 +139,7 @@ impl<'a, M: Drop> RegistrySubsystemBuilder<'a, M> {
             (after b
             (AskSubsystem [] (string_bytes self.entry.name) (labels_of self.entry.labels.items)))) }
         ensures sound { IfOk result
-            (λ s. HasBook self.entry.registry.now → HasBook s.now.registry) }
+            (λ s. HasHistory self.entry.registry.now → HasHistory s.now.registry) }
     {
         let RegistrySubsystemBuilder {
             registry,

@@ -6,7 +6,7 @@ ghost use Rattle.std.specs.Str.{bytes_eq};
 ghost use Rattle.std.specs.String.{string_bytes};
 ghost use Rattle.fm_exposition.specs.Samples.{labels_of};
 ghost use Rattle.fm_registry_calls.specs.Answer.{refusal_of, new_name_refusal, child_refusal, asking_refusal, subsystem_refusal, after, IsAnswered};
-ghost use Rattle.fm_registry_calls.specs.Book.{Subsystem as AskSubsystem};
+ghost use Rattle.fm_registry_calls.specs.History.{Subsystem as AskSubsystem};
 ghost use Rattle.fm_registry_calls.specs.Taken.{is_below as below_test, is_child_taken, tails_of};
 ghost use Rattle.fm_registry_calls.specs.Texts.{has_text};
 ghost use Rattle.fm_registry_calls.specs.Tree.{Reads, names_in};
@@ -17,7 +17,7 @@ ghost use Rattle.fm_registry.specs.inside.TreeView.{forest_of, seen_metrics};
 ghost use Rattle.fm_registry.specs.Lists.{items_of};
 ghost use Rattle.fm_registry.specs.Lends.{lends_registry, lends_subsystem};
 ghost use Rattle.fm_registry.specs.inside.LendsParts.{lends_subsystems, lends_nth};
-ghost use Rattle.fm_registry.specs.HasBook.{HasBook};
+ghost use Rattle.fm_registry.specs.HasHistory.{HasHistory};
 
 use super::{Registry, Subsystem};
 use crate::labels::{merged_labels, subsystem_namespace, tested_labels};
@@ -290,7 +290,7 @@ impl<M: Drop> Registry<M> {
             → LoanReads (with_subsystem self.old (string_bytes name) (labels_of labels.items))
             (string_bytes name) s.now.registry
             (after b (AskSubsystem [] (string_bytes name) (labels_of labels.items)))) }
-        ensures sound { IfOk result (λ s. HasBook self.old → HasBook s.now.registry) }
+        ensures sound { IfOk result (λ s. HasHistory self.old → HasHistory s.now.registry) }
     {
         let place = self.add_subsystem(alloc, name, labels)?;
         Ok(self.subsystem_at(place))
@@ -323,7 +323,7 @@ impl<M: Drop> Registry<M> {
             → LoanReads (with_subsystem self.old (string_bytes name) [])
             (string_bytes name) s.now.registry
             (after b (AskSubsystem [] (string_bytes name) []))) }
-        ensures sound { IfOk result (λ s. HasBook self.old → HasBook s.now.registry) }
+        ensures sound { IfOk result (λ s. HasHistory self.old → HasHistory s.now.registry) }
     {
         self.labelled_subsystem(alloc, name, Vec::new(alloc))
     }

@@ -1,6 +1,6 @@
 use Rattle.std.proofs.Common.{◌∙◌, refl, subst, sym}
 use Rattle.std.specs.String.{string_bytes}
-use Rattle.fm_registry.specs.HasBook.{HasBook}
+use Rattle.fm_registry.specs.HasHistory.{HasHistory}
 use Rattle.fm_registry.proofs.GrowthLemmas.{Grows-sound, Grows-same, Grows-lent}
 use Rattle.calling.proofs.registries.make_engine.Goals as goal
 
@@ -13,4 +13,4 @@ returns g c =
     Grows-sound builder.registry.now _
     (Grows-lent builder.registry.now (string_bytes builder.name) _ lent.registry lent.registry _ (string_bytes lent.name)
     c.in_ok-build.ensures.reads c.in_ok-build.ensures.name ends (Grows-same lent.registry lent.registry refl))
-    (subst HasBook (sym same) c.requires)
+    (subst HasHistory (sym same) c.requires)

@@ -1,7 +1,7 @@
 use Rattle.std.proofs.Common.{◌∙◌, refl, subst, sym}
 use Rattle.std.specs.String.{string_bytes}
 use Rattle.fm_exposition.specs.Samples.{labels_of}
-use Rattle.fm_registry.specs.HasBook.{HasBook}
+use Rattle.fm_registry.specs.HasHistory.{HasHistory}
 use Rattle.fm_registry.proofs.GrowthLemmas.{Grows-sound, Grows-same, Grows-lent}
 use Rattle.fm_test_support.proofs.trees.build_below.Goals as goal
 
@@ -14,4 +14,4 @@ returns g c =
     Grows-sound builder.registry.now _
     (Grows-lent builder.registry.now (string_bytes builder.name) (labels_of builder.labels.items) lent.registry lent.registry _ (string_bytes lent.name)
     c.in_ok-build.ensures.reads c.in_ok-build.ensures.name ends (Grows-same lent.registry lent.registry refl))
-    (subst HasBook (sym same) c.requires)
+    (subst HasHistory (sym same) c.requires)

@@ -13,13 +13,13 @@ encode_listed-requires-clause-listable g c =
     let within : c.loop-listed.listed-index < length c.deref-listed-items.result.now = omega arith in
     let whole = ap seen_list c.deref-listed-items.ensures.value ∙ c.in-Ok.ensures.tree in
     IsListable-at c.deref-listed-items.result.now c.loop-listed.listed-index c.listed-item.result within c.listed-item.is
-    (subst (λ (ls : List (Listed _)). AllByRecursion IsListable ls) (sym whole) (listed_tree-fits c.args.registry.now c.requires.book c.requires.reads))
+    (subst (λ (ls : List (Listed _)). AllByRecursion IsListable ls) (sym whole) (listed_tree-fits c.args.registry.now c.requires.history c.requires.reads))
 
 pub encode_listed-requires-clause-new_name : goal.encode_listed-requires-clause-new_name
 encode_listed-requires-clause-new_name g c =
     let within : c.loop-listed.listed-index < length c.deref-listed-items.result.now = omega arith in
     next_new _ _ _ c.deref-listed-items.result.now c.loop-listed.listed-index c.listed-item.result c.loop-listed.encoder.families within c.listed-item.is
-    (names_differ c.args.registry.now c.requires.book (seen_list c.deref-listed-items.result.now) c.requires.reads (ap seen_list c.deref-listed-items.ensures.value ∙ c.in-Ok.ensures.book c.requires c.requires.book c.requires.reads.shows))
+    (names_differ c.args.registry.now c.requires.history (seen_list c.deref-listed-items.result.now) c.requires.reads (ap seen_list c.deref-listed-items.ensures.value ∙ c.in-Ok.ensures.history c.requires c.requires.history c.requires.reads.shows))
     c.loop-listed.invariant.admitted
 
 pub loop-listed-preserved : goal.loop-listed-preserved
@@ -39,7 +39,7 @@ returns-in_err-encode_listed-clause-fault g c =
     let k = c.in_err-encode_listed.field-0.0 in
     rw (exit.1, exit.2) (elim refusal [
       | inl memory ↦ inl memory
-      | inr fault ↦ inr (λ b shows. subst (λ ls. Fault k (λ m. (goal.EncodeMetric-dyn g (m.vtable, m.value)).offers m.value) (λ m. (goal.EncodeMetric-dyn g (m.vtable, m.value)).stamps m.value) (λ m. (goal.EncodeMetric-dyn g (m.vtable, m.value)).may_fault m.value) ls) (ap seen_list c.deref-listed-items.ensures.value ∙ c.in-Ok.ensures.book c.requires b shows)
+      | inr fault ↦ inr (λ b shows. subst (λ ls. Fault k (λ m. (goal.EncodeMetric-dyn g (m.vtable, m.value)).offers m.value) (λ m. (goal.EncodeMetric-dyn g (m.vtable, m.value)).stamps m.value) (λ m. (goal.EncodeMetric-dyn g (m.vtable, m.value)).may_fault m.value) ls) (ap seen_list c.deref-listed-items.ensures.value ∙ c.in-Ok.ensures.history c.requires b shows)
           (Fault-at k (λ m. (goal.EncodeMetric-dyn g (m.vtable, m.value)).offers m.value) (λ m. (goal.EncodeMetric-dyn g (m.vtable, m.value)).stamps m.value) (λ m. (goal.EncodeMetric-dyn g (m.vtable, m.value)).may_fault m.value) c.deref-listed-items.result.now c.loop-listed.listed-index c.listed-item.result within c.listed-item.is fault))
     ])
 

@@ -1,5 +1,5 @@
 use Rattle.std.proofs.Common.{[]}
-use Rattle.fm_registry_calls.specs.Book.{Register}
+use Rattle.fm_registry_calls.specs.History.{Register}
 use Rattle.fm_registry_calls.proofs.CallLemmas.{register-reads}
 use Rattle.fm_registry.specs.View.{asked_metric}
 use Rattle.fm_registry.proofs.GrowthLemmas.{Grows-answered, Grows-sound}

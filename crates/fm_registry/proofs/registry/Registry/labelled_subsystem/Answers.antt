@@ -33,6 +33,6 @@ returns g c =
             let both : Some (string_bytes c.subsystem_at.result.now.name) ≡ Some (string_bytes c.args.name) = sym c.subsystem_at.ensures.name ∙ place.name in
             some_same _ _ both;
         reads = reads;
-        sound = λ sound. LoanReads-sound _ _ _ _ (reads sound.book sound.reads);
+        sound = λ sound. LoanReads-sound _ _ _ _ (reads sound.history sound.reads);
       },
     )

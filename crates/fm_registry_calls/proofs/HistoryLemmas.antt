@@ -1,8 +1,8 @@
--- The book of a subsystem, against the book of the registry above it.
+-- The history of a subsystem, against the history of the registry above it.
 use Rattle.std.proofs.Common.{◌≡◌, true, false, ◌&&◌, List, [], ◌∷◌, ◌++◌, Some, if◌then◌else◌, refl, sym, ap, ◌∙◌, append_assoc}
 use Rattle.std.specs.Str.{bytes_eq}
 use Rattle.fm_registry_calls.specs.Texts.{Text, Path, Labels, path_eq, has_text, merge_labels}
-use Rattle.fm_registry_calls.specs.Book.{Call, Subsystem, Register, Book, metrics_at, children_at, labels_given, labels_along, labels_at, missing_along, calls_below, book_below}
+use Rattle.fm_registry_calls.specs.History.{Call, Subsystem, Register, History, metrics_at, children_at, labels_given, labels_along, labels_at, missing_along, calls_below, history_below}
 
 module _ {M : Type 0} where
   -- what a path below a subsystem shows is what the calls below it show
@@ -45,8 +45,8 @@ module _ {M : Type 0} where
       ap (λ ms. if has_text ms m then missing_along calls (n ∷ (q ++ m ∷ [])) p else Some m) (children_at-calls_below calls n q)
       ∙ ap (λ o. if has_text (children_at (calls_below calls n) q) m then o else Some m) (missing_along-calls_below calls n (q ++ m ∷ []) p)
 
-  pub labels_at-book_below : (b : Book M) (n : Text) (p : Path) → labels_at b (n ∷ p) ≡ labels_at (book_below b n) p
-  labels_at-book_below b n p = labels_along-calls_below b.calls n (merge_labels b.labels (labels_given b.calls [] n)) [] p
+  pub labels_at-history_below : (b : History M) (n : Text) (p : Path) → labels_at b (n ∷ p) ≡ labels_at (history_below b n) p
+  labels_at-history_below b n p = labels_along-calls_below b.calls n (merge_labels b.labels (labels_given b.calls [] n)) [] p
 
   -- lists of calls, one after the other
   pub metrics_at-++ : (xs ys : List (Call M)) (p : Path) → metrics_at (xs ++ ys) p ≡ metrics_at xs p ++ metrics_at ys p

@@ -1,4 +1,4 @@
--- A book: a root, and the flat list of the calls that were accepted.
+-- A history: a root, and the flat list of the calls that were accepted.
 use Rattle.std.specs.Prelude.{ℕ, ◌+◌, ◌&&◌, List, [], ◌∷◌, ◌++◌, fold, Option, None, Some, if◌then◌else◌}
 use Rattle.std.specs.Str.{bytes_eq}
 use Rattle.fm_registry_calls.specs.Texts.{Text, Path, Labels, path_eq, has_text, merge_labels, join_name}
@@ -10,16 +10,16 @@ pub data Call (M : Type 0) : Type 0 where
   Register : Path → Registration M → Call M
 
 -- what the root was made with, how many registries are above it, and the calls
-pub record Book (M : Type 0) : Type 0 where
+pub record History (M : Type 0) : Type 0 where
   pub namespace : Option Text
   pub labels : Labels
   pub depth : ℕ
   pub calls : List (Call M)
 
 module _ {M : Type 0} where
-  -- the book of a new root
-  abbrev pub root_book : Option Text → Labels → Book M
-  root_book namespace labels = record { namespace = namespace; labels = labels; depth = 0; calls = [] }
+  -- the history of a new root
+  abbrev pub root_history : Option Text → Labels → History M
+  root_history namespace labels = record { namespace = namespace; labels = labels; depth = 0; calls = [] }
 
   -- the metrics registered at a path, in order
   abbrev pub metrics_at : List (Call M) → Path → List (Registration M)
@@ -47,11 +47,11 @@ module _ {M : Type 0} where
   labels_along calls labels place (name ∷ path) = labels_along calls (merge_labels labels (labels_given calls place name)) (place ++ name ∷ []) path
 
   -- the labels of the registry at a path
-  abbrev pub labels_at : Book M → Path → Labels
+  abbrev pub labels_at : History M → Path → Labels
   labels_at b path = labels_along b.calls b.labels [] path
 
   -- the root's namespace and the names of the path, joined by underscores
-  abbrev pub namespace_at : Book M → Path → Option Text
+  abbrev pub namespace_at : History M → Path → Option Text
   namespace_at b path = fold join_name b.namespace path
 
   -- the first name of a path from a registry that is not that of a subsystem
@@ -59,8 +59,8 @@ module _ {M : Type 0} where
   missing_along calls place [] = None
   missing_along calls place (name ∷ path) = if has_text (children_at calls place) name then missing_along calls (place ++ name ∷ []) path else Some name
 
-  -- the book with more calls at its end
-  abbrev pub with_more : Book M → List (Call M) → Book M
+  -- the history with more calls at its end
+  abbrev pub with_more : History M → List (Call M) → History M
   with_more b more = record b { calls = b.calls ++ more }
 
   -- a call, as the registry above the subsystem with this name sees it
@@ -78,9 +78,9 @@ module _ {M : Type 0} where
   calls_below (Register (front ∷ place) registration ∷ calls) name =
       if bytes_eq front name then Register place registration ∷ calls_below calls name else calls_below calls name
 
-  -- the book of a subsystem of the root: its namespace, labels and depth, and the calls below it
-  abbrev pub book_below : Book M → Text → Book M
-  book_below b name = record {
+  -- the history of a subsystem of the root: its namespace, labels and depth, and the calls below it
+  abbrev pub history_below : History M → Text → History M
+  history_below b name = record {
     namespace = join_name b.namespace name;
     labels = merge_labels b.labels (labels_given b.calls [] name);
     depth = b.depth + 1;
