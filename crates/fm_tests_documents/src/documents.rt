@@ -1,11 +1,14 @@
 //! Documents of counters, from a registration to the text, and of a name that is given twice.
+ghost use Rattle.std.specs.Prelude.{IfOk};
+ghost use Rattle.fastmetrics.specs.HasHistory.{HasHistory};
 
+use fastmetrics::encoder::EncodeMetric;
 use fastmetrics::metrics::counter::ConstCounter;
 use fastmetrics::metrics::tally::{Book, TallyError};
 use fastmetrics::raw::Unit;
 use fastmetrics::registry::Registry;
 use fm_test_support::support::{expect_document, expect_document_of};
-use fm_test_support::trees::{expect_refused, gauge, register, register_with};
+use fm_test_support::trees::{expect_refused, gauge, register_with};
 use own_metric::{Queue, Waiting};
 use std::alloc::{AllocError, Global};
 use std::test::Fail;
@@ -88,28 +91,55 @@ fn names_and_helps(rt: HostRuntime) -> Result<(), Fail> {
     Ok(())
 }
 
+// A registry with this metric.
+fn registered(
+    alloc: Global,
+    name: &str,
+    help: &str,
+    unit: Option<Unit>,
+    metric: Box<dyn EncodeMetric>,
+) -> Result<Registry, Fail>
+    ensures { IfOk result HasHistory }
+{
+    let mut registry = Registry::default();
+    register_with(alloc, &mut registry, name, help, unit, metric)?;
+    Ok(registry)
+}
+
+// Fails if the registry takes a second metric of this name, or refuses it by another error than that with this number, which names
+// it, or if its document then isn't this one.
+fn expect_second_refused(
+    alloc: Global,
+    mut registry: Registry,
+    name: &str,
+    unit: Option<Unit>,
+    metric: Box<dyn EncodeMetric>,
+    number: u8,
+    want: &str,
+) -> Result<(), Fail>
+    requires { HasHistory registry }
+{
+    let again = register_with(alloc, &mut registry, name, "second", unit, metric);
+    expect_refused(again, number, name)?;
+    expect_document_of(alloc, &registry, want)
+}
+
 #[test]
 fn repeated_registration(rt: HostRuntime) -> Result<(), Fail> {
     let alloc = rt.alloc();
     let (first, second) = (counter(alloc, 1)?, counter(alloc, 2)?);
-    let mut registry = Registry::default();
-    register_with(alloc, &mut registry, "a", "first", None, first)?;
-    let again = register_with(alloc, &mut registry, "a", "second", None, second);
-    expect_refused(again, 4, "a")?;
+    let registry = registered(alloc, "a", "first", None, first)?;
     let want = "# TYPE a counter\n# HELP a first\na_total 1\n# EOF\n";
-    expect_document_of(alloc, &registry, want)
+    expect_second_refused(alloc, registry, "a", None, second, 4, want)
 }
 
 #[test]
 fn one_name_of_two_types(rt: HostRuntime) -> Result<(), Fail> {
     let alloc = rt.alloc();
     let (first, second) = (counter(alloc, 1)?, gauge(alloc, 3)?);
-    let mut registry = Registry::default();
-    register(alloc, &mut registry, "a", first)?;
-    let again = register(alloc, &mut registry, "a", second);
-    expect_refused(again, 12, "a")?;
+    let registry = registered(alloc, "a", "H", None, first)?;
     let want = "# TYPE a counter\n# HELP a H\na_total 1\n# EOF\n";
-    expect_document_of(alloc, &registry, want)
+    expect_second_refused(alloc, registry, "a", None, second, 12, want)
 }
 
 #[test]
@@ -117,13 +147,10 @@ fn one_name_with_two_units(rt: HostRuntime) -> Result<(), Fail> {
     let alloc = rt.alloc();
     let own = Unit::from(String::from_str(alloc, "seconds")?);
     let (first, second) = (gauge(alloc, 1)?, gauge(alloc, 2)?);
-    let mut registry = Registry::default();
-    register_with(alloc, &mut registry, "g", "H", Some(Unit::Seconds), first)?;
-    let again = register_with(alloc, &mut registry, "g", "H", Some(own), second);
-    expect_refused(again, 12, "g")?;
+    let registry = registered(alloc, "g", "H", Some(Unit::Seconds), first)?;
     let want =
         "# TYPE g_seconds gauge\n# HELP g_seconds H\n# UNIT g_seconds seconds\ng_seconds 1\n# EOF\n";
-    expect_document_of(alloc, &registry, want)
+    expect_second_refused(alloc, registry, "g", Some(own), second, 12, want)
 }
 
 #[test]
