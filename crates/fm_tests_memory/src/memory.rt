@@ -43,7 +43,41 @@ fn expect_document(alloc: Global, registry: &Registry, document: &str) -> Result
     Err(Fail::new("a refusal changed the tree"))
 }
 
-// A root with the namespace `myapp` and these labels. The builder takes no memory.
+fn patient_namespace(alloc: Global, patience: &mut Patience) -> Result<String, Fail> {
+    match String::from_str(alloc, "myapp") {
+        Ok(namespace) => Ok(namespace),
+        Err(_) => {
+            patience.bear()?;
+            Ok(String::from_str(alloc, "myapp")?)
+        }
+    }
+}
+
+fn patient_labels(
+    alloc: Global,
+    patience: &mut Patience,
+    pairs: &[(&str, &str)],
+) -> Result<Vec<(String, String)>, Fail> {
+    match labels(alloc, pairs) {
+        Ok(labels) => Ok(labels),
+        Err(_) => {
+            patience.bear()?;
+            Ok(labels(alloc, pairs)?)
+        }
+    }
+}
+
+// A root with this namespace and these labels. The builder takes no memory.
+fn root_with(namespace: String, labels: Vec<(String, String)>) -> Result<Registry, RegistryError>
+    ensures { IfOk result HasHistory }
+{
+    Registry::builder()
+        .with_namespace(namespace)?
+        .with_const_labels(labels)?
+        .build()
+}
+
+// A root with the namespace `myapp` and these labels.
 fn patient_root(
     alloc: Global,
     patience: &mut Patience,
@@ -51,25 +85,9 @@ fn patient_root(
 ) -> Result<Registry, Fail>
     ensures { IfOk result HasHistory }
 {
-    let namespace = match String::from_str(alloc, "myapp") {
-        Ok(namespace) => namespace,
-        Err(_) => {
-            patience.bear()?;
-            String::from_str(alloc, "myapp")?
-        }
-    };
-    let labels = match labels(alloc, pairs) {
-        Ok(labels) => labels,
-        Err(_) => {
-            patience.bear()?;
-            labels(alloc, pairs)?
-        }
-    };
-    let registry = Registry::builder()
-        .with_namespace(namespace)?
-        .with_const_labels(labels)?
-        .build()?;
-    Ok(registry)
+    let namespace = patient_namespace(alloc, patience)?;
+    let labels = patient_labels(alloc, patience, pairs)?;
+    Ok(root_with(namespace, labels)?)
 }
 
 // What registering a metric as `up`, in bytes, returns.
@@ -99,6 +117,11 @@ fn patient_gauge(
     }
 }
 
+// Whether a call found no memory.
+fn found_no_memory(answer: Result<(), RegistryError>) -> bool {
+    matches!(answer, Err(RegistryError::Memory))
+}
+
 // Registers the gauge `up`. A refused call leaves the document as it was.
 fn add_up(
     alloc: Global,
@@ -110,7 +133,7 @@ fn add_up(
     requires { HasHistory registry.old }
     ensures { HasHistory registry.new }
 {
-    if let Err(RegistryError::Memory) = register_up(alloc, registry, metric) {
+    if found_no_memory(register_up(alloc, registry, metric)) {
         patience.bear()?;
         expect_document(alloc, registry, NOTHING)?;
         register_up(alloc, registry, spare)?;
@@ -123,7 +146,7 @@ fn add_db(alloc: Global, patience: &mut Patience, registry: &mut Registry) -> Re
     requires { HasHistory registry.old }
     ensures { HasHistory registry.new }
 {
-    if let Err(RegistryError::Memory) = build_below(alloc, registry, "db", &[("k", "v")]) {
+    if found_no_memory(build_below(alloc, registry, "db", &[("k", "v")])) {
         patience.bear()?;
         expect_document(alloc, registry, GAUGE)?;
         build_below(alloc, registry, "db", &[("k", "v")])?;
@@ -142,7 +165,7 @@ fn add_size(
     requires { HasHistory registry.old }
     ensures { HasHistory registry.new }
 {
-    if let Err(RegistryError::Memory) = register_below(alloc, registry, "db", "size", metric) {
+    if found_no_memory(register_below(alloc, registry, "db", "size", metric)) {
         patience.bear()?;
         expect_document(alloc, registry, GAUGE)?;
         register_below(alloc, registry, "db", "size", spare)?;
@@ -190,22 +213,57 @@ fn roomy_writer(alloc: Global, patience: &mut Patience) -> Result<Vec<u8>, Fail>
     }
 }
 
+// Fails if these bytes are not the wanted ones.
+fn expect_bytes(bytes: &[u8], want: &[u8]) -> Result<(), Fail> {
+    if bytes == want {
+        return Ok(());
+    }
+    Err(Fail::new("another document"))
+}
+
+// Encodes after the line `before`. A refused call writes nothing.
+fn encode_patiently(
+    alloc: Global,
+    patience: &mut Patience,
+    writer: &mut Vec<u8>,
+    registry: &Registry,
+) -> Result<(), Fail>
+    requires { HasHistory registry.now }
+{
+    if let Err(error) = encode(alloc, writer, registry) {
+        patience.bear()?;
+        if error != EncodeError::Memory || writer.as_slice() != BEFORE {
+            return Err(Fail::new("want of memory wrote something"));
+        }
+        encode(alloc, writer, registry)?;
+    }
+    Ok(())
+}
+
+// Writes an exposition after the line `before`. A refused call writes nothing.
+fn write_patiently(
+    alloc: Global,
+    patience: &mut Patience,
+    writer: &mut Vec<u8>,
+    exposition: &Exposition,
+) -> Result<(), Fail> {
+    if let Err(error) = encode_exposition(alloc, writer, exposition) {
+        patience.bear()?;
+        if error != EncodeError::Memory || writer.as_slice() != BEFORE {
+            return Err(Fail::new("want of memory wrote something"));
+        }
+        encode_exposition(alloc, writer, exposition)?;
+    }
+    Ok(())
+}
+
 // Builds a tree and encodes it.
 fn build_and_encode(alloc: Global, refusals: u32) -> Result<(), Fail> {
     let mut patience = Patience::new(refusals);
     let registry = built(alloc, &mut patience)?;
     let mut writer = roomy_writer(alloc, &mut patience)?;
-    if let Err(error) = encode(alloc, &mut writer, &registry) {
-        patience.bear()?;
-        if error != EncodeError::Memory || writer.as_slice() != BEFORE {
-            return Err(Fail::new("want of memory wrote something"));
-        }
-        encode(alloc, &mut writer, &registry)?;
-    }
-    if writer.as_slice() != ALL {
-        return Err(Fail::new("another document"));
-    }
-    Ok(())
+    encode_patiently(alloc, &mut patience, &mut writer, &registry)?;
+    expect_bytes(writer.as_slice(), ALL)
 }
 
 #[test]
@@ -313,17 +371,8 @@ fn run_and_write(alloc: Global, refusals: u32) -> Result<(), Fail> {
     let document = document_after(&answers, &mut patience)?;
     let exposition = collected(alloc, &registry, &mut patience)?;
     let mut writer = roomy_writer(alloc, &mut patience)?;
-    if let Err(error) = encode_exposition(alloc, &mut writer, &exposition) {
-        patience.bear()?;
-        if error != EncodeError::Memory || writer.as_slice() != BEFORE {
-            return Err(Fail::new("want of memory wrote something"));
-        }
-        encode_exposition(alloc, &mut writer, &exposition)?;
-    }
-    if writer.as_slice() != document {
-        return Err(Fail::new("another document"));
-    }
-    Ok(())
+    write_patiently(alloc, &mut patience, &mut writer, &exposition)?;
+    expect_bytes(writer.as_slice(), document)
 }
 
 #[test]

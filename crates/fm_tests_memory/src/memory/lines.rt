@@ -1,8 +1,8 @@
 //! A document of 1,000 sample lines with a common label, for which writing asks for memory twice and no more: once for
 //! the document, and once for the common labels.
 
-use super::{BEFORE, Patience, add_up, collected, patient_root};
-use fastmetrics::format::text::{EncodeError, Exposition, encode_exposition};
+use super::{BEFORE, Patience, add_up, collected, patient_root, write_patiently};
+use fastmetrics::format::text::Exposition;
 use fm_test_support::members::OneMember;
 use fm_test_support::points::Repeated;
 use std::alloc::{AllocError, Global};
@@ -81,13 +81,7 @@ fn print_lines(alloc: Global, refusals: u32) -> Result<(), Fail> {
     let mut patience = Patience::new(refusals);
     let exposition = collected_lines(alloc, &mut patience)?;
     let mut writer = spacious_writer(alloc, &mut patience)?;
-    if let Err(error) = encode_exposition(alloc, &mut writer, &exposition) {
-        patience.bear()?;
-        if error != EncodeError::Memory || writer.as_slice() != BEFORE {
-            return Err(Fail::new("want of memory wrote something"));
-        }
-        encode_exposition(alloc, &mut writer, &exposition)?;
-    }
+    write_patiently(alloc, &mut patience, &mut writer, &exposition)?;
     if !is_document(writer.as_slice()) {
         return Err(Fail::new("another document"));
     }
