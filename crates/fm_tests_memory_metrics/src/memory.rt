@@ -56,6 +56,11 @@ fn roomy(alloc: Global) -> Result<Vec<u8>, AllocError> {
     Ok(writer)
 }
 
+// Whether a call found no memory.
+fn found_no_memory(answer: Result<(), RegistryError>) -> bool {
+    matches!(answer, Err(RegistryError::Memory))
+}
+
 // Registers this metric as `m`, or the spare one where that finds no memory.
 fn add_m(
     alloc: Global,
@@ -67,9 +72,28 @@ fn add_m(
     requires { HasHistory registry.old }
     ensures { HasHistory registry.new }
 {
-    if let Err(RegistryError::Memory) = register(alloc, registry, "m", metric) {
+    if found_no_memory(register(alloc, registry, "m", metric)) {
         patience.bear()?;
         register(alloc, registry, "m", spare)?;
+    }
+    Ok(())
+}
+
+// Encodes after the line `before`. A refused call writes nothing.
+fn encode_patiently(
+    alloc: Global,
+    patience: &mut Patience,
+    writer: &mut Vec<u8>,
+    registry: &Registry,
+) -> Result<(), Fail>
+    requires { HasHistory registry.now }
+{
+    if let Err(error) = encode(alloc, writer, registry) {
+        patience.bear()?;
+        if error != EncodeError::Memory || writer.as_slice() != BEFORE {
+            return Err(Fail::new("want of memory wrote something"));
+        }
+        encode(alloc, writer, registry)?;
     }
     Ok(())
 }
@@ -85,13 +109,7 @@ fn expect_document(
     let mut registry = Registry::default();
     add_m(alloc, patience, &mut registry, metric, spare)?;
     let mut writer = patiently!(*patience, roomy(alloc));
-    if let Err(error) = encode(alloc, &mut writer, &registry) {
-        patience.bear()?;
-        if error != EncodeError::Memory || writer.as_slice() != BEFORE {
-            return Err(Fail::new("want of memory wrote something"));
-        }
-        encode(alloc, &mut writer, &registry)?;
-    }
+    encode_patiently(alloc, patience, &mut writer, &registry)?;
     if writer.as_slice() != document {
         return Err(Fail::new("another document"));
     }
