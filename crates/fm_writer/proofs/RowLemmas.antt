@@ -1,9 +1,10 @@
--- A sample's line appended in a few steps.
-use Rattle.std.proofs.Common.{◌≡◌, [], ◌++◌, codes, append_assoc}
+-- The lines of a family, each appended in a few steps.
+use Rattle.std.proofs.Common.{◌≡◌, [], ◌++◌, codes, append_assoc, Option}
 use Rattle.fm_grammar.specs.Exposition.{Text, Sample}
-use Rattle.fm_grammar.specs.Kinds.{suffix_of}
-use Rattle.fm_grammar.specs.Spelling.{label_list_text, label_block_text, in_braces, value_text, time_text, exemplar_text, sample_line}
-use Rattle.fm_exposition.specs.Rows.{sample_row}
+use Rattle.fm_grammar.specs.declared.MetricType.{MetricType}
+use Rattle.fm_grammar.specs.Kinds.{suffix_of, type_word}
+use Rattle.fm_grammar.specs.Spelling.{escaped, label_list_text, label_block_text, in_braces, value_text, time_text, exemplar_text, sample_line, type_line, help_line}
+use Rattle.fm_exposition.specs.Rows.{sample_row, head_rows, unit_row}
 use Rattle.fm_writer.specs.inside.Grown.{Grows}
 use Rattle.fm_writer.proofs.GrownLemmas.{grown_then, grown_nothing}
 
@@ -41,3 +42,14 @@ grown_apart a b c x y z rest start end =
     rw regrouped at (grown_then a b c (x ++ (y ++ z)) rest start end)
 
 pub ruleset line = (grown_line, grown_apart, grown_then, grown_nothing)
+
+-- the lines before the samples, cut after the type line's name and the help line's text
+heads_are : (type name space word feed help_word help unit : Text) → (type ++ (name ++ (space ++ (word ++ (feed ++ help_word))))) ++ ((name ++ (space ++ help)) ++ (feed ++ unit)) ≡ ((type ++ (name ++ (space ++ word))) ++ feed) ++ (((help_word ++ (name ++ (space ++ help))) ++ feed) ++ unit)
+heads_are type name space word feed help_word help unit = simp append_assoc
+
+pub heads_whole : (a b c d : Text → Type 0) (name help : Text) (m : MetricType) (unit : Option Text) → Grows a b (codes "# TYPE " ++ (name ++ (codes " " ++ (type_word m ++ codes "\n# HELP ")))) → Grows b c (name ++ (codes " " ++ escaped help)) → Grows c d (codes "\n" ++ unit_row name unit)
+    → Grows a d (head_rows (record { name = name; metric_type = m; help = help; unit = unit; samples = [] }))
+unfolding type_line help_line
+heads_whole a b c d name help m unit start middle end =
+    let cut = heads_are (codes "# TYPE ") name (codes " ") (type_word m) (codes "\n") (codes "# HELP ") (escaped help) (unit_row name unit) in
+    rw cut at (grown_then a b d _ _ start (grown_then b c d _ _ middle end))

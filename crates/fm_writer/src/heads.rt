@@ -1,8 +1,9 @@
 // The lines of a family that come before its samples, appended to an output.
-ghost use Rattle.std.specs.Prelude.{◌≡◌, [], OnOk};
+ghost use Rattle.std.specs.Prelude.{◌≡◌, ◌++◌, [], codes, OnOk};
 ghost use Rattle.std.specs.Option.{option_copied};
-ghost use Rattle.fm_grammar.specs.Spelling.{type_line, help_line, unit_line};
-ghost use Rattle.fm_exposition.specs.Rows.{ended, unit_row, head_rows};
+ghost use Rattle.fm_grammar.specs.Kinds.{type_word};
+ghost use Rattle.fm_grammar.specs.Spelling.{escaped};
+ghost use Rattle.fm_exposition.specs.Rows.{unit_row, head_rows};
 ghost use Rattle.fm_writer.specs.inside.Grown.{Grows};
 
 use crate::output::Output;
@@ -11,56 +12,51 @@ use crate::rendering::append_escaped;
 use fm_grammar::MetricType;
 use std::alloc::AllocError;
 
-// Appends a type line.
-#[tactic(auto, using(crate::proofs::RowLemmas::line), unfolding(fm_grammar::specs::Spelling::type_line))]
-fn append_type_row<O: Output>(
-    text: &mut O,
-    name: &str,
-    metric_type: MetricType,
-) -> Result<(), AllocError>
-    ensures { OnOk result (Grows (O.stands_for text.old) (O.stands_for text.new)
-        (ended (type_line name.now metric_type))) }
+// What follows the name on a type line of this type, up to the name on the help line.
+fn after_type_name(metric_type: MetricType) -> &'static str
+    ensures { result.now ≡ codes " " ++ (type_word metric_type ++ codes "\n# HELP ") }
 {
-    text.put_three(b"# TYPE ", name.as_bytes(), b" ")?;
-    text.put_three(metric_type.as_str().as_bytes(), b"\n", b"")
-}
-
-// Appends a help line.
-#[tactic(auto, using(crate::proofs::RowLemmas::line), unfolding(fm_grammar::specs::Spelling::help_line))]
-fn append_help_row<O: Output>(text: &mut O, name: &str, help: &str) -> Result<(), AllocError>
-    ensures { OnOk result (Grows (O.stands_for text.old) (O.stands_for text.new)
-        (ended (help_line name.now help.now))) }
-{
-    let help = help.as_bytes();
-    text.put_three(b"# HELP ", name.as_bytes(), b" ")?;
-    if is_plain(help) {
-        return text.put_three(help, b"\n", b"");
+    match metric_type {
+        MetricType::Unknown => " unknown\n# HELP ",
+        MetricType::Gauge => " gauge\n# HELP ",
+        MetricType::Counter => " counter\n# HELP ",
+        MetricType::StateSet => " stateset\n# HELP ",
+        MetricType::Info => " info\n# HELP ",
+        MetricType::Histogram => " histogram\n# HELP ",
+        MetricType::GaugeHistogram => " gaugehistogram\n# HELP ",
+        MetricType::Summary => " summary\n# HELP ",
     }
-    append_escaped(text, help)?;
-    text.put(b"\n")
 }
 
-// Appends a unit line, and nothing for no unit.
-#[tactic(auto, using(crate::proofs::RowLemmas::line), unfolding(fm_grammar::specs::Spelling::unit_line))]
-fn append_unit_row<O: Output>(
-    text: &mut O,
-    name: &str,
-    unit: Option<&str>,
-) -> Result<(), AllocError>
+// Appends a name, a space and a help text.
+#[tactic(auto, using(crate::proofs::GrownLemmas::grown))]
+fn append_help<O: Output>(text: &mut O, name: &[u8], help: &[u8]) -> Result<(), AllocError>
     ensures { OnOk result (Grows (O.stands_for text.old) (O.stands_for text.new)
-        (unit_row name.now (option_copied unit.entry))) }
+        (name.now ++ (codes " " ++ escaped help.now))) }
+{
+    if is_plain(help) {
+        return text.put_three(name, b" ", help);
+    }
+    text.put_three(name, b" ", b"")?;
+    append_escaped(text, help)
+}
+
+// Appends the line feed of a help line, and after it the unit line if there is a unit.
+#[tactic(auto, using(crate::proofs::RowLemmas::line), unfolding(fm_grammar::specs::Spelling::unit_line))]
+fn end_heads<O: Output>(text: &mut O, name: &[u8], unit: Option<&str>) -> Result<(), AllocError>
+    ensures { OnOk result (Grows (O.stands_for text.old) (O.stands_for text.new)
+        (codes "\n" ++ unit_row name.now (option_copied unit.entry))) }
 {
     match unit {
         Some(unit) => {
-            text.put_three(b"# UNIT ", name.as_bytes(), b" ")?;
+            text.put_three(b"\n# UNIT ", name, b" ")?;
             text.put_three(unit.as_bytes(), b"\n", b"")
         }
-        None => Ok(()),
+        None => text.put(b"\n"),
     }
 }
 
 // Appends the lines of a family that come before its samples.
-#[tactic(auto, using(crate::proofs::GrownLemmas::grown))]
 pub(crate) fn append_heads<O: Output>(
     text: &mut O,
     name: &str,
@@ -77,7 +73,8 @@ pub(crate) fn append_heads<O: Output>(
           samples = [];
         }))) }
 {
-    append_type_row(text, name, metric_type)?;
-    append_help_row(text, name, help)?;
-    append_unit_row(text, name, unit)
+    let name = name.as_bytes();
+    text.put_three(b"# TYPE ", name, after_type_name(metric_type).as_bytes())?;
+    append_help(text, name, help.as_bytes())?;
+    end_heads(text, name, unit)
 }
