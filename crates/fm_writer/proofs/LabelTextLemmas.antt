@@ -1,5 +1,5 @@
 -- Labels in a text that grows.
-use Rattle.std.proofs.Common.{◌≡◌, ℕ, zero, suc, List, [], ◌∷◌, ◌++◌, Bool, true, false, IsTrue, IsSome, is_some, if◌then◌else◌, codes, ◌==◌, ◌≤◌, ◌<◌, ◌+◌, refl, sym, ap, subst, ◌∙◌, append_assoc, append-nil, arith, length, length-append, take, drop, get_or, Option, Some, None, IfSome, Contains, inl, inr, Result, Ok, Err, OnOk, OnErr, IfOk, ◌-◌, length-drop}
+use Rattle.std.proofs.Common.{◌≡◌, ℕ, zero, suc, List, [], ◌∷◌, ◌++◌, Bool, true, false, IsTrue, IsSome, is_some, codes, ◌==◌, ◌≤◌, ◌<◌, ◌+◌, refl, sym, ap, subst, ◌∙◌, append_assoc, append-nil, arith, length, length-append, take, drop, get_or, Option, Some, None, IfSome, Contains, inl, inr, Result, Ok, Err, OnOk, OnErr, IfOk, ◌-◌, length-drop}
 use Rattle.std.specs.List.{between, AllByRecursion}
 use Rattle.std.specs.Str.{IsUtf8}
 use Rattle.std.proofs.lemmas.Slice.{between_is}
@@ -293,18 +293,6 @@ kept_copied listed next text other ps others n v may texts places kept =
     copied true true (Some m) v may kept = (let never : Some m ≡ None = (may refl).1 in absurd cc)
     copied true true None (Some m) may kept = (let never : Some m ≡ None = (may refl).2 in absurd cc)
     copied false true n v may kept = (let never : false ≡ true = (may refl).0 in absurd cc)
-
--- the whole list: the text, and the quote at its end
-quoted : (text : Text) (ps : List Place) (n : Bool) → n ≡ (length ps == 0) → AreWithin true text ps None None → text ++ (if n then [] else codes "\"") ≡ label_list_text (labels_in text ps)
-quoted text [] true e kept = append-nil text ∙ kept.listed
-quoted text [] false e kept = absurd cc
-quoted text (p ∷ ps) true e kept = absurd (grind (arith, nat_tests, e))
-quoted text (p ∷ ps) false e kept = kept.listed
-
-pub list_closed : (listed : Bool) (text : Text) (ps : List Place) (n v : Option Part) (is_empty : Bool) → (listed ≡ true) × (n ≡ None) × (v ≡ None) → is_empty ≡ (length ps == 0) → AreWithin listed text ps n v → text ++ (if is_empty then [] else codes "\"") ≡ label_list_text (labels_in text ps)
-list_closed listed text ps n v is_empty may e kept =
-    quoted text ps is_empty e
-    (subst (λ (w : Option Part). AreWithin true text ps None w) may.2 (subst (λ (w : Option Part). AreWithin true text ps w v) may.1 (subst (λ (b : Bool). AreWithin b text ps n v) may.0 kept)))
 
 -- a part is in order
 pub part_ordered : (text : Text) (part : Option Part) → IfSome part (IsPart text) → IfSome part (λ p. p.start ≤ p.end)

@@ -2,6 +2,7 @@
 ghost use Rattle.std.specs.Prelude.{◌≡◌, ◌+◌, ◌≤◌, ◌++◌, [], length, take, IfOk, IfSome, OnOk, OnErr};
 ghost use Rattle.fm_writer.specs.inside.Grown.{Grown};
 
+use crate::output::Output;
 use std::alloc::{AllocError, Global};
 use std::marker::Model;
 
@@ -23,17 +24,6 @@ fn lengthen(bytes: &mut Vec<u8>, at_least: usize) -> Result<(), AllocError>
     bytes.resize(bytes.len().saturating_add(room).max(at_least), 0)
 }
 
-// Where three pieces end that follow this number of bytes.
-#[inline(always)]
-fn end_of_three(start: usize, first: usize, second: usize, third: usize) -> Option<usize>
-    ensures { IfSome result (λ end. end ≡ start + first + second + third) }
-{
-    start
-        .checked_add(first)?
-        .checked_add(second)?
-        .checked_add(third)
-}
-
 // Writes a piece after the first `at` bytes, and returns where it ends.
 #[inline(always)]
 fn write_piece(bytes: &mut [u8], at: usize, piece: &[u8]) -> usize
@@ -44,19 +34,6 @@ fn write_piece(bytes: &mut [u8], at: usize, piece: &[u8]) -> usize
     let end = at + piece.len();
     bytes[at..end].copy_from_slice(piece);
     end
-}
-
-// Writes three pieces after the first `at` bytes, and returns where they end.
-#[inline(always)]
-fn write_three(bytes: &mut [u8], at: usize, first: &[u8], second: &[u8], third: &[u8]) -> usize
-    requires { at + length first.now + length second.now + length third.now ≤ length bytes.old }
-    ensures end { result ≡ at + length first.now + length second.now + length third.now }
-    ensures written { take result bytes.new
-        ≡ take at bytes.old ++ (first.now ++ (second.now ++ third.now)) }
-{
-    let at = write_piece(bytes, at, first);
-    let at = write_piece(bytes, at, second);
-    write_piece(bytes, at, third)
 }
 
 /// A text that grows at its end.
@@ -128,26 +105,41 @@ impl GrowingText {
         self.end = end;
         Ok(())
     }
+}
 
-    /// Appends three pieces, all or none. Fails if memory runs out, and then changes nothing.
+impl Output for GrowingText {
+    ghost stands_for = { λ output text. output ≡ text };
+
+    fn put(&mut self, bytes: &[u8]) -> Result<(), AllocError> {
+        self.append(bytes)
+    }
+
+    // If memory runs out, nothing changes.
     #[inline(always)]
-    pub fn append_three(
-        &mut self,
-        first: &[u8],
-        second: &[u8],
-        third: &[u8],
-    ) -> Result<(), AllocError>
+    fn put_three(&mut self, first: &[u8], second: &[u8], third: &[u8]) -> Result<(), AllocError>
         ensures grown { OnOk result
             (Grown self.old self.new (first.now ++ (second.now ++ third.now))) }
         ensures kept { OnErr result (self.new ≡ self.old) }
     {
-        let Some(end) = end_of_three(self.end, first.len(), second.len(), third.len()) else {
-            return Err(AllocError);
-        };
+        let end = self
+            .end
+            .saturating_add(first.len())
+            .saturating_add(second.len())
+            .saturating_add(third.len());
         if end > self.bytes.len() {
             lengthen(&mut self.bytes, end)?;
         }
-        self.end = write_three(&mut self.bytes, self.end, first, second, third);
+        let at = write_piece(&mut self.bytes, self.end, first);
+        let at = write_piece(&mut self.bytes, at, second);
+        self.end = write_piece(&mut self.bytes, at, third);
         Ok(())
+    }
+
+    fn put_output(&mut self, other: &GrowingText) -> Result<(), AllocError> {
+        self.append(other.as_slice())
+    }
+
+    fn reset(&mut self) {
+        self.clear();
     }
 }

@@ -9,6 +9,7 @@ ghost use Rattle.fm_writer.specs.inside.LabelTexts.{part_in, label_in, labels_in
 
 use crate::growing::GrowingText;
 use crate::label_list::append_placed_list;
+use crate::labels::LabelSource;
 use crate::output::Output;
 use crate::plain::is_plain;
 use std::alloc::{AllocError, Global};
@@ -48,9 +49,9 @@ fn append_listed_name(text: &mut GrowingText, is_first: bool, name: &str) -> Res
     ensures kept { OnErr result (text.new ≡ text.old) }
 {
     if is_first {
-        return text.append_three(b"", name.as_bytes(), b"=\"");
+        return text.put_three(b"", name.as_bytes(), b"=\"");
     }
-    text.append_three(b"\",", name.as_bytes(), b"=\"")
+    text.put_three(b"\",", name.as_bytes(), b"=\"")
 }
 
 // Appends the name of a label like this, and returns where it is.
@@ -201,24 +202,6 @@ fn pairs_at<'a>(
         pairs.push((str_at(text, place.name), str_at(text, place.value)))?;
     }
     Ok(pairs)
-}
-
-// Appends the labels' list, given the list without the quote at its end, and whether it is empty, and the text that comes after it.
-#[tactic(auto, using(crate::proofs::GrownLemmas::grown))]
-fn append_closed<O: Output>(
-    text: &mut O,
-    list: &[u8],
-    is_empty: bool,
-    after: &[u8],
-) -> Result<(), AllocError>
-    ensures { OnOk result (Grows (O.stands_for text.old) (O.stands_for text.new)
-        (list.now ++ ((if is_empty then [] else codes "\"") ++ after.now))) }
-{
-    if is_empty {
-        text.put_three(list, b"", after)
-    } else {
-        text.put_three(list, b"\"", after)
-    }
 }
 
 /// Labels that are kept in one text, and the name and the value of the current label, which has not ended yet.
@@ -372,26 +355,25 @@ impl LabelText {
     {
         pairs_at(alloc, self.text.as_slice(), &self.places[from..])
     }
+}
 
-    /// Appends the labels with commas between them, and the text that comes after them. Fails if memory runs out.
+impl<O: Output> LabelSource<O> for LabelText {
+    ghost labels = { λ source. source.labels };
+
+    fn len(&self) -> usize {
+        self.len()
+    }
+
     #[tactic(auto, using(crate::proofs::GrownLemmas::grown))]
-    pub(crate) fn append_before<O: Output>(
-        &self,
-        text: &mut O,
-        after: &[u8],
-    ) -> Result<(), AllocError>
-        ensures { OnOk result (Grows (O.stands_for text.old) (O.stands_for text.new)
-            (label_list_text self.now.labels ++ after.now)) }
-    {
+    fn append_before(&self, text: &mut O, after: &[u8]) -> Result<(), AllocError> {
         if !may_take_name(self.is_listed, self.name, self.value) {
             append_placed_list(text, self.text.as_slice(), &self.places)?;
             return text.put(after);
         }
-        append_closed(
-            text,
-            self.text.as_slice(),
-            self.places.as_slice().is_empty(),
-            after,
-        )
+        if self.places.as_slice().is_empty() {
+            text.put_three(self.text.as_slice(), b"", after)
+        } else {
+            text.put_three(self.text.as_slice(), b"\"", after)
+        }
     }
 }

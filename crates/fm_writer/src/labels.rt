@@ -6,7 +6,6 @@ ghost use Rattle.fm_exposition.specs.inside.DocumentRows.{further_label, further
 ghost use Rattle.fm_exposition.specs.Samples.{label_of, labels_of};
 ghost use Rattle.fm_writer.specs.inside.Grown.{Grows};
 
-use crate::label_text::LabelText;
 use crate::output::Output;
 use crate::plain::is_plain;
 use crate::rendering::append_escaped;
@@ -28,18 +27,6 @@ pub(crate) trait LabelSource<O: Output> {
         requires { is_ready self.now }
         ensures { OnOk result (Grows (O.stands_for text.old) (O.stands_for text.new)
             (label_list_text (labels self.now) ++ after.now)) };
-}
-
-impl<O: Output> LabelSource<O> for LabelText {
-    ghost labels = { λ source. source.labels };
-
-    fn len(&self) -> usize {
-        self.len()
-    }
-
-    fn append_before(&self, text: &mut O, after: &[u8]) -> Result<(), AllocError> {
-        self.append_before(text, after)
-    }
 }
 
 // Labels, and their text as it was rendered before.

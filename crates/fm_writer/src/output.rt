@@ -3,7 +3,6 @@ ghost use Rattle.std.specs.Prelude.{◌≡◌, ◌+◌, ◌-◌, ◌^◌, ◌++�
 ghost use Rattle.fm_grammar.specs.Exposition.{Text};
 ghost use Rattle.fm_writer.specs.inside.Grown.{Grows, size_of};
 
-use crate::growing::GrowingText;
 use std::alloc::AllocError;
 
 // What a text is rendered to.
@@ -28,26 +27,6 @@ pub(crate) trait Output {
     // Removes everything.
     fn reset(&mut self)
         ensures { stands_for self.new [] };
-}
-
-impl Output for GrowingText {
-    ghost stands_for = { λ output text. output ≡ text };
-
-    fn put(&mut self, bytes: &[u8]) -> Result<(), AllocError> {
-        self.append(bytes)
-    }
-
-    fn put_three(&mut self, first: &[u8], second: &[u8], third: &[u8]) -> Result<(), AllocError> {
-        self.append_three(first, second, third)
-    }
-
-    fn put_output(&mut self, other: &GrowingText) -> Result<(), AllocError> {
-        self.append(other.as_slice())
-    }
-
-    fn reset(&mut self) {
-        self.clear();
-    }
 }
 
 // The size of a text in bytes. A size above the greatest `usize` counts as the greatest `usize`.

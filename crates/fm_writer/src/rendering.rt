@@ -92,31 +92,8 @@ fn append_exemplar<O: Output>(text: &mut O, exemplar: Option<&Exemplar>) -> Resu
     }
 }
 
-// Appends the text of a value, a timestamp, an exemplar and a line feed.
-#[tactic(auto, using(crate::proofs::GrownLemmas::grown))]
-fn append_shown<O: Output>(
-    text: &mut O,
-    value: &str,
-    time: Option<u128>,
-    exemplar: Option<&Exemplar>,
-) -> Result<(), AllocError>
-    ensures { OnOk result (Grows (O.stands_for text.old) (O.stands_for text.new)
-        (value.now
-        ++ (time_text time
-        ++ (exemplar_text (option_map exemplar_at exemplar.entry) ++ codes "\n")))) }
-{
-    match (time, exemplar) {
-        (None, None) => text.put_three(value.as_bytes(), b"\n", b""),
-        _ => {
-            text.put(value.as_bytes())?;
-            append_time(text, time)?;
-            append_exemplar(text, exemplar)?;
-            text.put(b"\n")
-        }
-    }
-}
-
 // Appends a value, a timestamp, an exemplar and a line feed.
+#[tactic(auto, using(crate::proofs::GrownLemmas::grown))]
 fn append_reading<O: Output>(
     text: &mut O,
     value: &Value,
@@ -134,7 +111,13 @@ fn append_reading<O: Output>(
         Value::Fixed(sum) => fixed.format(*sum),
         Value::Millis(millis) => fixed.format_millis(*millis),
     };
-    append_shown(text, value, time, exemplar)
+    if let (None, None) = (time, exemplar) {
+        return text.put_three(value.as_bytes(), b"\n", b"");
+    }
+    text.put(value.as_bytes())?;
+    append_time(text, time)?;
+    append_exemplar(text, exemplar)?;
+    text.put(b"\n")
 }
 
 // Appends a sample's line.

@@ -6,8 +6,10 @@ ghost use Rattle.fm_exposition.specs.Rows.{head_rows};
 ghost use Rattle.fm_exposition.specs.Samples.{labels_of, shared_labels, shown_label, value_of, exemplar_of};
 ghost use Rattle.fm_writer.specs.Output.{OutputSamples, OutputText, AreShared, appended, with_lines, samples_in, lines_in};
 
+use crate::heads::append_heads;
 use crate::label_text::LabelText;
 use crate::lines::Lines;
+use crate::rendering::append_sample_row;
 use fm_encode_error::EncodeError;
 use fm_exposition::{CommonLabels, Exemplar, SampleStore, Value};
 use fm_grammar::{MetricType, SampleKind};
@@ -114,7 +116,7 @@ impl Sink {
     {
         match &mut self.form {
             Form::Samples(_, _) => Ok(()),
-            Form::Lines(lines) => lines.append_heads(name, metric_type, help, unit),
+            Form::Lines(lines) => append_heads(&mut lines.text, name, metric_type, help, unit),
         }
     }
 
@@ -183,7 +185,17 @@ impl Sink {
                 Err(_) => Err(EncodeError::Memory),
             },
             Form::Lines(lines) => {
-                match lines.push(name, kind, common, own, value, time, exemplar.as_ref()) {
+                let exemplar = exemplar.as_ref();
+                match append_sample_row(
+                    &mut lines.text,
+                    name,
+                    kind,
+                    common,
+                    own,
+                    value,
+                    time,
+                    exemplar,
+                ) {
                     Ok(()) => Ok(()),
                     Err(_) => Err(EncodeError::Memory),
                 }
