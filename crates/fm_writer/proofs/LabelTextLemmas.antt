@@ -1,5 +1,5 @@
 -- Labels in a text that grows.
-use Rattle.std.proofs.Common.{◌≡◌, ℕ, zero, suc, List, [], ◌∷◌, ◌++◌, Bool, true, false, IsTrue, IsSome, is_some, codes, ◌==◌, ◌≤◌, ◌<◌, ◌+◌, refl, sym, ap, subst, ◌∙◌, append_assoc, append-nil, arith, length, length-append, take, drop, get_or, Option, Some, None, IfSome, Contains, inl, inr, Result, Ok, Err, OnOk, OnErr, IfOk, ◌-◌, length-drop}
+use Rattle.std.proofs.Common.{◌≡◌, ℕ, zero, suc, List, [], ◌∷◌, ◌++◌, Bool, true, false, IsTrue, IsSome, is_some, codes, ◌==◌, ◌≤◌, ◌<◌, ◌+◌, refl, sym, ap, subst, ◌∙◌, append_assoc, append-nil, arith, length, length-append, take, drop, get_or, Option, Some, None, IfSome, Contains, inl, inr, Result, Ok, Err, IfOk, ◌-◌, length-drop}
 use Rattle.std.specs.List.{between, AllByRecursion}
 use Rattle.std.specs.Str.{IsUtf8}
 use Rattle.std.proofs.lemmas.Slice.{between_is}
@@ -8,7 +8,6 @@ use Rattle.std.proofs.lemmas.List.{take-append-le, take_more, take_all, drop-map
 use Rattle.std.proofs.lemmas.List.Elements.{Contains-append_cases}
 use Rattle.std.proofs.lemmas.Bool.Decides.{nat_tests}
 use Rattle.std.specs.Option.{option_map}
-use Rattle.std.specs.declared.alloc.AllocError.{AllocError}
 use Rattle.fm_grammar.specs.Exposition.{Text, Label}
 use Rattle.fm_grammar.specs.Spelling.{escaped, label_text, label_list_text}
 use Rattle.fm_exposition.proofs.RowLemmas.{list_joined}
@@ -112,9 +111,6 @@ all_from P xs zero all = all
 all_from P [] (suc i) all = tt
 all_from P (x ∷ xs) (suc i) all = all_from P xs i all.1
 
-pub all_cons : {X : Type 0} (P : X → Type 0) (xs rest : List X) (x : X) → AllByRecursion P xs → xs ≡ x ∷ rest → P x × AllByRecursion P rest
-all_cons P xs rest x all is = subst (AllByRecursion P) is all
-
 names_push : (text : Text) (ps : List Place) (p : Place) → names_in text (ps ++ p ∷ []) ≡ names_in text ps ++ (label_in text p).name ∷ []
 names_push text [] p = refl
 names_push text (q ∷ ps) p = ap (λ (ns : List Text). (label_in text q).name ∷ ns) (names_push text ps p)
@@ -169,17 +165,6 @@ shown_valued old new more ps n v p value grown are is = λ i. record {
   name = option_grown old new more n grown are.name i;
   value = Some (is i);
 }
-
--- places of another text, of which this text is a copy, or none
-pub parts_assigned : (r : Result (Unit {0}) AllocError) (new other : Text) (ps others : List Place) → Grown [] new other → AllByRecursion (IsPlace other) others → OnOk r (ps ≡ others) → OnErr r (ps ≡ []) → AreParts new ps None None
-parts_assigned (Ok x) new other ps others grown are ok err =
-    record { places = subst (AllByRecursion (IsPlace new)) (sym ok) (subst (λ (t : Text). AllByRecursion (IsPlace t) others) (sym grown.bytes) are); name = tt; value = tt }
-parts_assigned (Err e) new other ps others grown are ok err =
-    record { places = subst (AllByRecursion (IsPlace new)) (sym err) tt; name = tt; value = tt }
-
-pub shown_assigned : (r : Result (Unit {0}) AllocError) (new other : Text) (ps others : List Place) → Grown [] new other → OnOk r (ps ≡ others) → OnOk r (shown new ps None None ≡ record { labels = labels_in other others; name = None; value = None })
-shown_assigned (Ok x) new other ps others grown ok = λ i. record { labels = labels_in (grown.bytes i) (ok i); name = None; value = None }
-shown_assigned (Err e) new other ps others grown ok = tt
 
 -- the labels from an index on
 pub labels_from : (text : Text) (ps : List Place) (from : ℕ) → labels_in text (take (length ps - from) (drop from ps)) ≡ drop from (labels_in text ps)
@@ -277,22 +262,6 @@ kept_ended listed next text ps n v may kept = record {
   parts = record { places = places_whole text ps n v kept.parts; name = tt; value = tt };
   listed = ended_listed listed next text ps n v may kept;
 }
-
--- labels whose parts are within the text, if nothing is known of the list
-pub kept_unlisted : (text : Text) (ps : List Place) (n v : Option Part) → AreParts text ps n v → AreWithin false text ps n v
-kept_unlisted text ps n v are = record { parts = are; listed = tt }
-
--- a copy of other labels
-pub kept_copied : (listed next : Bool) (text other : Text) (ps others : List Place) (n v : Option Part) → (IsTrue next → (listed ≡ true) × (n ≡ None) × (v ≡ None)) → text ≡ other → ps ≡ others → AreWithin listed other others n v → AreWithin next text ps None None
-kept_copied listed next text other ps others n v may texts places kept =
-    subst (λ (t : Text). AreWithin next t ps None None) (sym texts) (subst (λ (qs : List Place). AreWithin next other qs None None) (sym places) (copied listed next n v may kept))
-  where
-    copied : (listed next : Bool) (n v : Option Part) → (IsTrue next → (listed ≡ true) × (n ≡ None) × (v ≡ None)) → AreWithin listed other others n v → AreWithin next other others None None
-    copied listed false n v may kept = record { parts = record { places = kept.parts.places; name = tt; value = tt }; listed = tt }
-    copied true true None None may kept = kept
-    copied true true (Some m) v may kept = (let never : Some m ≡ None = (may refl).1 in absurd cc)
-    copied true true None (Some m) may kept = (let never : Some m ≡ None = (may refl).2 in absurd cc)
-    copied false true n v may kept = (let never : false ≡ true = (may refl).0 in absurd cc)
 
 -- a part is in order
 pub part_ordered : (text : Text) (part : Option Part) → IfSome part (IsPart text) → IfSome part (λ p. p.start ≤ p.end)

@@ -90,6 +90,19 @@ impl GrowingText {
         self.end = 0;
     }
 
+    /// Replaces its bytes by those of another text. Fails if memory runs out, and then changes nothing.
+    pub(crate) fn assign(&mut self, other: &GrowingText) -> Result<(), AllocError>
+        ensures replaced { OnOk result (self.new ≡ other.now) }
+        ensures kept { OnErr result (self.new ≡ self.old) }
+    {
+        if other.end > self.bytes.len() {
+            lengthen(&mut self.bytes, other.end)?;
+        }
+        self.bytes[0..other.end].copy_from_slice(&other.bytes[..other.end]);
+        self.end = other.end;
+        Ok(())
+    }
+
     /// Appends bytes. Fails if memory runs out, and then changes nothing.
     pub fn append(&mut self, bytes: &[u8]) -> Result<(), AllocError>
         ensures grown { OnOk result (Grown self.old self.new bytes.now) }

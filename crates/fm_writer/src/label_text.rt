@@ -179,15 +179,6 @@ fn may_end(is_listed: bool, name: Option<Part>, value: Option<Part>) -> bool
     is_listed && name.is_some() == value.is_some()
 }
 
-// Replaces the places by these others, or by none if memory runs out.
-fn replace_places(places: &mut Vec<Place>, others: &[Place]) -> Result<(), AllocError>
-    ensures replaced { OnOk result (places.new.items ≡ others.now) }
-    ensures none { OnErr result (places.new.items ≡ []) }
-{
-    places.clear();
-    places.extend_from_slice(others)
-}
-
 // The names and values of the labels.
 fn pairs_at<'a>(
     alloc: Global,
@@ -299,13 +290,13 @@ impl LabelText {
         ensures idle { (self.new.name ≡ None) × (self.new.value ≡ None) }
     {
         self.is_listed = false;
-        self.places.clear();
         self.name = None;
         self.value = None;
-        self.text.clear();
-        self.text.append(labels.text.as_slice())?;
-        replace_places(&mut self.places, labels.places.as_slice())?;
-        self.is_listed = may_take_name(labels.is_listed, labels.name, labels.value);
+        let places = &mut self.places;
+        places.clear();
+        self.text.assign(&labels.text)?;
+        places.extend_from_slice(&labels.places)?;
+        self.is_listed = labels.is_listed && labels.name.is_none() && labels.value.is_none();
         Ok(())
     }
 
@@ -366,7 +357,7 @@ impl<O: Output> LabelSource<O> for LabelText {
 
     #[tactic(auto, using(crate::proofs::GrownLemmas::grown))]
     fn append_before(&self, text: &mut O, after: &[u8]) -> Result<(), AllocError> {
-        if !may_take_name(self.is_listed, self.name, self.value) {
+        if !self.is_listed || self.name.is_some() || self.value.is_some() {
             append_placed_list(text, self.text.as_slice(), &self.places)?;
             return text.put(after);
         }

@@ -127,10 +127,10 @@ impl Sink {
         ensures shared { OnOk result (AreShared common.now.labels self.new.shared) }
         ensures none { OnErr result (self.new.shared ≡ None) }
     {
-        self.unshare();
-        if let Form::Samples(store, is_shared) = &mut self.form {
+        if let Form::Samples(store, are_shared) = &mut self.form {
+            *are_shared = false;
             store.share(shared(self.alloc, common)?);
-            *is_shared = true;
+            *are_shared = true;
         }
         Ok(())
     }
