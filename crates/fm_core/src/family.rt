@@ -211,7 +211,7 @@ impl<'a> MetricFamilyEncoder<'a> {
             namespace: None,
             const_labels: &[],
             families: Vec::new(alloc),
-            refused: FirstRefusal::none(),
+            refused: FirstRefusal { error: None },
         }
     }
 

@@ -185,7 +185,7 @@ pub(crate) fn exemplar_given<E: EncodeExemplar>(
     let mut encoder = ExemplarEncoder {
         alloc,
         exemplar: None,
-        refused: FirstRefusal::none(),
+        refused: FirstRefusal { error: None },
     };
     let visited = exemplar.encode(&mut encoder);
     let ExemplarEncoder {

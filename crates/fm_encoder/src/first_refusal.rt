@@ -14,13 +14,6 @@ pub struct FirstRefusal {
 }
 
 impl FirstRefusal {
-    /// Nothing was refused so far.
-    pub fn none() -> FirstRefusal
-        ensures { result.error ≡ None }
-    {
-        FirstRefusal { error: None }
-    }
-
     /// Keeps the error, and returns it.
     pub fn refuse<T>(&mut self, error: EncodeError) -> Result<T, EncodeError>
         ensures kept { self.new.error ≡ Some error }
@@ -52,15 +45,18 @@ impl FirstRefusal {
             → self.old.error ≡ None → visited ≡ Err e → self.new.error ≡ Some (own_refusal e) }
         ensures returned { result ≡ result_of self.new.error }
     {
-        match self.outcome(visited) {
+        if let Some(error) = self.error {
+            return Err(error);
+        }
+        match visited {
             Ok(()) => Ok(()),
-            Err(error) => self.refuse(error),
+            Err(error) => self.refuse(own_refusal(error)),
         }
     }
 }
 
 // What an encoder makes of an error of the source that it visited.
-fn own_refusal(error: EncodeError) -> EncodeError
+pub(crate) fn own_refusal(error: EncodeError) -> EncodeError
     ensures { result ≡ own_refusal error }
 {
     match error {

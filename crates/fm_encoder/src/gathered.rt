@@ -43,14 +43,11 @@ pub(crate) fn labels_behind<LS: EncodeLabelSet>(
 {
     if before.len() == 0 {
         if let Some(kept) = kept {
-            return match kept.copy_to(encoder) {
-                Ok(()) => Ok(()),
-                Err(_) => Err(EncodeError::Memory),
-            };
+            return Ok(encoder.restart(&kept.labels)?);
         }
         encoder.begin(encoder.metric_type());
-    } else if let Err(_) = encoder.restart(before) {
-        return Err(EncodeError::Memory);
+    } else {
+        encoder.restart(before)?;
     }
     if labels.is_empty() {
         return Ok(());

@@ -26,7 +26,7 @@ fn summary_labels<LS: EncodeLabelSet>(alloc: Global, labels: &LS) -> Result<Labe
 /// The labels of a label set, as they are written. They are valid in a family of any type that has no constant labels.
 #[derive(Drop)]
 pub struct KeptLabels {
-    labels: LabelText,
+    pub(crate) labels: LabelText,
 }
 
 impl Model for KeptLabels {
@@ -58,14 +58,5 @@ impl KeptLabels {
             Err(EncodeError::Memory) => Err(AllocError),
             Err(_) => Ok(None),
         }
-    }
-
-    // Replaces the encoder's labels by copies of these. Fails if memory runs out; then nothing is known of its labels.
-    pub(crate) fn copy_to(&self, encoder: &mut LabelSetEncoder) -> Result<(), AllocError>
-        ensures type_kept { encoder.new.metric_type ≡ encoder.old.metric_type }
-        ensures copied { OnOk result
-            (encoder.new ≡ record encoder.old { labels = self.now; refused = None }) }
-    {
-        encoder.restart(&self.labels)
     }
 }

@@ -96,30 +96,6 @@ impl Model for LabelEncoder {
 }
 
 impl LabelEncoder {
-    // Replaces its labels by copies of these, as if nothing had been refused. If memory runs out, nothing is known of its labels.
-    fn restart(&mut self, before: &LabelText) -> Result<(), AllocError>
-        ensures type_kept { self.new.metric_type ≡ self.old.metric_type }
-        ensures accepting { self.new.refused ≡ None }
-        ensures pieces { self.new.pieces ≡ [] }
-        ensures labels { OnOk result (self.new.labels ≡ before.now.labels) }
-    {
-        self.refused = FirstRefusal::none();
-        self.is_known = false;
-        self.labels.assign(before)
-    }
-
-    // Removes all labels, as if nothing had been refused, for a family of this type.
-    fn begin(&mut self, metric_type: MetricType)
-        ensures { self.new
-            ≡ record { metric_type = metric_type; labels = []; pieces = []; refused = None } }
-    {
-        self.metric_type = metric_type;
-        self.refused = FirstRefusal::none();
-        self.known.begin(metric_type);
-        self.labels.clear();
-        self.is_known = true;
-    }
-
     /// Takes the label's name. Errors, in this order: the label already has a piece (`MalformedLabel`); the name is not a valid
     /// label name (`InvalidLabelName`); the metric's type reserves the name for its own labels (`ReservedLabel`); an earlier
     /// label has the name (`DuplicateLabel`); memory runs out (`Memory`).
@@ -235,7 +211,7 @@ impl LabelSetEncoder {
             label: LabelEncoder {
                 metric_type,
                 labels: LabelText::new(alloc),
-                refused: FirstRefusal::none(),
+                refused: FirstRefusal { error: None },
                 known: KnownNames::new(alloc, metric_type),
                 is_known: false,
             },
@@ -262,14 +238,20 @@ impl LabelSetEncoder {
         ensures restarted { OnOk result
             (self.new ≡ record self.old { labels = before.now.labels; refused = None }) }
     {
-        self.label.restart(before)
+        self.label.refused.error = None;
+        self.label.is_known = false;
+        self.label.labels.assign(before)
     }
 
     // Removes all labels, as if nothing had been refused, for a family of this type.
     pub(crate) fn begin(&mut self, metric_type: MetricType)
         ensures { self.new ≡ record { metric_type = metric_type; labels = []; refused = None } }
     {
-        self.label.begin(metric_type);
+        self.label.metric_type = metric_type;
+        self.label.refused.error = None;
+        self.label.known.begin(metric_type);
+        self.label.labels.clear();
+        self.label.is_known = true;
     }
 
     /// Takes one more label. Besides the errors of its name and its value: a name without a value is refused as

@@ -126,32 +126,6 @@ fn push_to(
     sink.push(name, kind, common, own, value, time, exemplar)
 }
 
-// Reads a member's labels, which follow the constant ones. The sink's next samples have them.
-fn read_labels<LS: EncodeLabelSet>(
-    encoder: &mut LabelSetEncoder,
-    sink: &mut Sink,
-    constants: &ConstantLabels,
-    kept: Option<&KeptLabels>,
-    labels: &LS,
-) -> Result<(), EncodeError>
-    requires of_type { constants.now.metric_type ≡ encoder.old.metric_type }
-    requires kept { IfSome kept (λ k. Keeps (LS.labels labels.now) k.now) }
-    ensures type_kept { encoder.new.metric_type ≡ encoder.old.metric_type }
-    ensures output { sink.new.output ≡ sink.old.output }
-    ensures shared { OnOk result (AreShared encoder.new.labels sink.new.shared) }
-    ensures gathered { let all = handed_again constants.now.labels ++ LS.labels labels.now in
-        MatchResult result
-        (λ _. LabelsClean encoder.old.metric_type [] all × (encoder.new.labels ≡ all_written all))
-        (λ k. OwnRefusal (LS.may_fault labels.now) k
-        ⊎ LabelsFault k encoder.old.metric_type [] all) }
-{
-    constants.followed_by(encoder, kept, labels)?;
-    match sink.share(encoder.text()) {
-        Ok(()) => Ok(()),
-        Err(_) => Err(EncodeError::Memory),
-    }
-}
-
 impl PointEncoder {
     pub(crate) fn new(
         alloc: Global,
@@ -178,7 +152,7 @@ impl PointEncoder {
             labels: LabelSetEncoder::new(alloc, metric_type),
             deferred: None,
             sink,
-            refused: FirstRefusal::none(),
+            refused: FirstRefusal { error: None },
             bounds: Vec::new(alloc),
             none: LabelText::new(alloc),
         }
@@ -339,7 +313,7 @@ impl PointEncoder {
             (LS.may_fault labels.now)
             self.old self.new }
     {
-        match read_labels(&mut self.labels, &mut self.sink, constants, kept, labels) {
+        match constants.followed_by(&mut self.labels, &mut self.sink, kept, labels) {
             Ok(()) => self.deferred = None,
             Err(error) => {
                 self.labels.begin(self.labels.metric_type());

@@ -12,8 +12,8 @@ ghost use Rattle.fm_encoder.specs.inside.Steps.{FitsType, PushesSamples};
 use crate::exemplar::{EncodeExemplar, exemplar_if_any};
 use crate::point::PointEncoder;
 use crate::value::{
-    EncodeCounterValue, EncodeGaugeValue, EncodeUnknownValue, counter_number, gauge_number,
-    unknown_number,
+    CounterValueEncoder, EncodeCounterValue, EncodeGaugeValue, EncodeUnknownValue,
+    GaugeValueEncoder, UnknownValueEncoder,
 };
 use fm_encode_error::EncodeError;
 use fm_exposition::{Exemplar, Value};
@@ -29,7 +29,9 @@ impl PointEncoder {
             (V.may_fault value.now) self.old self.new result }
     {
         self.begin_point(MetricType::Unknown)?;
-        match unknown_number(value) {
+        let mut encoder = UnknownValueEncoder::new();
+        let visited = value.encode(&mut encoder);
+        match encoder.end(visited) {
             Ok(number) => self.push_sample(SampleKind::Plain, &number, None),
             Err(error) => self.refused.refuse(error),
         }
@@ -42,7 +44,9 @@ impl PointEncoder {
             (V.may_fault value.now) self.old self.new result }
     {
         self.begin_point(MetricType::Gauge)?;
-        match gauge_number(value) {
+        let mut encoder = GaugeValueEncoder::new();
+        let visited = value.encode(&mut encoder);
+        match encoder.end(visited) {
             Ok(number) => self.push_sample(SampleKind::Plain, &number, None),
             Err(error) => self.refused.refuse(error),
         }
@@ -64,7 +68,9 @@ impl PointEncoder {
             self.old self.new result }
     {
         self.begin_point(MetricType::Counter)?;
-        let number = match counter_number(total) {
+        let mut encoder = CounterValueEncoder::new();
+        let visited = total.encode(&mut encoder);
+        let number = match encoder.end(visited) {
             Ok(number) => number,
             Err(error) => return self.refused.refuse(error),
         };

@@ -58,14 +58,3 @@ impl EncodeCounterValue for Fixed {
         encoder.encode_fixed(*self)
     }
 }
-
-// The one number that the value of a counter emits.
-pub(crate) fn counter_number<V: EncodeCounterValue>(value: &V) -> Result<Value, EncodeError>
-    ensures { MatchResult result
-        (λ v. (V.numbers value.now ≡ value_of v ∷ []) × IsNumber (value_of v))
-        (NumberRefusal (V.numbers value.now) (V.may_fault value.now)) }
-{
-    let mut encoder = CounterValueEncoder::new();
-    let visited = value.encode(&mut encoder);
-    encoder.end(visited)
-}

@@ -7,7 +7,7 @@ ghost use Rattle.fm_encoder.specs.Gathered.{own_refusal};
 ghost use Rattle.fm_encoder.specs.Takes.{TakesNumbers};
 ghost use Rattle.fm_encoder.specs.inside.Steps.{IsNumber};
 
-use crate::first_refusal::FirstRefusal;
+use crate::first_refusal::{FirstRefusal, own_refusal};
 use fm_encode_error::EncodeError;
 use fm_exposition::Value;
 use fm_raw::fixed::{Fixed, FixedSum};
@@ -67,7 +67,7 @@ impl<K> ValueEncoder<K> {
     {
         ValueEncoder {
             number: None,
-            refused: FirstRefusal::none(),
+            refused: FirstRefusal { error: None },
             kind: PhantomData,
         }
     }
@@ -96,10 +96,13 @@ impl<K> ValueEncoder<K> {
             ⊎ ((self.refused ≡ None) × (visited ≡ Ok tt)
             × (k ≡ EncodeError.MissingValue) × (self.numbers ≡ [])))) }
     {
-        self.refused.outcome(visited)?;
-        match self.number {
-            Some(number) => Ok(number),
-            None => Err(EncodeError::MissingValue),
+        if let Some(error) = self.refused.error {
+            return Err(error);
+        }
+        match (visited, self.number) {
+            (Ok(()), Some(number)) => Ok(number),
+            (Ok(()), None) => Err(EncodeError::MissingValue),
+            (Err(error), _) => Err(own_refusal(error)),
         }
     }
 

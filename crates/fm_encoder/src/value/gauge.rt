@@ -74,14 +74,3 @@ impl EncodeGaugeValue for Fixed {
         encoder.encode_fixed(*self)
     }
 }
-
-// The one number that the value of a gauge emits.
-pub(crate) fn gauge_number<V: EncodeGaugeValue>(value: &V) -> Result<Value, EncodeError>
-    ensures { MatchResult result
-        (λ v. (V.numbers value.now ≡ value_of v ∷ []) × IsNumber (value_of v))
-        (NumberRefusal (V.numbers value.now) (V.may_fault value.now)) }
-{
-    let mut encoder = GaugeValueEncoder::new();
-    let visited = value.encode(&mut encoder);
-    encoder.end(visited)
-}

@@ -66,14 +66,3 @@ impl EncodeUnknownValue for Fixed {
         encoder.encode_fixed(*self)
     }
 }
-
-// The one number that the value of an unknown metric emits.
-pub(crate) fn unknown_number<V: EncodeUnknownValue>(value: &V) -> Result<Value, EncodeError>
-    ensures { MatchResult result
-        (λ v. (V.numbers value.now ≡ value_of v ∷ []) × IsNumber (value_of v))
-        (NumberRefusal (V.numbers value.now) (V.may_fault value.now)) }
-{
-    let mut encoder = UnknownValueEncoder::new();
-    let visited = value.encode(&mut encoder);
-    encoder.end(visited)
-}

@@ -9,7 +9,7 @@ pub invariant_of-self : goal.invariant_of-self
 invariant_of-self g c =
     let read = c.in-Ok.ensures in
     let type = c.self.inside.labels.metric_type in
-    let labels = c.read_labels.new.encoder.labels in
+    let labels = c.followed_by.new.encoder.labels in
     record {
       name = c.self.invariant.name;
       labels = subst AreLabels (sym read.gathered.1) (AreLabels-written type _ read.gathered.0);
