@@ -78,26 +78,6 @@ impl PointEncoder {
             Ok(exemplar) => exemplar,
             Err(error) => return self.refused.refuse(error),
         };
-        self.push_total(number, exemplar, created)
-    }
-
-    // Adds the sample of a counter's total, and that of its time of creation, if there is one.
-    fn push_total(
-        &mut self,
-        number: Value,
-        exemplar: Option<Exemplar>,
-        created: Option<Duration>,
-    ) -> Result<(), EncodeError>
-        requires accepting { self.old.refused ≡ None }
-        requires counter { self.old.setting.metric_type ≡ MetricType.Counter }
-        requires fits { FitsType self.old.setting.metric_type TotalKind
-            (value_of number) (option_map exemplar_of exemplar) }
-        ensures { Takes (PushesSamples
-            (record (plain_sample self.old.setting self.old.common TotalKind [] (value_of number))
-            { exemplar = option_map exemplar_of exemplar }
-            ∷ created_samples self.old.setting self.old.common (option_map millis created))
-            self.old self.new) self.new.refused result }
-    {
         self.push_sample(SampleKind::Total, &number, exemplar)?;
         self.push_created(created)
     }
