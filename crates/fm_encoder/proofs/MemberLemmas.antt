@@ -84,8 +84,8 @@ HandsMembers-one constants labels A F G old begun mid new visited begins hands e
       handed = λ o n r.
           (let m = none_before_ends visited mid new ends n in
           let h = hands.handed begun_none m (ends.visited_ok m n) in
-          let clean = MembersClean-of constants labels begun h.0 (λ d. subst label_type (ap (λ (s : Setting). s.metric_type) (sym begins.setting)) (begins.clean d)) begins.common h.2 in
-          let lines = members_samples-of constants labels begun h.0 begins.common h.2 in (
+          let clean = MembersClean-of constants labels begun h.0 (λ d. subst label_type (ap (λ (s : Setting). s.metric_type) (sym begins.setting)) (begins.clean accepting d)) (begins.common accepting) h.2 in
+          let lines = members_samples-of constants labels begun h.0 (begins.common accepting) h.2 in (
             members_of labels h.0,
             (h.0, h.1, refl),
             subst (λ (x : Context). MembersClean x (members_of labels h.0)) same_context clean,
@@ -99,7 +99,7 @@ HandsMembers-one constants labels A F G old begun mid new visited begins hands e
             elim (hands.refused k begun_none (e ∙ ap Some same)) [
               | inl own ↦ inl (OwnRefusal-right k own)
               | inr (ps, admitted, fault) ↦
-                  elim (MembersFault-of constants labels k F begun ps (λ d. subst (λ (type : MetricType). OwnRefusal F k ⊎ LabelsFault k type [] (handed_again constants ++ labels)) (ap (λ (s : Setting). s.metric_type) (sym begins.setting)) (begins.deferred k d)) begins.common fault) [
+                  elim (MembersFault-of constants labels k F begun ps (λ d. subst (λ (type : MetricType). OwnRefusal F k ⊎ LabelsFault k type [] (handed_again constants ++ labels)) (ap (λ (s : Setting). s.metric_type) (sym begins.setting)) (begins.deferred k accepting d)) (begins.common accepting) fault) [
                     | inl own ↦ inl (OwnRefusal-left k own)
                     | inr members ↦ inr (members_of labels ps, (ps, admitted, refl), subst (λ (x : Context). MembersFault k x (members_of labels ps)) same_context members)
                   ]

@@ -1,7 +1,6 @@
 //! The first refusal of an encoder.
-ghost use Rattle.std.specs.Prelude.{◌≡◌, None, Some, Ok, Err, OnOk};
-ghost use Rattle.fm_encode_error.specs.declared.EncodeError.{EncodeError};
-ghost use Rattle.fm_encoder.specs.Gathered.{own_refusal, result_of, IsOutcome};
+ghost use Rattle.std.specs.Prelude.{◌≡◌, Some, Err};
+ghost use Rattle.fm_encoder.specs.Gathered.{own_refusal, IsOutcome};
 
 use fm_encode_error::EncodeError;
 
@@ -33,24 +32,6 @@ impl FirstRefusal {
         match visited {
             Ok(()) => Ok(()),
             Err(error) => Err(own_refusal(error)),
-        }
-    }
-
-    // Keeps the first refusal, after the visited source returned `visited`, and returns it.
-    pub(crate) fn end(&mut self, visited: Result<(), EncodeError>) -> Result<(), EncodeError>
-        ensures kept { (k : EncodeError) → self.old.error ≡ Some k → self.new ≡ self.old }
-        ensures passed { visited ≡ Ok tt → self.new ≡ self.old }
-        ensures accepted { OnOk result ((self.old.error ≡ None) × (visited ≡ Ok tt)) }
-        ensures own { (e : EncodeError)
-            → self.old.error ≡ None → visited ≡ Err e → self.new.error ≡ Some (own_refusal e) }
-        ensures returned { result ≡ result_of self.new.error }
-    {
-        if let Some(error) = self.error {
-            return Err(error);
-        }
-        match visited {
-            Ok(()) => Ok(()),
-            Err(error) => self.refuse(own_refusal(error)),
         }
     }
 }

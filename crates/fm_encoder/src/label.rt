@@ -7,7 +7,7 @@ ghost use Rattle.fm_encoder.specs.Hands.{HandsPieces};
 ghost use Rattle.fm_encoder.specs.Takes.{Takes, TakesPieces, TakesLabels};
 ghost use Rattle.fm_encoder.specs.inside.Steps.{EndsLabel};
 
-use crate::first_refusal::FirstRefusal;
+use crate::first_refusal::{FirstRefusal, own_refusal};
 use crate::known_names::KnownNames;
 use crate::names::is_reserved;
 use fm_encode_error::EncodeError;
@@ -172,7 +172,12 @@ impl LabelEncoder {
     fn end_label(&mut self, visited: Result<(), EncodeError>) -> Result<(), EncodeError>
         ensures { Takes (EndsLabel visited self.old self.new) self.new.refused result }
     {
-        self.refused.end(visited)?;
+        if let Some(error) = self.refused.error {
+            return Err(error);
+        }
+        if let Err(error) = visited {
+            return self.refused.refuse(own_refusal(error));
+        }
         match (self.labels.is_named(), self.labels.is_valued()) {
             (false, false) => Ok(()),
             (true, true) => self.write_label(),

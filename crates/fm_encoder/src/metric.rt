@@ -287,10 +287,7 @@ impl MetricEncoder {
             (LS.may_fault labels.now ⊎ P.may_fault point.now)
             self.old self.new result }
     {
-        if let Some(error) = self.points.refused() {
-            return Err(error);
-        }
-        self.points.begin_member(&self.constants, kept, labels);
+        self.points.begin_member(&self.constants, kept, labels)?;
         let visited = point.encode(&mut self.points);
         self.points.end_points(visited)
     }

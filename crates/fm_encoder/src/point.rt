@@ -18,7 +18,7 @@ ghost use Rattle.fm_encoder.specs.Kept.{Keeps};
 ghost use Rattle.fm_encoder.specs.inside.Steps.{FitsType, BeginsPoint, BeginsMember, PushesSample, EndsPoints};
 
 use crate::constants::ConstantLabels;
-use crate::first_refusal::FirstRefusal;
+use crate::first_refusal::{FirstRefusal, own_refusal};
 use crate::kept::KeptLabels;
 use crate::label::LabelSetEncoder;
 use crate::label_set::EncodeLabelSet;
@@ -230,10 +230,8 @@ impl PointEncoder {
           exemplar = option_map exemplar_of exemplar;
         }) self.old self.new) self.new.refused result }
     {
-        match push_to(
-            &mut self.sink,
+        match self.sink.push(
             self.name.as_str(),
-            self.labels.metric_type(),
             kind,
             self.labels.text(),
             own,
@@ -264,10 +262,8 @@ impl PointEncoder {
           exemplar = option_map exemplar_of exemplar;
         }) self.old self.new) self.new.refused result }
     {
-        match push_to(
-            &mut self.sink,
+        match self.sink.push(
             self.name.as_str(),
-            self.labels.metric_type(),
             kind,
             self.labels.text(),
             &self.none,
@@ -278,12 +274,6 @@ impl PointEncoder {
             Ok(()) => Ok(()),
             Err(error) => self.refused.refuse(error),
         }
-    }
-
-    pub(crate) fn refused(&self) -> Option<EncodeError>
-        ensures { result ≡ self.now.refused }
-    {
-        self.refused.error
     }
 
     // The first refusal, after the visited source returned `visited`.
@@ -299,20 +289,24 @@ impl PointEncoder {
         self.time
     }
 
-    // Reads the common labels of the next points, or keeps their refusal for the first of them. Labels that were kept are copied.
+    // Reads the common labels of the next points, or keeps their refusal for the first of them. Labels that were kept are copied. An
+    // encoder that has refused something stays as it is.
     pub(crate) fn begin_member<LS: EncodeLabelSet>(
         &mut self,
         constants: &ConstantLabels,
         kept: Option<&KeptLabels>,
         labels: &LS,
-    )
+    ) -> Result<(), EncodeError>
         requires of_type { constants.now.metric_type ≡ self.old.setting.metric_type }
         requires kept { IfSome kept (λ k. Keeps (LS.labels labels.now) k.now) }
-        ensures { BeginsMember
+        ensures { Takes (BeginsMember
             (handed_again constants.now.labels ++ LS.labels labels.now)
             (LS.may_fault labels.now)
-            self.old self.new }
+            self.old self.new) self.new.refused result }
     {
+        if let Some(error) = self.refused.error {
+            return Err(error);
+        }
         match constants.followed_by(&mut self.labels, &mut self.sink, kept, labels) {
             Ok(()) => self.deferred = None,
             Err(error) => {
@@ -321,13 +315,18 @@ impl PointEncoder {
                 self.deferred = Some(error);
             }
         }
+        Ok(())
     }
 
     // Ends a member, after the point returned `visited`.
     pub(crate) fn end_points(&mut self, visited: Result<(), EncodeError>) -> Result<(), EncodeError>
         ensures { Takes (EndsPoints visited self.old self.new) self.new.refused result }
     {
-        self.refused.end(visited)
+        match (self.refused.error, visited) {
+            (Some(error), _) => Err(error),
+            (None, Ok(())) => Ok(()),
+            (None, Err(error)) => self.refused.refuse(own_refusal(error)),
+        }
     }
 
     // The family's name, and the sink.

@@ -74,14 +74,16 @@ pub record TestsStates (is_empty : Bool) (old new : GatheredPoints) : Type 0 whe
   pub passed : new.refused ≡ None → (is_empty ≡ true) ⊎ (¬ (Contains (label_names old.common) old.setting.name))
   pub refused : (k : EncodeError) → new.refused ≡ Some k → (k ≡ DuplicateLabel) × (is_empty ≡ false) × Contains (label_names old.common) old.setting.name
 
--- The labels of the next points are read: they are valid and written out, or their refusal is kept for the next point.
+-- The labels of the next points are read, unless something was refused before: they are valid and written out, or their refusal is kept
+-- for the next point.
 pub record BeginsMember (labels : List HandedLabel) (MayFault : Type 0) (old new : GatheredPoints) : Type 0 where
   pub setting : new.setting ≡ old.setting
   pub output : new.output ≡ old.output
   pub refused : new.refused ≡ old.refused
-  pub clean : new.deferred ≡ None → LabelsClean old.setting.metric_type [] labels
-  pub common : new.deferred ≡ None → new.common ≡ all_written labels
-  pub deferred : (k : EncodeError) → new.deferred ≡ Some k → OwnRefusal MayFault k ⊎ LabelsFault k old.setting.metric_type [] labels
+  pub kept : (k : EncodeError) → old.refused ≡ Some k → new ≡ old
+  pub clean : old.refused ≡ None → new.deferred ≡ None → LabelsClean old.setting.metric_type [] labels
+  pub common : old.refused ≡ None → new.deferred ≡ None → new.common ≡ all_written labels
+  pub deferred : (k : EncodeError) → old.refused ≡ None → new.deferred ≡ Some k → OwnRefusal MayFault k ⊎ LabelsFault k old.setting.metric_type [] labels
 
 -- The end of a member, after the point returned `visited`: an own error is refused.
 pub record EndsPoints (visited : Result (Unit {0}) EncodeError) (old new : GatheredPoints) : Type 0 where

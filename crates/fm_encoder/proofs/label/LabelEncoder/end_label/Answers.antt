@@ -5,9 +5,8 @@ use Rattle.fm_encoder.proofs.label.LabelEncoder.end_label.Goals as goal
 pub returns-in-true-true : goal.returns-in-true-true
 returns-in-true-true c =
     let labels = c.self.inside.labels in
-    let w = c.write_label.ensures in
-    let ended = (c.in_ok-end.ensures {u = tt}).accepted in
+    let w = rw (← c.self.view_is) at c.write_label.ensures in
     let named = sym (c.in-true-true.ensures {u = tt}) in
     let valued = sym (c.in-true-true.ensures' {u = tt}) in
-    let whole = EndsLabel-both _ labels.name labels.value _ _ ended.1 ended.0 named valued c.self.invariant.fits refl w.type_kept w.pieces w.labels w.refused in
+    let whole = EndsLabel-both _ labels.name labels.value _ _ c.in_default-visited.is c.in_default.is named valued c.self.invariant.fits refl w.type_kept w.pieces w.labels w.refused in
     record { handed = rw (← c.self.view_is) whole; answered = w.answered }
