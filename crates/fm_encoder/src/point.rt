@@ -57,6 +57,7 @@ pub trait EncodePoint {
 pub struct PointEncoder {
     alloc: Global,
     name: String,
+    metric_type: MetricType,
     time: Option<u128>,
     // The common labels of the next samples, if none of them was refused.
     labels: LabelSetEncoder,
@@ -77,7 +78,7 @@ impl Model for PointEncoder {
 
     ghost view = { λ e. record {
       setting =
-          record { name = string_bytes e.name; metric_type = e.labels.metric_type; time = e.time };
+          record { name = string_bytes e.name; metric_type = e.metric_type; time = e.time };
       common = e.labels.labels;
       deferred = e.deferred;
       output = e.sink.output;
@@ -148,6 +149,7 @@ impl PointEncoder {
         PointEncoder {
             alloc,
             name,
+            metric_type,
             time,
             labels: LabelSetEncoder::new(alloc, metric_type),
             deferred: None,
@@ -183,6 +185,7 @@ impl PointEncoder {
             }))) }
     {
         mem::swap(&mut self.name, name);
+        self.metric_type = metric_type;
         self.time = time;
         self.labels.begin(metric_type);
         self.sink.unshare();
@@ -198,7 +201,7 @@ impl PointEncoder {
         if let Some(error) = self.refused.error {
             return Err(error);
         }
-        if metric_type != self.labels.metric_type() {
+        if metric_type != self.metric_type {
             return self.refused.refuse(EncodeError::KindMismatch);
         }
         if let Some(error) = self.deferred {
@@ -310,7 +313,7 @@ impl PointEncoder {
         match constants.followed_by(&mut self.labels, &mut self.sink, kept, labels) {
             Ok(()) => self.deferred = None,
             Err(error) => {
-                self.labels.begin(self.labels.metric_type());
+                self.labels.begin(self.metric_type);
                 self.sink.unshare();
                 self.deferred = Some(error);
             }

@@ -80,7 +80,7 @@ impl PointEncoder {
             (BeginsBuckets metric_type buckets slots self.old self.new) self.new.refused result }
     {
         if self.refused.error.is_none()
-            && metric_type == self.labels.metric_type()
+            && metric_type == self.metric_type
             && buckets != slots
         {
             return self.refused.refuse(EncodeError::ExemplarCountMismatch);
@@ -158,7 +158,7 @@ impl PointEncoder {
         match push_to(
             &mut self.sink,
             self.name.as_str(),
-            self.labels.metric_type(),
+            self.metric_type,
             SampleKind::Bucket,
             self.labels.text(),
             own,
