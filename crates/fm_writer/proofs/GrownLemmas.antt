@@ -7,7 +7,7 @@ use Rattle.std.proofs.Math.ListN.{drop_of_length-le, get_or-map}
 use Rattle.fm_grammar.specs.Exposition.{Text, Label}
 use Rattle.fm_grammar.specs.Spelling.{label_text, label_list_text, label_block_text, in_braces}
 use Rattle.fm_exposition.specs.inside.DocumentRows.{further_labels}
-use Rattle.fm_exposition.proofs.RowLemmas.{label_list_is, list_joined}
+use Rattle.fm_exposition.proofs.RowLemmas.{label_list_is, list_joined, list_back}
 use Rattle.fm_writer.specs.inside.Grown.{Grown, Grows, IsLeft, IsLeftOf, size_of}
 
 pub grown_then : (a b c : Text → Type 0) (first second : Text) → Grows a b first → Grows b c second → Grows a c (first ++ second)
@@ -111,6 +111,9 @@ joined_whole a b front (first ∷ others) after some more g =
 pub joined_nothing : (a b : Text → Type 0) (front back : List Label) (after : Text) → length back ≡ 0 → Grows a b (label_list_text front ++ after) → Grows a b (label_list_text (front ++ back) ++ after)
 joined_nothing a b front [] after none g = rw (append-nil front) g
 joined_nothing a b front (first ∷ others) after none g = absurd (omega (arith, none))
+
+pub joined_behind : (a b : Text → Type 0) (front back : List Label) (after : Text) → length front ≡ 0 → Grows a b (label_list_text back ++ after) → Grows a b (label_list_text (front ++ back) ++ after)
+joined_behind a b front back after none g = rw (list_back front back none) g
 
 -- a block of two lists
 pub block_neither : (front back : List Label) → length front ≡ 0 → length back ≡ 0 → label_block_text (front ++ back) ≡ []

@@ -1,6 +1,6 @@
 -- The lines of a family, each appended in a few steps.
-use Rattle.std.proofs.Common.{◌≡◌, [], ◌++◌, codes, append_assoc, Option}
-use Rattle.fm_grammar.specs.Exposition.{Text, Sample}
+use Rattle.std.proofs.Common.{◌≡◌, List, [], ◌++◌, codes, append_assoc, Option}
+use Rattle.fm_grammar.specs.Exposition.{Text, Label, Sample}
 use Rattle.fm_grammar.specs.declared.MetricType.{MetricType}
 use Rattle.fm_grammar.specs.Kinds.{suffix_of, type_word}
 use Rattle.fm_grammar.specs.Spelling.{escaped, label_list_text, label_block_text, in_braces, value_text, time_text, exemplar_text, sample_line, type_line, help_line}
@@ -12,23 +12,27 @@ use Rattle.fm_writer.proofs.GrownLemmas.{grown_then, grown_nothing}
 abbrev pub after_value : Sample → Text
 after_value s = time_text s.time ++ (exemplar_text s.exemplar ++ codes "\n")
 
-bare_is : (name suffix value time exemplar : Text) → (name ++ (suffix ++ codes " ")) ++ (value ++ (time ++ (exemplar ++ codes "\n"))) ≡ (name ++ (suffix ++ (codes " " ++ (value ++ (time ++ exemplar))))) ++ codes "\n"
-bare_is name suffix value time exemplar = simp append_assoc
+-- what comes before the value
+abbrev pub before_value : Text → Text → List Label → Text
+before_value name suffix labels = name ++ (suffix ++ (label_block_text labels ++ codes " "))
 
-braced_is : (name suffix list value time exemplar : Text) → (name ++ (suffix ++ codes "{")) ++ ((list ++ codes "} ") ++ (value ++ (time ++ (exemplar ++ codes "\n")))) ≡ (name ++ (suffix ++ ((codes "{" ++ (list ++ codes "}")) ++ (codes " " ++ (value ++ (time ++ exemplar)))))) ++ codes "\n"
-braced_is name suffix list value time exemplar = simp append_assoc
+braced_is : (name suffix list : Text) → (name ++ (suffix ++ codes "{")) ++ (list ++ codes "} ") ≡ name ++ (suffix ++ ((codes "{" ++ (list ++ codes "}")) ++ codes " "))
+braced_is name suffix list = simp append_assoc
 
-pub row_bare : (a b c : Text → Type 0) (name : Text) (s : Sample) → label_block_text s.labels ≡ [] → Grows a b (name ++ (suffix_of s.kind ++ codes " ")) → Grows b c (value_text s.value ++ after_value s) → Grows a c (sample_row name s)
+row_is : (name suffix block value time exemplar : Text) → (name ++ (suffix ++ (block ++ codes " "))) ++ (value ++ (time ++ (exemplar ++ codes "\n"))) ≡ (name ++ (suffix ++ (block ++ (codes " " ++ (value ++ (time ++ exemplar)))))) ++ codes "\n"
+row_is name suffix block value time exemplar = simp append_assoc
+
+pub begun_bare : (a b : Text → Type 0) (name suffix : Text) (labels : List Label) → label_block_text labels ≡ [] → Grows a b (name ++ (suffix ++ codes " ")) → Grows a b (before_value name suffix labels)
+begun_bare a b name suffix labels none start = rw none start
+
+pub begun_braced : (a b c : Text → Type 0) (name suffix : Text) (labels : List Label) → label_block_text labels ≡ in_braces labels → Grows a b (name ++ (suffix ++ codes "{")) → Grows b c (label_list_text labels ++ codes "} ") → Grows a c (before_value name suffix labels)
+unfolding in_braces
+begun_braced a b c name suffix labels some start list = rw (some, ← braced_is name suffix (label_list_text labels)) (grown_then a b c _ _ start list)
+
+pub row_begun : (a b c : Text → Type 0) (name : Text) (s : Sample) → Grows a b (before_value name (suffix_of s.kind) s.labels) → Grows b c (value_text s.value ++ after_value s) → Grows a c (sample_row name s)
 unfolding sample_line
-row_bare a b c name s none start end =
-    let whole : Grows a c ((name ++ (suffix_of s.kind ++ codes " ")) ++ (value_text s.value ++ after_value s)) = grown_then a b c _ _ start end in
-    rw (none, ← bare_is name (suffix_of s.kind) (value_text s.value) (time_text s.time) (exemplar_text s.exemplar)) whole
-
-pub row_braced : (a b c d : Text → Type 0) (name : Text) (s : Sample) → label_block_text s.labels ≡ in_braces s.labels → Grows a b (name ++ (suffix_of s.kind ++ codes "{")) → Grows b c (label_list_text s.labels ++ codes "} ") → Grows c d (value_text s.value ++ after_value s) → Grows a d (sample_row name s)
-unfolding sample_line in_braces
-row_braced a b c d name s some start list end =
-    let whole : Grows a d ((name ++ (suffix_of s.kind ++ codes "{")) ++ ((label_list_text s.labels ++ codes "} ") ++ (value_text s.value ++ after_value s))) = grown_then a b d _ _ start (grown_then b c d _ _ list end) in
-    rw (some, ← braced_is name (suffix_of s.kind) (label_list_text s.labels) (value_text s.value) (time_text s.time) (exemplar_text s.exemplar)) whole
+row_begun a b c name s start end =
+    rw (← row_is name (suffix_of s.kind) (label_block_text s.labels) (value_text s.value) (time_text s.time) (exemplar_text s.exemplar)) (grown_then a b c _ _ start end)
 
 -- three pieces at once, and what comes after them, with or without the line feed
 pub grown_line : (a b c : Text → Type 0) (word name space rest : Text) → Grows a b (word ++ (name ++ space)) → Grows b c (rest ++ codes "\n") → Grows a c ((word ++ (name ++ (space ++ rest))) ++ codes "\n")

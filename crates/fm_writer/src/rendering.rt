@@ -6,7 +6,7 @@ ghost use Rattle.fm_exposition.specs.Rows.{sample_row};
 ghost use Rattle.fm_exposition.specs.Samples.{value_of, exemplar_at};
 ghost use Rattle.fm_writer.specs.inside.Grown.{Grows};
 
-use crate::labels::{LabelSource, append_in_braces, append_joined_list};
+use crate::labels::{LabelSource, append_in_braces};
 use crate::output::Output;
 use crate::plain::has_escape;
 use fm_exposition::{Exemplar, Value};
@@ -143,11 +143,19 @@ pub(crate) fn append_sample_row<O: Output, F: LabelSource<O>, G: LabelSource<O>>
         }))) }
 {
     let (name, suffix) = (name.as_bytes(), kind.suffix().as_bytes());
-    if common.len() == 0 && own.len() == 0 {
-        text.put_three(name, suffix, b" ")?;
-        return append_reading(text, value, time, exemplar);
+    if own.len() == 0 {
+        if common.len() == 0 {
+            text.put_three(name, suffix, b" ")?;
+        } else {
+            text.put_three(name, suffix, b"{")?;
+            common.append_before(text, b"} ")?;
+        }
+    } else {
+        text.put_three(name, suffix, b"{")?;
+        if common.len() > 0 {
+            common.append_before(text, b",")?;
+        }
+        own.append_before(text, b"} ")?;
     }
-    text.put_three(name, suffix, b"{")?;
-    append_joined_list(text, common, own, b"} ")?;
     append_reading(text, value, time, exemplar)
 }
