@@ -9,7 +9,7 @@ ghost use Rattle.fm_encoder.specs.Points.{UnknownPoint, GaugePoint, CounterPoint
 ghost use Rattle.fm_encoder.specs.Takes.{Takes, TakesPoints};
 ghost use Rattle.fm_encoder.specs.inside.Steps.{FitsType, PushesSamples};
 
-use crate::exemplar::{EncodeExemplar, exemplar_if_any};
+use crate::exemplar::{EncodeExemplar, exemplar_given};
 use crate::point::PointEncoder;
 use crate::value::{
     CounterValueEncoder, EncodeCounterValue, EncodeGaugeValue, EncodeUnknownValue,
@@ -74,9 +74,12 @@ impl PointEncoder {
             Ok(number) => number,
             Err(error) => return self.refused.refuse(error),
         };
-        let exemplar = match exemplar_if_any(self.alloc, exemplar) {
-            Ok(exemplar) => exemplar,
-            Err(error) => return self.refused.refuse(error),
+        let exemplar = match exemplar {
+            Some(exemplar) => match exemplar_given(self.alloc, exemplar) {
+                Ok(exemplar) => exemplar,
+                Err(error) => return self.refused.refuse(error),
+            },
+            None => None,
         };
         self.push_sample(SampleKind::Total, &number, exemplar)?;
         self.push_created(created)
