@@ -26,7 +26,7 @@ use crate::point::bound_label::BoundLabel;
 use fm_encode_error::EncodeError;
 use fm_exposition::{Exemplar, Value};
 use fm_grammar::{MetricType, SampleKind};
-use fm_writer::{LabelText, Sink};
+use fm_writer::{GrowingText, LabelText, Sink};
 use std::alloc::{AllocError, Global};
 use std::marker::Model;
 use std::mem;
@@ -66,6 +66,8 @@ pub struct PointEncoder {
     refused: FirstRefusal,
     // The labels of the buckets of the histogram before.
     bounds: Vec<BoundLabel>,
+    // The front of the lines of a histogram's buckets. Each histogram writes over it.
+    front: GrowingText,
     // The labels of a sample that has none of its own.
     none: LabelText,
 }
@@ -156,6 +158,7 @@ impl PointEncoder {
             sink,
             refused: FirstRefusal { error: None },
             bounds: Vec::new(alloc),
+            front: GrowingText::new(alloc),
             none: LabelText::new(alloc),
         }
     }

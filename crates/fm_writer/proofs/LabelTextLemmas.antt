@@ -14,7 +14,8 @@ use Rattle.fm_exposition.proofs.RowLemmas.{list_joined}
 use Rattle.fm_writer.specs.inside.Grown.{Grown}
 use Rattle.fm_writer.specs.declared.label_text.Part.{Part}
 use Rattle.fm_writer.specs.declared.label_text.Place.{Place}
-use Rattle.fm_writer.specs.inside.LabelTexts.{part_in, label_in, labels_in, names_in, IsPart, IsPlace, AreParts, AreWithin, IsListed, AreListed, name_in_list, list_before, LabelsState, whole_label, whole_place}
+use Rattle.fm_writer.specs.Front.{list_before}
+use Rattle.fm_writer.specs.inside.LabelTexts.{part_in, label_in, labels_in, names_in, IsPart, IsPlace, AreParts, AreWithin, IsListed, AreListed, name_in_list, LabelsState, whole_label, whole_place}
 
 -- a part of a text is the same part of a longer one
 same_between : (text more : Text) (i j : ℕ) → j ≤ length text → between i j (text ++ more) ≡ between i j text

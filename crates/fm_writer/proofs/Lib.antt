@@ -1,3 +1,4 @@
+pub mod FrontLemmas
 pub mod GrownLemmas
 pub mod OutputLemmas
 pub mod LabelTextLemmas

@@ -1,3 +1,4 @@
+pub mod Front
 pub mod Output
 pub mod Utf8
 pub mod inside

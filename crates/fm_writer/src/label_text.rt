@@ -1,5 +1,5 @@
 //! Labels that are kept in one text.
-ghost use Rattle.std.specs.Prelude.{◌≡◌, ◌++◌, ◌≤◌, ◌↔◌, IsTrue, [], ◌∷◌, length, drop, map, Contains, OnOk, OnErr, IfOk, Some, None, IsSome, true, is_some, codes, if◌then◌else◌, IfSome};
+ghost use Rattle.std.specs.Prelude.{◌≡◌, ◌++◌, ◌≤◌, ◌<◌, ◌↔◌, IsTrue, [], ◌∷◌, length, drop, map, Contains, OnOk, OnErr, IfOk, Some, None, IsSome, true, is_some, codes, if◌then◌else◌, IfSome};
 ghost use Rattle.std.specs.Option.{option_map};
 ghost use Rattle.std.specs.List.{AllByRecursion};
 ghost use Rattle.fm_grammar.specs.Spelling.{label_list_text, escaped};
@@ -337,6 +337,23 @@ impl LabelText {
         self.name = None;
         self.value = None;
         Ok(())
+    }
+
+    // Appends the front of a line, and then the labels with commas between them and the end of their block. Fails if memory runs out.
+    pub(crate) fn append_behind(
+        &self,
+        text: &mut GrowingText,
+        front: &GrowingText,
+    ) -> Result<(), AllocError>
+        requires { 0 < length self.now.labels }
+        ensures { OnOk result (Grown text.old text.new
+            (front.now ++ (label_list_text self.now.labels ++ codes "} "))) }
+    {
+        if !self.is_listed || self.name.is_some() || self.value.is_some() {
+            text.append(front.as_slice())?;
+            return self.append_before(text, b"} ");
+        }
+        text.put_three(front.as_slice(), self.text.as_slice(), b"\"} ")
     }
 
     /// The labels from an index on, as borrowed pairs. Fails if memory runs out.

@@ -1,6 +1,7 @@
 //! Rendering: a sink keeps samples or appends their lines to a text, and `encode_exposition` writes an exposition.
 #![tactic(auto)]
 
+mod front;
 mod growing;
 mod heads;
 mod label_list;
@@ -13,6 +14,7 @@ mod rendering;
 pub mod sink;
 mod writing;
 
+pub use front::render_front;
 pub use growing::GrowingText;
 pub use label_text::LabelText;
 pub use lines::Lines;

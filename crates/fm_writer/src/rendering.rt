@@ -94,7 +94,7 @@ fn append_exemplar<O: Output>(text: &mut O, exemplar: Option<&Exemplar>) -> Resu
 
 // Appends a value, a timestamp, an exemplar and a line feed.
 #[tactic(auto, using(crate::proofs::GrownLemmas::grown))]
-fn append_reading<O: Output>(
+pub(crate) fn append_reading<O: Output>(
     text: &mut O,
     value: &Value,
     time: Option<u128>,

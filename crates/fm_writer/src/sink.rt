@@ -1,11 +1,14 @@
 //! Where encoders put the samples of a family.
-ghost use Rattle.std.specs.Prelude.{◌≡◌, ◌++◌, None, Some, [], ◌∷◌, map, OnOk, OnErr, IfOk, IfErr};
+ghost use Rattle.std.specs.Prelude.{◌≡◌, ◌++◌, ◌<◌, length, None, Some, [], ◌∷◌, map, OnOk, OnErr, IfOk, IfErr};
 ghost use Rattle.std.specs.Option.{option_map, option_copied};
 ghost use Rattle.fm_encode_error.specs.declared.EncodeError.{EncodeError};
 ghost use Rattle.fm_exposition.specs.Rows.{head_rows};
 ghost use Rattle.fm_exposition.specs.Samples.{labels_of, shared_labels, shown_label, value_of, exemplar_of};
+ghost use Rattle.fm_writer.specs.Front.{line_front};
 ghost use Rattle.fm_writer.specs.Output.{OutputSamples, OutputText, AreShared, appended, with_lines, samples_in, lines_in};
 
+use crate::front::append_row_behind;
+use crate::growing::GrowingText;
 use crate::heads::append_heads;
 use crate::label_text::LabelText;
 use crate::lines::Lines;
@@ -200,6 +203,44 @@ impl Sink {
                     Err(_) => Err(EncodeError::Memory),
                 }
             }
+        }
+    }
+
+    /// Takes a sample as `push` does. The sample has labels of its own, and the front of its line was rendered before: samples of one
+    /// kind with the same common labels share it. A sink that keeps samples ignores it.
+    ///
+    /// Fails if memory runs out; then the lines may end in a part of a line.
+    pub fn push_behind(
+        &mut self,
+        front: &GrowingText,
+        name: &str,
+        kind: SampleKind,
+        common: &LabelText,
+        own: &LabelText,
+        value: &Value,
+        time: Option<u128>,
+        exemplar: Option<Exemplar>,
+    ) -> Result<(), EncodeError>
+        requires shared { AreShared common.now.labels self.old.shared }
+        requires front { front.now ≡ line_front name.now kind common.now.labels }
+        requires own { 0 < length own.now.labels }
+        ensures shared { self.new.shared ≡ self.old.shared }
+        ensures pushed { OnOk result (self.new.output ≡ appended name.now self.old.output (record {
+          kind = kind;
+          labels = common.now.labels ++ own.now.labels;
+          value = value_of value.now;
+          time = time;
+          exemplar = option_map exemplar_of exemplar;
+        } ∷ [])) }
+        ensures memory { IfErr result (λ e. e ≡ EncodeError.Memory) }
+    {
+        let Form::Lines(lines) = &mut self.form else {
+            return self.push(name, kind, common, own, value, time, exemplar);
+        };
+        let exemplar = exemplar.as_ref();
+        match append_row_behind(&mut lines.text, front, own, value, time, exemplar) {
+            Ok(()) => Ok(()),
+            Err(_) => Err(EncodeError::Memory),
         }
     }
 

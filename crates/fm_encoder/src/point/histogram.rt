@@ -1,11 +1,13 @@
 //! The points of histograms and gauge histograms.
-ghost use Rattle.std.specs.Prelude.{◌≡◌, ◌++◌, [], ◌∷◌, length, None, Some, pos, MatchOption, IfSome};
+ghost use Rattle.std.specs.Prelude.{◌≡◌, ◌++◌, [], ◌∷◌, length, None, Some, pos, MatchOption, IfSome, IfOk, IfErr, OnOk};
 ghost use Rattle.std.specs.Option.{option_map, option_map_or};
 ghost use Rattle.fm_grammar.specs.declared.MetricType.{MetricType};
 ghost use Rattle.fm_grammar.specs.WellFormed.{IsExemplar};
 ghost use Rattle.fm_grammar.specs.Exposition.{Whole};
 ghost use Rattle.fm_grammar.specs.declared.SampleKind.TheVariants.{Bucket as BucketKind};
+ghost use Rattle.fm_encode_error.specs.declared.EncodeError.{EncodeError};
 ghost use Rattle.fm_exposition.specs.Samples.{exemplar_of};
+ghost use Rattle.fm_writer.specs.Front.{line_front};
 ghost use Rattle.fm_encoder.specs.Points.{HistogramPoint, GaugeHistogramPoint, millis, plain_sample, bound_label};
 ghost use Rattle.fm_encoder.specs.Takes.{Takes, TakesPoints};
 ghost use Rattle.fm_encoder.specs.inside.Steps.{PushesSample};
@@ -14,12 +16,14 @@ ghost use Rattle.fm_encoder.specs.inside.BucketSteps.{HasBuckets, BeginsBuckets,
 
 use crate::exemplar::{EncodeExemplar, exemplar_if_any};
 use crate::point::bound_label::kept_label;
-use crate::point::{PointEncoder, push_to};
+use crate::point::PointEncoder;
 use fm_bucket::Bucket;
 use fm_encode_error::EncodeError;
 use fm_exposition::{Exemplar, Value};
 use fm_grammar::{MetricType, SampleKind};
 use fm_raw::fixed::FixedSum;
+use fm_writer::{GrowingText, render_front};
+use std::mem;
 use std::time::Duration;
 
 pub mod bare;
@@ -88,6 +92,26 @@ impl PointEncoder {
         self.begin_point(metric_type)
     }
 
+    // The front of the lines of buckets, under the family's name and the common labels. It takes the memory of the front before.
+    fn bucket_front(&mut self) -> Result<GrowingText, EncodeError>
+        ensures rendered { IfOk result
+            (λ front. front ≡ line_front self.old.setting.name BucketKind self.old.common) }
+        ensures kept { OnOk result (self.new ≡ self.old) }
+        ensures refused { IfErr result
+            (λ e. (e ≡ EncodeError.Memory) × (self.new ≡ record self.old { refused = Some e })) }
+    {
+        let mut front = mem::replace(&mut self.front, GrowingText::new(self.alloc));
+        match render_front(
+            &mut front,
+            self.name.as_str(),
+            SampleKind::Bucket,
+            self.labels.text(),
+        ) {
+            Ok(()) => Ok(front),
+            Err(_) => self.refused.refuse(EncodeError::Memory),
+        }
+    }
+
     // Adds a sample for each bucket, in order.
     fn push_buckets<E: EncodeExemplar>(
         &mut self,
@@ -102,21 +126,25 @@ impl PointEncoder {
             (MaySlotsFault E.may_fault exemplars.now)
             self.old self.new) self.new.refused result }
     {
+        let front = self.bucket_front()?;
         let mut values = 0;
         for i in 0..buckets.len() {
-            values = self.push_bucket(values, i, &buckets[i], exemplars[i])?;
+            values = self.push_bucket(&front, values, i, &buckets[i], exemplars[i])?;
         }
+        self.front = front;
         Ok(())
     }
 
     // Adds the sample of a bucket, given the count of values before it, and returns the count that includes the bucket's own.
     fn push_bucket<E: EncodeExemplar>(
         &mut self,
+        front: &GrowingText,
         before: u64,
         index: usize,
         bucket: &Bucket,
         exemplar: Option<&E>,
     ) -> Result<u64, EncodeError>
+        requires front { front.now ≡ line_front self.old.setting.name BucketKind self.old.common }
         requires accepting { self.old.refused ≡ None }
         requires buckets { HasBuckets self.old.setting.metric_type }
         ensures { PushesBucket before bucket.now
@@ -131,18 +159,20 @@ impl PointEncoder {
             Ok(exemplar) => exemplar,
             Err(error) => return self.refused.refuse(error),
         };
-        self.push_bound(index, bucket, values, exemplar)?;
+        self.push_bound(front, index, bucket, values, exemplar)?;
         Ok(values)
     }
 
     // Adds a sample that shows this count of values up to the bound.
     fn push_bound(
         &mut self,
+        front: &GrowingText,
         index: usize,
         bucket: &Bucket,
         values: u64,
         exemplar: Option<Exemplar>,
     ) -> Result<(), EncodeError>
+        requires front { front.now ≡ line_front self.old.setting.name BucketKind self.old.common }
         requires accepting { self.old.refused ≡ None }
         requires buckets { HasBuckets self.old.setting.metric_type }
         requires exemplar { IfSome exemplar (λ x. IsExemplar (exemplar_of x)) }
@@ -155,10 +185,9 @@ impl PointEncoder {
         let Ok(own) = kept_label(self.alloc, &mut self.bounds, index, bucket) else {
             return self.refused.refuse(EncodeError::Memory);
         };
-        match push_to(
-            &mut self.sink,
+        match self.sink.push_behind(
+            front,
             self.name.as_str(),
-            self.metric_type,
             SampleKind::Bucket,
             self.labels.text(),
             own,

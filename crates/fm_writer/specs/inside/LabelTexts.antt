@@ -5,6 +5,7 @@ use Rattle.std.specs.Str.{IsUtf8}
 use Rattle.std.specs.Option.{option_map}
 use Rattle.fm_grammar.specs.Exposition.{Text, Label}
 use Rattle.fm_grammar.specs.Spelling.{escaped, label_list_text}
+use Rattle.fm_writer.specs.Front.{list_before}
 use Rattle.fm_writer.specs.declared.label_text.Part.{Part}
 use Rattle.fm_writer.specs.declared.label_text.Place.{Place}
 
@@ -42,11 +43,6 @@ pub record AreParts (text : Text) (ps : List Place) (n v : Option Part) : Type 0
 abbrev pub name_in_list : Bool → Text → Text
 name_in_list true n = [] ++ (n ++ codes "=\"")
 name_in_list false n = codes "\"," ++ (n ++ codes "=\"")
-
--- the list of the labels before, with a comma after it
-abbrev pub list_before : List Label → Text
-list_before [] = []
-list_before (label ∷ labels) = label_list_text (label ∷ labels) ++ codes ","
 
 -- the text is the list of the labels, except for the quote at its end, and the parts of the current label
 abbrev pub IsListed : Option Text → Option Text → Text → List Label → Type 0

@@ -55,9 +55,11 @@ fn push_bare_buckets(points: &mut PointEncoder, buckets: &[Bucket]) -> Result<()
         (PushesBuckets buckets.now (map (λ _. []) buckets.now) ⊥ points.old points.new)
         points.new.refused result }
 {
+    let front = points.bucket_front()?;
     let mut values = 0;
     for i in 0..buckets.len() {
-        values = points.push_bucket(values, i, &buckets[i], None::<&()>)?;
+        values = points.push_bucket(&front, values, i, &buckets[i], None::<&()>)?;
     }
+    points.front = front;
     Ok(())
 }

@@ -1,0 +1,55 @@
+-- The front of a line, and a line that is appended behind it.
+use Rattle.std.proofs.Common.{◌≡◌, ◌<◌, List, [], ◌∷◌, ◌++◌, length, codes, append_assoc, append-nil, arith, ap, sym, refl, ◌∙◌}
+use Rattle.fm_grammar.specs.Exposition.{Text, Label, Sample}
+use Rattle.fm_grammar.specs.declared.SampleKind.{SampleKind}
+use Rattle.fm_grammar.specs.Kinds.{suffix_of}
+use Rattle.fm_grammar.specs.Spelling.{label_list_text, label_block_text, in_braces, value_text, time_text, exemplar_text, sample_line}
+use Rattle.fm_exposition.specs.Rows.{sample_row}
+use Rattle.fm_exposition.proofs.RowLemmas.{label_list_is, list_joined}
+use Rattle.fm_writer.specs.Front.{list_before, line_front}
+use Rattle.fm_writer.specs.Output.{OutputText, appended}
+use Rattle.fm_writer.specs.inside.Grown.{Grown, Grows}
+use Rattle.fm_writer.proofs.GrownLemmas.{block_back}
+use Rattle.fm_writer.proofs.RowLemmas.{after_value}
+
+-- the list of further labels, behind the front of a line, is the list of all
+list_behind : (common own : List Label) → 0 < length own → list_before common ++ label_list_text own ≡ label_list_text (common ++ own)
+list_behind [] own more = refl
+list_behind (first ∷ others) [] more = absurd (omega arith)
+list_behind (first ∷ others) (next ∷ back) more =
+    append_assoc (label_list_text (first ∷ others)) (codes ",") (label_list_text (next ∷ back))
+    ∙ ap (λ (t : Text). label_list_text (first ∷ others) ++ (codes "," ++ t)) (label_list_is next back)
+    ∙ sym (list_joined (first ∷ others) (next ∷ back) (omega arith))
+
+behind_is : (name suffix front list value time exemplar : Text) → ((name ++ (suffix ++ (codes "{" ++ front))) ++ (list ++ codes "} ")) ++ (value ++ (time ++ (exemplar ++ codes "\n"))) ≡ (name ++ (suffix ++ ((codes "{" ++ ((front ++ list) ++ codes "}")) ++ (codes " " ++ (value ++ (time ++ exemplar)))))) ++ codes "\n"
+behind_is name suffix front list value time exemplar = simp append_assoc
+
+-- what comes behind the front of a sample's line, if the sample has labels of its own
+row_behind : (name : Text) (common own : List Label) (s : Sample) → s.labels ≡ common ++ own → 0 < length own → (line_front name s.kind common ++ (label_list_text own ++ codes "} ")) ++ (value_text s.value ++ after_value s) ≡ sample_row name s
+unfolding sample_line in_braces line_front
+row_behind name common own s is more =
+    let block : label_block_text s.labels ≡ in_braces s.labels = rw is (block_back common own more) in
+    let list : list_before common ++ label_list_text own ≡ label_list_text s.labels = rw is (list_behind common own more) in
+    rw (block, ← list) (behind_is name (suffix_of s.kind) (list_before common) (label_list_text own) (value_text s.value) (time_text s.time) (exemplar_text s.exemplar))
+
+-- a text is the front of lines whose samples have no labels in common, or some
+pub front_bare : (name : Text) (kind : SampleKind) (common : List Label) (new : Text) → length common ≡ 0 → Grown [] new (name ++ (suffix_of kind ++ codes "{")) → new ≡ line_front name kind common
+unfolding line_front
+front_bare name kind [] new none start = start.bytes
+front_bare name kind (label ∷ labels) new none start = absurd (omega arith)
+
+pub front_listed : (name : Text) (kind : SampleKind) (common : List Label) (begun new : Text) → 0 < length common → Grown [] begun (name ++ (suffix_of kind ++ codes "{")) → Grows (λ t. begun ≡ t) (λ t. new ≡ t) (label_list_text common ++ codes ",") → new ≡ line_front name kind common
+unfolding line_front
+front_listed name kind [] begun new more start list = absurd (omega arith)
+front_listed name kind (label ∷ labels) begun new more start list =
+    let after = label_list_text (label ∷ labels) ++ codes "," in
+    list.grows (name ++ (suffix_of kind ++ codes "{")) start.bytes
+    ∙ append_assoc name (suffix_of kind ++ codes "{") after
+    ∙ ap (λ (t : Text). name ++ t) (append_assoc (suffix_of kind) (codes "{") after)
+
+-- a line that was appended behind its front is the line of a sample
+pub row_pushed : (old new front name : Text) (common own : List Label) (s : Sample) → s.labels ≡ common ++ own → 0 < length own → front ≡ line_front name s.kind common → Grown old new ((front ++ (label_list_text own ++ codes "} ")) ++ (value_text s.value ++ after_value s)) → OutputText new ≡ appended name (OutputText old) (s ∷ [])
+row_pushed old new front name common own s is more front_is grown =
+    let row : (front ++ (label_list_text own ++ codes "} ")) ++ (value_text s.value ++ after_value s) ≡ sample_row name s =
+    ap (λ (t : Text). (t ++ (label_list_text own ++ codes "} ")) ++ (value_text s.value ++ after_value s)) front_is ∙ row_behind name common own s is more in
+    ap OutputText (grown.bytes ∙ ap (λ (t : Text). old ++ t) (row ∙ sym (append-nil (sample_row name s))))

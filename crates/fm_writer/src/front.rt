@@ -1,0 +1,54 @@
+//! The front of a sample's line, which comes before the labels of its own.
+ghost use Rattle.std.specs.Prelude.{◌≡◌, ◌++◌, ◌<◌, length, codes, OnOk};
+ghost use Rattle.std.specs.Option.{option_map};
+ghost use Rattle.fm_grammar.specs.Spelling.{label_list_text, value_text, time_text, exemplar_text};
+ghost use Rattle.fm_exposition.specs.Samples.{value_of, exemplar_at};
+ghost use Rattle.fm_writer.specs.Front.{line_front};
+ghost use Rattle.fm_writer.specs.inside.Grown.{Grown};
+
+use crate::growing::GrowingText;
+use crate::label_text::LabelText;
+use crate::labels::LabelSource;
+use crate::output::Output;
+use crate::rendering::append_reading;
+use fm_exposition::{Exemplar, Value};
+use fm_grammar::SampleKind;
+use std::alloc::AllocError;
+
+/// Replaces a text by the front of the lines of samples of this kind, which have these labels in common. Fails if memory runs out; then
+/// nothing is known of the text.
+pub fn render_front(
+    front: &mut GrowingText,
+    name: &str,
+    kind: SampleKind,
+    common: &LabelText,
+) -> Result<(), AllocError>
+    ensures { OnOk result (front.new ≡ line_front name.now kind common.now.labels) }
+{
+    front.clear();
+    front.put_three(name.as_bytes(), kind.suffix().as_bytes(), b"{")?;
+    if common.len() == 0 {
+        return Ok(());
+    }
+    common.append_before(front, b",")
+}
+
+// Appends a sample's line: its front, the labels of its own, and what comes after them.
+pub(crate) fn append_row_behind(
+    text: &mut GrowingText,
+    front: &GrowingText,
+    own: &LabelText,
+    value: &Value,
+    time: Option<u128>,
+    exemplar: Option<&Exemplar>,
+) -> Result<(), AllocError>
+    requires { 0 < length own.now.labels }
+    ensures { OnOk result (Grown text.old text.new
+        ((front.now ++ (label_list_text own.now.labels ++ codes "} "))
+        ++ (value_text (value_of value.now)
+        ++ (time_text time
+        ++ (exemplar_text (option_map exemplar_at exemplar.entry) ++ codes "\n"))))) }
+{
+    own.append_behind(text, front)?;
+    append_reading(text, value, time, exemplar)
+}
