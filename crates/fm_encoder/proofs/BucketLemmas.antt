@@ -2,12 +2,16 @@
 use Rattle.std.proofs.Common.{◌≡◌, ◌<◌, ◌≤◌, ◌+◌, ◌^◌, ℕ, ℤ, pos, zero, suc, List, [], ◌∷◌, ◌++◌, length, get_or, take, map, Contains, ◌⊎◌, inl, inr, refl, Option, Some, None, Result, Ok, Err, sym, ap, subst, ◌∙◌, arith, append-nil, append_assoc, codes}
 use Rattle.std.specs.List.{AllByRecursion}
 use Rattle.std.specs.Borrow.{Bor}
+use Rattle.std.specs.Option.{option_map, IfSome}
 use Rattle.fm_grammar.specs.declared.MetricType.{MetricType}
 use Rattle.fm_grammar.specs.declared.MetricType.TheVariants.{Unknown, Gauge, Counter, StateSet, Info, Histogram, GaugeHistogram, Summary}
 use Rattle.fm_grammar.specs.Exposition.{Label, Value, Whole, Fixed, Sample}
 use Rattle.fm_grammar.specs.declared.SampleKind.{SampleKind}
-use Rattle.fm_grammar.specs.WellFormed.{ValueFits, IsSample}
+use Rattle.fm_grammar.specs.declared.SampleKind.TheVariants.{Bucket as BucketKind}
+use Rattle.fm_grammar.specs.WellFormed.{ValueFits, IsSample, AreLabels, AreMillis, IsExemplar, kinds_of}
 use Rattle.fm_grammar.specs.Names.{IsLabelName}
+use Rattle.fm_exposition.specs.declared.exposition.Exemplar.{Exemplar}
+use Rattle.fm_exposition.specs.Samples.{exemplar_of}
 use Rattle.fm_bucket.specs.declared.bound.Bucket.{Bucket}
 use Rattle.fm_writer.specs.Output.{Output, appended}
 use Rattle.fm_writer.proofs.OutputLemmas.{appended-append}
@@ -37,6 +41,22 @@ le_is_reserved Summary has = absurd has
 
 pub le_is_label_name : IsLabelName (codes "le")
 le_is_label_name = (inl (omega arith, omega arith), (inl (inl (omega arith, omega arith)), tt))
+
+has_bucket : (type : MetricType) → HasBuckets type → Contains (kinds_of type) BucketKind
+has_bucket Unknown has = absurd has
+has_bucket Gauge has = absurd has
+has_bucket Counter has = absurd has
+has_bucket StateSet has = absurd has
+has_bucket Info has = absurd has
+has_bucket Histogram has = (0, omega arith, refl)
+has_bucket GaugeHistogram has = (0, omega arith, refl)
+has_bucket Summary has = absurd has
+
+-- the sample of a bucket is well formed
+pub IsSample-bucket : (type : MetricType) (labels : List Label) (values : ℕ) (time : Option ℕ) (exemplar : Option Exemplar) → HasBuckets type → AreLabels labels → values < 2 ^ 64 → IfSome time AreMillis → IfSome exemplar (λ x. IsExemplar (exemplar_of x))
+    → IsSample type (record { kind = BucketKind; labels = labels; value = Whole (pos values); time = time; exemplar = option_map exemplar_of exemplar })
+IsSample-bucket type labels values time None has are fits millis is = record { kind = has_bucket type has; labels = are; suits = tt; value = fits; time = millis; allowed = tt; exemplar = tt }
+IsSample-bucket type labels values time (Some x) has are fits millis is = record { kind = has_bucket type has; labels = are; suits = tt; value = fits; time = millis; allowed = tt; exemplar = is }
 
 -- one bucket and its slot more
 pub bucket_samples-push : (setting : Setting) (common : List Label) (before buckets : List Bucket) (slots : List (List HandedExemplar)) (bucket : Bucket) (exemplars : List HandedExemplar) → length slots ≡ length buckets → bucket_samples setting common before (buckets ++ bucket ∷ []) (slots ++ exemplars ∷ []) ≡ bucket_samples setting common before buckets slots ++ bucket_sample setting common (before ++ buckets) bucket exemplars ∷ []

@@ -15,11 +15,12 @@ ghost use Rattle.fm_encoder.specs.Buckets.{slots_of, MaySlotsFault};
 ghost use Rattle.fm_encoder.specs.inside.BucketSteps.{HasBuckets, BeginsBuckets, PushesBucket, PushesBuckets};
 
 use crate::exemplar::{EncodeExemplar, exemplar_if_any};
-use crate::point::bound_label::kept_label;
 use crate::point::PointEncoder;
+use crate::point::bound_label::kept_label;
+use crate::point::totals::count_value;
 use fm_bucket::Bucket;
 use fm_encode_error::EncodeError;
-use fm_exposition::{Exemplar, Value};
+use fm_exposition::Exemplar;
 use fm_grammar::{MetricType, SampleKind};
 use fm_raw::fixed::FixedSum;
 use fm_writer::{GrowingText, render_front};
@@ -191,7 +192,7 @@ impl PointEncoder {
             SampleKind::Bucket,
             self.labels.text(),
             own,
-            &Value::Whole(i128::from(values)),
+            &count_value(values),
             self.time,
             exemplar,
         ) {

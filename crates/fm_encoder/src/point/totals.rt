@@ -19,7 +19,7 @@ use fm_raw::fixed::FixedSum;
 use std::time::Duration;
 
 // The value of a count.
-fn count_value(count: u64) -> Value
+pub(crate) fn count_value(count: u64) -> Value
     ensures value { result ≡ WholeValue (pos count) }
     ensures fits { ValueFits (Whole (pos count)) }
 {

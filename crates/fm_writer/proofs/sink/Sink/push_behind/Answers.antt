@@ -4,7 +4,7 @@ use Rattle.std.specs.Option.{option_map, option_copied}
 use Rattle.fm_grammar.specs.Exposition as grammar
 use Rattle.fm_exposition.specs.declared.exposition.Exemplar.{Exemplar}
 use Rattle.fm_exposition.specs.Samples.{value_of, exemplar_at, exemplar_of}
-use Rattle.fm_writer.specs.Output.{Output, OutputText, LinesState, SinkState}
+use Rattle.fm_writer.specs.Output.{OutputText, LinesState, SinkState}
 use Rattle.fm_writer.specs.inside.Forms.{sink_state}
 use Rattle.fm_writer.specs.declared.sink.Form.{Form}
 use Rattle.fm_writer.proofs.FrontLemmas.{row_pushed}
