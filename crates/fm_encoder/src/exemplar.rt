@@ -1,6 +1,6 @@
 //! Exemplars: what emits them, and the encoder that takes one of them.
-ghost use Rattle.std.specs.Prelude.{◌≡◌, ◌^◌, ◌⊎◌, List, [], ◌∷◌, MatchResult, MatchOption, Option, IfSome, None, Some, Err};
-ghost use Rattle.std.specs.Option.{option_map, option_map_or};
+ghost use Rattle.std.specs.Prelude.{◌≡◌, ◌^◌, ◌⊎◌, List, [], ◌∷◌, MatchResult, Option, IfSome, None, Some, Err};
+ghost use Rattle.std.specs.Option.{option_map};
 ghost use Rattle.fm_grammar.specs.declared.MetricType.TheVariants.{Unknown};
 ghost use Rattle.fm_grammar.specs.WellFormed.{IsBetween, IsExemplar, AreMillis};
 ghost use Rattle.fm_exposition.specs.Samples.{labels_of, exemplar_of};
@@ -195,23 +195,4 @@ pub(crate) fn exemplar_given<E: EncodeExemplar>(
     } = encoder;
     refused.outcome(visited)?;
     Ok(exemplar)
-}
-
-// The same for a source that may be missing.
-pub(crate) fn exemplar_if_any<E: EncodeExemplar>(
-    alloc: Global,
-    exemplar: Option<&E>,
-) -> Result<Option<Exemplar>, EncodeError>
-    ensures { let handed = option_map_or (λ e. E.exemplars e.now) exemplar.entry [] in
-        MatchResult result
-        (λ found. ExemplarClean handed
-        × (option_map exemplar_of found ≡ written_exemplar handed)
-        × IfSome found (λ x. IsExemplar (exemplar_of x)))
-        (λ k. OwnRefusal (MatchOption exemplar.entry ⊥ (λ e. E.may_fault e.now)) k
-        ⊎ ExemplarFault k handed) }
-{
-    match exemplar {
-        Some(exemplar) => exemplar_given(alloc, exemplar),
-        None => Ok(None),
-    }
 }

@@ -1,17 +1,17 @@
 //! Points: what emits them, and the encoder that puts their samples into a sink.
-ghost use Rattle.std.specs.Prelude.{◌≡◌, ◌⊎◌, ◌++◌, List, [], ◌∷◌, MatchResult, None, Some, OnOk, IfErr, IfSome, string_bytes};
+ghost use Rattle.std.specs.Prelude.{◌≡◌, ◌++◌, List, [], None, Some, OnOk, IfSome, string_bytes};
 ghost use Rattle.std.specs.Option.{option_map, option_copied};
 ghost use Rattle.fm_grammar.specs.Names.{IsSnakeCase};
 ghost use Rattle.fm_grammar.specs.declared.MetricType.{MetricType};
-ghost use Rattle.fm_grammar.specs.WellFormed.{AreLabels, AreMillis, IsSample};
+ghost use Rattle.fm_grammar.specs.WellFormed.{AreLabels, AreMillis};
 ghost use Rattle.fm_encode_error.specs.declared.EncodeError.{EncodeError};
 ghost use Rattle.fm_exposition.specs.Rows.{head_rows};
 ghost use Rattle.fm_exposition.specs.Samples.{value_of, exemplar_of};
-ghost use Rattle.fm_writer.specs.Output.{AreShared, appended, with_lines};
+ghost use Rattle.fm_writer.specs.Output.{AreShared, with_lines};
 ghost use Rattle.fm_encoder.specs.Points.{Point};
-ghost use Rattle.fm_encoder.specs.Labels.{LabelsClean, LabelsFault, all_written, handed_again};
+ghost use Rattle.fm_encoder.specs.Labels.{handed_again};
 ghost use Rattle.fm_encoder.specs.inside.FreeLabels.{AreFree};
-ghost use Rattle.fm_encoder.specs.Gathered.{OwnRefusal, IsOutcome};
+ghost use Rattle.fm_encoder.specs.Gathered.{IsOutcome};
 ghost use Rattle.fm_encoder.specs.Takes.{Takes};
 ghost use Rattle.fm_encoder.specs.Hands.{HandsPoints};
 ghost use Rattle.fm_encoder.specs.Kept.{Keeps};
@@ -90,43 +90,6 @@ impl Model for PointEncoder {
     ghost use Rattle.fm_encoder.specs.inside.Gathering.{IsGathering};
 
     ghost invariant = { IsGathering };
-}
-
-// Puts a sample into a sink. The sample's own labels come after the common ones.
-fn push_to(
-    sink: &mut Sink,
-    name: &str,
-    metric_type: MetricType,
-    kind: SampleKind,
-    common: &LabelText,
-    own: &LabelText,
-    value: &Value,
-    time: Option<u128>,
-    exemplar: Option<Exemplar>,
-) -> Result<(), EncodeError>
-    requires labels { AreLabels (common.now.labels ++ own.now.labels) }
-    requires shared { AreShared common.now.labels sink.old.shared }
-    requires fits { FitsType metric_type kind
-        (value_of value.now) (option_map exemplar_of exemplar) }
-    requires time { IfSome time AreMillis }
-    ensures shared { sink.new.shared ≡ sink.old.shared }
-    ensures formed { IsSample metric_type (record {
-      kind = kind;
-      labels = common.now.labels ++ own.now.labels;
-      value = value_of value.now;
-      time = time;
-      exemplar = option_map exemplar_of exemplar;
-    }) }
-    ensures pushed { OnOk result (sink.new.output ≡ appended name.now sink.old.output (record {
-      kind = kind;
-      labels = common.now.labels ++ own.now.labels;
-      value = value_of value.now;
-      time = time;
-      exemplar = option_map exemplar_of exemplar;
-    } ∷ [])) }
-    ensures memory { IfErr result (λ e. e ≡ EncodeError.Memory) }
-{
-    sink.push(name, kind, common, own, value, time, exemplar)
 }
 
 impl PointEncoder {

@@ -107,7 +107,11 @@ pub(crate) fn append_reading<O: Output>(
 {
     let (mut whole, mut fixed) = (Buffer::new(), FixedBuffer::new());
     let value = match value {
-        Value::Whole(number) => whole.format(*number),
+        // The digits of a number that fits 64 bits take fewer steps.
+        Value::Whole(number) => match i64::try_from(*number) {
+            Ok(number) => whole.format(number),
+            Err(_) => whole.format(*number),
+        },
         Value::Fixed(sum) => fixed.format(*sum),
         Value::Millis(millis) => fixed.format_millis(*millis),
     };

@@ -1,5 +1,5 @@
 //! The points of histograms and gauge histograms.
-ghost use Rattle.std.specs.Prelude.{◌≡◌, ◌++◌, [], ◌∷◌, length, None, Some, pos, MatchOption, IfSome, IfOk, IfErr, OnOk};
+ghost use Rattle.std.specs.Prelude.{◌≡◌, [], ◌∷◌, length, None, Some, pos, MatchOption, IfSome, IfOk, IfErr, OnOk};
 ghost use Rattle.std.specs.Option.{option_map, option_map_or};
 ghost use Rattle.fm_grammar.specs.declared.MetricType.{MetricType};
 ghost use Rattle.fm_grammar.specs.WellFormed.{IsExemplar};
@@ -14,7 +14,7 @@ ghost use Rattle.fm_encoder.specs.inside.Steps.{PushesSample};
 ghost use Rattle.fm_encoder.specs.Buckets.{slots_of, MaySlotsFault};
 ghost use Rattle.fm_encoder.specs.inside.BucketSteps.{HasBuckets, BeginsBuckets, PushesBucket, PushesBuckets};
 
-use crate::exemplar::{EncodeExemplar, exemplar_if_any};
+use crate::exemplar::{EncodeExemplar, exemplar_given};
 use crate::point::PointEncoder;
 use crate::point::bound_label::kept_label;
 use crate::point::totals::count_value;
@@ -156,9 +156,12 @@ impl PointEncoder {
         let Some(values) = before.checked_add(bucket.count()) else {
             return self.refused.refuse(EncodeError::BucketOverflow);
         };
-        let exemplar = match exemplar_if_any(self.alloc, exemplar) {
-            Ok(exemplar) => exemplar,
-            Err(error) => return self.refused.refuse(error),
+        let exemplar = match exemplar {
+            Some(exemplar) => match exemplar_given(self.alloc, exemplar) {
+                Ok(exemplar) => exemplar,
+                Err(error) => return self.refused.refuse(error),
+            },
+            None => None,
         };
         self.push_bound(front, index, bucket, values, exemplar)?;
         Ok(values)

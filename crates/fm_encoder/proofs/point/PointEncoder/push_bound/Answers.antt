@@ -10,7 +10,7 @@ pub returns-in-Ok-push_behind : goal.returns-in-Ok-push_behind
 returns-in-Ok-push_behind c =
     let common = c.self.inside.labels.labels in
     let label = bound_label c.args.bucket.now.upper_bound in
-    let buckets : HasBuckets c.self.inside.labels.metric_type = subst (λ (p : GatheredPoints). HasBuckets p.setting.metric_type) (sym c.self.view_is) c.requires.buckets in
+    let buckets : HasBuckets c.self.inside.metric_type = subst (λ (p : GatheredPoints). HasBuckets p.setting.metric_type) (sym c.self.view_is) c.requires.buckets in
     let accepting : c.self.inside.refused.error ≡ None = subst (λ (p : GatheredPoints). p.refused ≡ None) (sym c.self.view_is) c.requires.accepting in
     let labels = AreLabels-own _ common (common ++ label ∷ []) label c.self.invariant.labels c.self.invariant.free (le_is_reserved _ buckets) le_is_label_name refl in
     let formed = IsSample-bucket _ _ c.args.values _ c.args.exemplar buckets labels (omega arith) c.self.invariant.time c.requires.exemplar in
