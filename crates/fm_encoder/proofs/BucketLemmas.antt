@@ -18,10 +18,10 @@ use Rattle.fm_writer.proofs.OutputLemmas.{appended-append}
 use Rattle.fm_encoder.specs.Labels.{IsReserved}
 use Rattle.fm_grammar.proofs.Runs.{all_append}
 use Rattle.fm_encode_error.specs.declared.EncodeError.{EncodeError}
-use Rattle.fm_encoder.specs.Points.{HandedExemplar, Setting, Point, ExemplarClean, values_in, BucketsClean, BucketsFault, PartsClean, type_of, point_samples, bucket_line, bucket_sample, bucket_samples}
+use Rattle.fm_encoder.specs.Points.{PartsFault, HandedExemplar, Setting, Point, ExemplarClean, values_in, BucketsClean, BucketsFault, PartsClean, type_of, point_samples, bucket_line, bucket_sample, bucket_samples}
 use Rattle.fm_encoder.specs.Gathered.{GatheredPoints, OwnRefusal, result_of}
 use Rattle.fm_encoder.specs.Hands.{SamePlace, HandsPoints, points_samples}
-use Rattle.fm_encoder.specs.inside.Steps.{FitsType, PushesSample, PushesSamples}
+use Rattle.fm_encoder.specs.inside.Steps.{BeginsPoint, FitsType, PushesSample, PushesSamples}
 use Rattle.fm_encoder.specs.Buckets.{slots_of}
 use Rattle.fm_encoder.specs.inside.BucketSteps.{HasBuckets, HasTotals, BeginsBuckets, PushesBucket, PushesBuckets}
 use Rattle.std.proofs.lemmas.List.{take_more, length-map}
@@ -282,6 +282,22 @@ HandsPoints-made point xs F old begun new place output kept begun_none type defe
       own = λ e none r. (let not : Ok tt ≡ Err e = rw none at r in absurd cc);
       refused = λ k o e. inl (inl (push.refused k e));
     }
+
+-- a point whose first tests passed, and what refuses it then
+pub HandsPoints-refused : (point : Point) (F : Type 0) (old begun new : GatheredPoints) (k : EncodeError) → BeginsPoint (type_of point) old begun → begun.refused ≡ None → new ≡ record begun { refused = Some k } → OwnRefusal F k ⊎ PartsFault k old.setting old.common point → HandsPoints (λ ps. ps ≡ point ∷ []) F old new (Err k)
+HandsPoints-refused point F old begun new k begins begun_none is fault = record {
+  place = subst (SamePlace old) (sym is) (record { setting = begins.place.setting; common = begins.place.common; deferred = begins.place.deferred });
+  kept = λ j e. (let same : begun ≡ old = begins.kept j e in absurd cc);
+  handed = λ o none r. absurd cc;
+  own = λ e none r. (let refused : new.refused ≡ Some k = ap (λ (g : GatheredPoints). g.refused) is in absurd cc);
+  refused = λ j o e.
+      (let refused : new.refused ≡ Some k = ap (λ (g : GatheredPoints). g.refused) is in
+      let same : k ≡ j = cc in
+      elim fault [
+        | inl own ↦ inl (subst (OwnRefusal F) same own)
+        | inr parts ↦ inr (point ∷ [], refl, inl (inr (inr (begins.no_deferred begun_none, subst (λ (l : EncodeError). PartsFault l old.setting old.common point) same parts))))
+      ]);
+}
 
 -- a point with buckets: its first tests, its buckets, and the totals after them
 pub HandsPoints-buckets : (point : Point) (totals : Setting → List Label → List Sample) (buckets : List Bucket) (slots : List (List HandedExemplar)) (F : Type 0) (n : ℕ) (old begun pushed new : GatheredPoints) → ((common : List Label) → BucketsClean buckets slots → PartsClean old.setting common point) → ((common : List Label) → point_samples old.setting common point ≡ bucket_samples old.setting common [] buckets slots ++ totals old.setting common) → length slots ≡ n → BeginsBuckets (type_of point) (length buckets) n old begun → begun.refused ≡ None → PushesBuckets buckets slots F begun pushed → pushed.refused ≡ None → PushesSamples (totals pushed.setting pushed.common) pushed new → HandsPoints (λ ps. ps ≡ point ∷ []) F old new (result_of new.refused)

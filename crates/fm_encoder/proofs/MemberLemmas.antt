@@ -68,7 +68,7 @@ OwnRefusal-left : {F G : Type 0} (k : EncodeError) → OwnRefusal F k → OwnRef
 OwnRefusal-left k (inl m) = inl m
 OwnRefusal-left k (inr f) = inr (f.0, inl f.1)
 
-OwnRefusal-right : {F G : Type 0} (k : EncodeError) → OwnRefusal G k → OwnRefusal (F ⊎ G) k
+pub OwnRefusal-right : {F G : Type 0} (k : EncodeError) → OwnRefusal G k → OwnRefusal (F ⊎ G) k
 OwnRefusal-right k (inl m) = inl m
 OwnRefusal-right k (inr f) = inr (f.0, inr f.1)
 

@@ -1,5 +1,5 @@
 //! Labels: what emits them, and the encoders that gather them.
-ghost use Rattle.std.specs.Prelude.{◌≡◌, [], ◌∷◌, ◌++◌, Bool, Some, None, Ok, Err, OnOk};
+ghost use Rattle.std.specs.Prelude.{◌≡◌, ◌↔◌, IsTrue, IfOk, ℕ, List, [], ◌∷◌, ◌++◌, Bool, ◌⊎◌, Some, None, Ok, Err, OnOk, MatchResult};
 ghost use Rattle.fm_encode_error.specs.declared.EncodeError.{EncodeError};
 ghost use Rattle.fm_encoder.specs.Labels.{HandedLabel, NamePiece, ValuePiece, written};
 ghost use Rattle.fm_encoder.specs.Gathered.{GatheredPieces, GatheredLabels, result_of, IsOutcome};

@@ -1,8 +1,8 @@
 // The labels of a sample's line, appended to an output.
-ghost use Rattle.std.specs.Prelude.{◌≡◌, ◌++◌, List, length, codes, OnOk};
+ghost use Rattle.std.specs.Prelude.{◌≡◌, ◌++◌, List, length, map, codes, OnOk};
 ghost use Rattle.fm_grammar.specs.Exposition.{Label};
 ghost use Rattle.fm_grammar.specs.Spelling.{escaped, label_text, label_list_text, in_braces};
-ghost use Rattle.fm_exposition.specs.inside.DocumentRows.{further_labels};
+ghost use Rattle.fm_exposition.specs.inside.DocumentRows.{further_label, further_labels};
 ghost use Rattle.fm_exposition.specs.Samples.{label_of, labels_of};
 ghost use Rattle.fm_writer.specs.inside.Grown.{Grows};
 
