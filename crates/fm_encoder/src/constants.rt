@@ -7,7 +7,7 @@ ghost use Rattle.fm_encoder.specs.Labels.{LabelsClean, LabelsFault, all_written,
 ghost use Rattle.fm_encoder.specs.Gathered.{OwnRefusal};
 ghost use Rattle.fm_encoder.specs.Kept.{Keeps};
 
-use crate::gathered::{labels_behind, push_label};
+use crate::gathered::{push_label, read_labels};
 use crate::kept::KeptLabels;
 use crate::label::LabelSetEncoder;
 use crate::label_set::{EncodeLabelSet, encode_written};
@@ -136,9 +136,15 @@ impl ConstantLabels {
         if let Some(error) = self.refusal {
             return Err(error);
         }
-        match labels_behind(encoder, &self.labels, kept, labels) {
-            Ok(()) => Ok(sink.share(encoder.text())?),
-            Err(error) => Err(error),
+        if self.labels.len() > 0 {
+            encoder.restart(&self.labels)?;
+            read_labels(encoder, labels)?;
+        } else if let Some(kept) = kept {
+            encoder.restart(&kept.labels)?;
+        } else {
+            encoder.begin(self.metric_type);
+            read_labels(encoder, labels)?;
         }
+        Ok(sink.share(encoder.text())?)
     }
 }

@@ -1,11 +1,9 @@
 // Labels that are gathered after other labels.
-ghost use Rattle.std.specs.Prelude.{◌≡◌, ◌⊎◌, ◌++◌, [], ◌∷◌, None, OnOk, MatchResult, ◌≤◌, length, drop, map, IfOk, IfSome};
+ghost use Rattle.std.specs.Prelude.{◌≡◌, ◌⊎◌, ◌++◌, [], ◌∷◌, None, OnOk, MatchResult, ◌≤◌, length, drop, map, IfOk};
 ghost use Rattle.fm_exposition.specs.Samples.{shown_label};
 ghost use Rattle.fm_encoder.specs.Labels.{LabelsClean, LabelsFault, all_written};
 ghost use Rattle.fm_encoder.specs.Gathered.{OwnRefusal};
-ghost use Rattle.fm_encoder.specs.Kept.{Keeps};
 
-use crate::kept::KeptLabels;
 use crate::label::LabelSetEncoder;
 use crate::label_set::EncodeLabelSet;
 use fm_encode_error::EncodeError;
@@ -25,30 +23,19 @@ pub(crate) fn push_label(text: &mut LabelText, name: &str, value: &str) -> Resul
     text.end_label()
 }
 
-// Replaces the encoder's labels by copies of the labels before, followed by those that a label set emits. If no labels come before,
-// and these were kept, they are copied.
-pub(crate) fn labels_behind<LS: EncodeLabelSet>(
+// Adds the labels that a label set emits, behind those that the encoder has.
+pub(crate) fn read_labels<LS: EncodeLabelSet>(
     encoder: &mut LabelSetEncoder,
-    before: &LabelText,
-    kept: Option<&KeptLabels>,
     labels: &LS,
 ) -> Result<(), EncodeError>
-    requires kept { IfSome kept (λ k. Keeps (LS.labels labels.now) k.now) }
+    requires accepting { encoder.old.refused ≡ None }
     ensures type_kept { encoder.new.metric_type ≡ encoder.old.metric_type }
     ensures gathered { MatchResult result
-        (λ _. LabelsClean encoder.old.metric_type before.now.labels (LS.labels labels.now)
-        × (encoder.new.labels ≡ before.now.labels ++ all_written (LS.labels labels.now)))
+        (λ _. LabelsClean encoder.old.metric_type encoder.old.labels (LS.labels labels.now)
+        × (encoder.new.labels ≡ encoder.old.labels ++ all_written (LS.labels labels.now)))
         (λ k. OwnRefusal (LS.may_fault labels.now) k
-        ⊎ LabelsFault k encoder.old.metric_type before.now.labels (LS.labels labels.now)) }
+        ⊎ LabelsFault k encoder.old.metric_type encoder.old.labels (LS.labels labels.now)) }
 {
-    if before.len() == 0 {
-        if let Some(kept) = kept {
-            return Ok(encoder.restart(&kept.labels)?);
-        }
-        encoder.begin(encoder.metric_type());
-    } else {
-        encoder.restart(before)?;
-    }
     if labels.is_empty() {
         return Ok(());
     }

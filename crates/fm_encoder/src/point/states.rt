@@ -7,7 +7,7 @@ ghost use Rattle.fm_encoder.specs.States.{state_of};
 ghost use Rattle.fm_encoder.specs.Takes.{Takes, TakesPoints};
 ghost use Rattle.fm_encoder.specs.inside.Steps.{PushesSample, PushesSamples, TestsStates};
 
-use crate::gathered::{labels_behind, labels_from, push_label};
+use crate::gathered::{labels_from, push_label, read_labels};
 use crate::label::LabelSetEncoder;
 use crate::label_set::EncodeLabelSet;
 use crate::point::PointEncoder;
@@ -96,7 +96,10 @@ impl PointEncoder {
     {
         self.begin_point(MetricType::Info)?;
         let mut all = LabelSetEncoder::new(self.alloc, self.metric_type);
-        if let Err(error) = labels_behind(&mut all, self.labels.text(), None, labels) {
+        if let Err(_) = all.restart(self.labels.text()) {
+            return self.refused.refuse(EncodeError::Memory);
+        }
+        if let Err(error) = read_labels(&mut all, labels) {
             return self.refused.refuse(error);
         }
         match labels_from(self.alloc, all.text(), self.labels.text().len()) {
