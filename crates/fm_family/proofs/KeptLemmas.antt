@@ -27,7 +27,7 @@ kept_count labels (e ∷ es) [] h = absurd h
 kept_count labels (e ∷ es) (x ∷ kept) h = ap suc (kept_count labels es kept h.1)
 
 -- those of a member
-pub kept_at : {L M : Type 0} (labels : L → List HandedLabel) (es : List (L × M)) (kept : List (Option (List Label))) (i : ℕ) (p : L × M) (k : Option (List Label)) → AreKept labels (keys_of es) kept → slice_get es i ≡ Some p → k ≡ get_or kept i k → IfSome k (Keeps (labels p.0))
+pub kept_at : {L M : Type 0} (labels : L → List HandedLabel) (es : List (L × M)) (kept : List (Option (List Label))) (i : ℕ) (p : L × M) (k : Option (List Label)) → AreKept labels (keys_of es) kept → Some p ≡ slice_get es i → k ≡ get_or kept i k → IfSome k (Keeps (labels p.0))
 kept_at labels [] kept zero p k h at has = absurd cc
 kept_at labels [] kept (suc i) p k h at has = absurd cc
 kept_at labels (e ∷ es) [] i p k h at has = absurd h

@@ -1,6 +1,7 @@
 -- What a label set's clone does to a look-up.
 use Rattle.std.proofs.Common.{◌≡◌, ℕ, ◌<◌, Bool, true, List, [], ◌∷◌, ◌++◌, length, Option, None, Some, is_some, refl, sym, ap, ◌∙◌, arith, length-append}
-use Rattle.std.proofs.Common.{zero, suc, take, slice_get}
+use Rattle.std.proofs.Common.{zero, suc, take, slice_get, Any, ◌+◌}
+use Rattle.std.proofs.lemmas.Option.{slice_get_within, get_or_from_slice_get}
 use Rattle.std.specs.Cmp.{IsEquivalence}
 use Rattle.std.specs.List.{IsDistinct}
 use Rattle.std.specs.Map.{keys_of, values_of, lookup}
@@ -8,7 +9,7 @@ use Rattle.std.proofs.Common.{IsSome, ◌⊎◌, true≢false}
 use Rattle.fm_raw.specs.declared.error.MetricError.TheVariants.{Memory}
 use Rattle.std.proofs.Common.{Result, Ok, Err, MatchOption}
 use Rattle.fm_raw.specs.declared.error.MetricError.{MetricError}
-use Rattle.fm_family.specs.Members.{OffersFirst, OffersDifferent, GetsOrAdds}
+use Rattle.fm_family.specs.Members.{OffersFirst, OffersDifferent, GetsOrAdds, MayFault}
 use Rattle.fm_family.specs.inside.Indexed.{HoldsMetric}
 use Rattle.std.proofs.Math.Seq.{take-append_seam}
 use Rattle.fm_encode_error.specs.declared.EncodeError.{EncodeError}
@@ -16,7 +17,7 @@ use Rattle.fm_encoder.specs.Labels.{HandedLabel}
 use Rattle.fm_encoder.specs.Points.{Point, Member}
 use Rattle.fm_encoder.specs.Gathered.{GatheredMembers, result_of}
 use Rattle.fm_encoder.specs.Hands.{HandsMembers, OffersOf, MembersOf}
-use Rattle.fm_encoder.proofs.MemberLemmas.{HandsMembers-then, HandsMembers-weaker, OffersOf-push}
+use Rattle.fm_encoder.proofs.MemberLemmas.{HandsMembers-then, HandsMembers-weaker, HandsMembers-more, OffersOf-push}
 use Rattle.indexmap.specs.IndexMap.{IndexMap, get, get_by, insert_entry}
 use Rattle.indexmap.proofs.MapLemmas.{distinct-take}
 use Rattle.indexmap.proofs.CallerLemmas.{insert_entry-new}
@@ -49,6 +50,17 @@ keys_of-take (suc n) (e ∷ es) = ap (λ t. e.0 ∷ t) (keys_of-take n es)
 pub offers_next : {L M : Type 0} {F : Type 0} (labels : L → List HandedLabel) (Points : M → List Point → Type 0) (pairs : List (L × M)) (pair : L × M) (old mid new : GatheredMembers) (r : Result (Unit {0}) EncodeError) → HandsMembers (OffersOf labels Points pairs) F old mid (Ok tt) → (old.refused ≡ None → mid.refused ≡ None) → HandsMembers (MembersOf (labels pair.0) (Points pair.1)) F mid new r → HandsMembers (OffersOf labels Points (pairs ++ pair ∷ [])) F old new r
 offers_next labels Points pairs pair old mid new r before accepted one =
     HandsMembers-weaker old new r (OffersOf-push labels Points pairs pair) (λ fault. fault) (HandsMembers-then old mid new (Ok tt) r before refl accepted one)
+
+-- the member at an index was offered after those before it
+pub offers_member : {L M : Type 0} (labels : L → List HandedLabel) (Points : M → List Point → Type 0) (label_faults : L → Type 0) (metric_faults : M → Type 0) (all : List (L × M)) (i : ℕ) (key : L) (metric : M) (old mid new : GatheredMembers) (r : Result (Unit {0}) EncodeError) → slice_get all i ≡ Some (key, metric)
+    → HandsMembers (OffersOf labels Points (take i all)) (Any (MayFault label_faults metric_faults) all) old mid (Ok tt) → (old.refused ≡ None → mid.refused ≡ None) → HandsMembers (MembersOf (labels key) (Points metric)) (label_faults key ⊎ metric_faults metric) mid new r
+    → HandsMembers (OffersOf labels Points (take (i + 1) all)) (Any (MayFault label_faults metric_faults) all) old new r
+offers_member {L} {M} labels Points label_faults metric_faults all i key metric old mid new r there before accepted one =
+    let pair : L × M = (key, metric) in
+    let within = slice_get_within all i pair there in
+    let read = get_or_from_slice_get all i pair pair there in
+    let wider = HandsMembers-weaker {G = Any (MayFault label_faults metric_faults) all} mid new r (λ ms m. m) (λ (fault : label_faults key ⊎ metric_faults metric). (i, pair, within, read, fault)) one in
+    HandsMembers-more labels Points all i pair within (sym read) old mid new r before accepted wider
 
 -- the pairs up to this one are the first of all
 pub offers_first : {L M : Type 0} (labels : L → List HandedLabel) (Points : M → List Point → Type 0) (all pairs rest : List (L × M)) → all ≡ pairs ++ rest → (ms : List Member) → OffersOf labels Points pairs ms → OffersFirst labels Points all ms

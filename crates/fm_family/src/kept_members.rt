@@ -3,8 +3,7 @@ ghost use Rattle.std.specs.Prelude.{◌≡◌, ◌<◌, ◌↔◌, ◌++◌, ◌
 ghost use Rattle.indexmap.specs.IndexMap.{get, values, index_of, IsUnique};
 ghost use Rattle.fm_encoder.specs.Points.{Member, MembersClean, members_samples};
 ghost use Rattle.fm_encoder.specs.Output.{appended};
-ghost use Rattle.fm_encoder.specs.Hands.{HandsMembers, MembersOf, OffersOf};
-ghost use Rattle.fm_encoder.specs.Takes.{TakesMembers};
+ghost use Rattle.fm_encoder.specs.Hands.{HandsMembers, OffersOf};
 ghost use Rattle.fm_family.specs.Members.{OffersFirst, MayFault};
 
 use fm_encode_error::EncodeError;
@@ -114,19 +113,6 @@ impl<LS: EncodeLabelSet + Eq + Hash + Drop, M: Drop, S: BuildHasher> KeptMembers
 }
 
 impl<LS: EncodeLabelSet + Eq + Hash, M: EncodePoint, S: BuildHasher> KeptMembers<LS, M, S> {
-    // Encodes the points of the member at an index under its labels.
-    fn encode_at(&self, place: usize, encoder: &mut MetricEncoder) -> Result<(), EncodeError>
-        requires { place < length self.now.entries }
-        ensures { (pair : LS × M) × (slice_get self.now.entries place ≡ Some pair)
-            × TakesMembers (MembersOf (LS.labels pair.0) (M.points pair.1))
-            (MayFault LS.may_fault M.may_fault pair) encoder.old encoder.new result }
-    {
-        let Some((labels, metric)) = self.members.get_index(place) else {
-            unreachable!()
-        };
-        encoder.encode_kept(self.labels[place].as_ref(), labels, metric)
-    }
-
     // Encodes each member's points under its labels, in order, up to the first error, which is returned.
     pub(crate) fn encode_members(&self, encoder: &mut MetricEncoder) -> Result<(), EncodeError>
         ensures offered { HandsMembers (OffersFirst LS.labels M.points self.now.entries)
@@ -142,7 +128,10 @@ impl<LS: EncodeLabelSet + Eq + Hash, M: EncodePoint, S: BuildHasher> KeptMembers
         ensures different { IsUnique LS.eq self.now }
     {
         for place in 0..self.members.len() {
-            self.encode_at(place, encoder)?;
+            let Some((labels, metric)) = self.members.get_index(place) else {
+                unreachable!()
+            };
+            encoder.encode_kept(self.labels[place].as_ref(), labels, metric)?;
         }
         Ok(())
     }

@@ -1,49 +1,38 @@
-use Rattle.std.proofs.Common.{◌≡◌, ◌⊎◌, ◌<◌, ◌≤◌, ◌+◌, sym, refl, length, take, Any, arith}
-use Rattle.std.proofs.lemmas.List.{take_all}
-use Rattle.std.proofs.lemmas.Option.{get_or_from_slice_get}
+use Rattle.std.proofs.Common.{◌<◌, ◌+◌, sym, length, arith}
 use Rattle.std.proofs.lemmas.Result.{err_from_is_err_and}
-use Rattle.fm_encoder.proofs.MemberLemmas.{HandsMembers-weaker, HandsMembers-nothing, HandsMembers-more}
-use Rattle.fm_family.specs.Members.{MayFault}
-use Rattle.fm_family.proofs.MemberLemmas.{accepted}
+use Rattle.fm_encoder.specs.Kept.{Keeps}
+use Rattle.fm_encoder.proofs.MemberLemmas.{HandsMembers-weaker}
+use Rattle.fm_family.proofs.KeptLemmas.{kept_count, kept_at, lent_if}
+use Rattle.fm_family.proofs.MemberLemmas.{accepted, offers_member}
 use Rattle.fm_family.proofs.kept_members.KeptMembers.encode_members.Goals as goal
 
-pub loop-place-init : goal.loop-place-init
-loop-place-init g c = record { offered = HandsMembers-nothing _ refl; accepting = λ o. o }
+pub index-requires : goal.index-requires
+index-requires g c =
+    let inside = c.self.inside in
+    let counted = kept_count g.LS.EncodeLabelSet.labels inside.members.entries inside.labels.items c.self.invariant in
+    let within : c.loop-place.place < length inside.members.entries = omega arith in
+    omega arith
+
+pub encode_kept-requires : goal.encode_kept-requires
+encode_kept-requires g c =
+    let inside = c.self.inside in let labels = g.LS.EncodeLabelSet.labels in
+    let kept = kept_at labels inside.members.entries inside.labels.items c.loop-place.place (c.in-Some.labels.now, c.in-Some.metric.now) c.index.result.now c.self.invariant c.in-Some.ensures.entry c.index.ensures in
+    record { kept = lent_if (Keeps (labels c.in-Some.labels.now)) c.as_ref.result c.index.result.now c.as_ref.ensures.value kept }
 
 pub loop-place-preserved : goal.loop-place-preserved
 loop-place-preserved g c =
     let LS = g.LS.EncodeLabelSet in let M = g.M.EncodePoint in
-    let xs = c.args.self.now.entries in let i = c.loop-place.place in
-    let h = c.encode_at.ensures in let x = h.0 in
-    let small : i < length c.self.inside.members.entries = omega arith in
-    let within : i < length xs = rw (← c.self.view_is) small in
-    let read = get_or_from_slice_get xs i x x h.1 in
-    let one = HandsMembers-weaker {G = Any (MayFault LS.may_fault M.may_fault) xs} _ _ _ (λ ms m. m) (λ (fault : LS.may_fault x.0 ⊎ M.may_fault x.1). (i, x, within, read, fault)) h.2.handed in
+    let one = rw c.in_ok-encode_kept.was at c.encode_kept.ensures.handed in
     record {
-      offered = HandsMembers-more LS.labels M.points xs i x within (sym read) _ _ _ _ c.loop-place.invariant.offered c.loop-place.invariant.accepting (rw c.in_ok-encode_at.was at one);
-      accepting = λ o. accepted _ _ c.in_ok-encode_at.was c.encode_at.ensures.2.answered;
+      offered = offers_member LS.labels M.points LS.may_fault M.may_fault c.args.self.now.entries c.loop-place.place c.in-Some.labels.now c.in-Some.metric.now _ _ _ _ (rw (← c.self.view_is) (sym c.in-Some.ensures.entry)) c.loop-place.invariant.offered c.loop-place.invariant.accepting one;
+      accepting = λ o. accepted _ _ c.in_ok-encode_kept.was c.encode_kept.ensures.answered;
     }
 
-pub returns-clause-offered : goal.returns-clause-offered
-returns-clause-offered g c =
-    HandsMembers-weaker _ _ _ (λ ms offered. (c.loop-place.place, offered)) (λ fault. fault) c.loop-place.invariant.offered
-
-pub returns-clause-all : goal.returns-clause-all
-returns-clause-all g c =
-    let xs = c.args.self.now.entries in
-    let all : length c.self.inside.members.entries ≤ c.loop-place.place = omega arith in
-    let whole : take c.loop-place.place xs ≡ xs = take_all c.loop-place.place xs (rw (← c.self.view_is) all) in
-    λ o n _. (rw whole at c.loop-place.invariant.offered).handed o n refl
-
-pub returns-in_err-encode_at-clause-offered : goal.returns-in_err-encode_at-clause-offered
-returns-in_err-encode_at-clause-offered g c =
+pub returns-in_err-encode_kept-clause-offered : goal.returns-in_err-encode_kept-clause-offered
+returns-in_err-encode_kept-clause-offered g c =
     let LS = g.LS.EncodeLabelSet in let M = g.M.EncodePoint in
-    let xs = c.args.self.now.entries in let i = c.loop-place.place in
-    let h = c.encode_at.ensures in let x = h.0 in
-    let small : i < length c.self.inside.members.entries = omega arith in
-    let within : i < length xs = rw (← c.self.view_is) small in
-    let read = get_or_from_slice_get xs i x x h.1 in
-    let one = HandsMembers-weaker {G = Any (MayFault LS.may_fault M.may_fault) xs} _ _ _ (λ ms m. m) (λ (fault : LS.may_fault x.0 ⊎ M.may_fault x.1). (i, x, within, read, fault)) h.2.handed in
+    let i = c.loop-place.place in
+    let one = rw c.in_err-encode_kept.was at c.encode_kept.ensures.handed in
     let exit = err_from_is_err_and c.from_residual.result c.from_residual.ensures.1 in
-    let done = HandsMembers-more LS.labels M.points xs i x within (sym read) _ _ _ _ c.loop-place.invariant.offered c.loop-place.invariant.accepting (rw c.in_err-encode_at.was at one) in
+    let done = offers_member LS.labels M.points LS.may_fault M.may_fault c.args.self.now.entries i c.in-Some.labels.now c.in-Some.metric.now _ _ _ _ (rw (← c.self.view_is) (sym c.in-Some.ensures.entry)) c.loop-place.invariant.offered c.loop-place.invariant.accepting one in
     rw (exit.1, exit.2) (HandsMembers-weaker _ _ _ (λ ms offered. (i + 1, offered)) (λ fault. fault) done)
