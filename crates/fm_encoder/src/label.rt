@@ -223,13 +223,6 @@ impl LabelSetEncoder {
         }
     }
 
-    // The type of the labels' family.
-    pub(crate) fn metric_type(&self) -> MetricType
-        ensures { result ≡ self.now.metric_type }
-    {
-        self.label.metric_type
-    }
-
     // The labels so far.
     pub(crate) fn text(&self) -> &LabelText
         ensures { result.now.labels ≡ self.now.labels }
