@@ -82,24 +82,21 @@ impl PointEncoder {
             None => None,
         };
         self.push_sample(SampleKind::Total, &number, exemplar)?;
-        self.push_created(created)
+        match created {
+            Some(created) => self.push_created(created),
+            None => Ok(()),
+        }
     }
 
-    // Adds the sample of a time of creation, if there is one.
-    pub(crate) fn push_created(&mut self, created: Option<Duration>) -> Result<(), EncodeError>
+    // Adds the sample of a time of creation.
+    pub(crate) fn push_created(&mut self, created: Duration) -> Result<(), EncodeError>
         requires accepting { self.old.refused ≡ None }
         requires kind { Contains (kinds_of self.old.setting.metric_type) CreatedKind }
         ensures { Takes (PushesSamples
-            (created_samples self.old.setting self.old.common (option_map millis created))
+            (created_samples self.old.setting self.old.common (Some (millis created)))
             self.old self.new) self.new.refused result }
     {
-        match created {
-            Some(time) => self.push_sample(
-                SampleKind::Created,
-                &Value::Millis(time.as_millis()),
-                None,
-            ),
-            None => Ok(()),
-        }
+        let created = Value::Millis(created.as_millis());
+        self.push_sample(SampleKind::Created, &created, None)
     }
 }

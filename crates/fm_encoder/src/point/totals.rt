@@ -52,7 +52,10 @@ impl PointEncoder {
             self.old self.new) self.new.refused result }
     {
         self.push_count_and_sum(SampleKind::Count, count, SampleKind::Sum, sum)?;
-        self.push_created(created)
+        match created {
+            Some(created) => self.push_created(created),
+            None => Ok(()),
+        }
     }
 
     // Adds a sample of how many values there are, and one of their sum.

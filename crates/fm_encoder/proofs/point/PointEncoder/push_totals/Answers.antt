@@ -1,5 +1,4 @@
-use Rattle.std.proofs.Common.{◌≡◌, ◌⊎◌, inl, inr, refl, ap, subst, sym, arith, Contains}
-use Rattle.std.specs.Option.{option_map}
+use Rattle.std.proofs.Common.{◌≡◌, ◌⊎◌, Some, inl, inr, refl, ap, subst, sym, arith, Contains}
 use Rattle.fm_grammar.specs.declared.MetricType.{MetricType}
 use Rattle.fm_grammar.specs.declared.MetricType.TheVariants.{Histogram, Summary}
 use Rattle.fm_grammar.specs.declared.SampleKind.TheVariants.{Count, Sum, Created}
@@ -21,12 +20,13 @@ push_created-requires-clause-kind c =
     let same = ap (λ (s : Setting). s.metric_type) c.push_count_and_sum.ensures.handed.place.setting in
     type_has_created _ (subst (λ (t : MetricType). (t ≡ Histogram) ⊎ (t ≡ Summary)) (sym same) c.requires.has_created)
 
-pub returns : goal.returns
-returns c =
+pub returns-in-Some : goal.returns-in-Some
+returns-in-Some c =
     let old = c.args.self.now in
-    let created = option_map millis c.args.created in
     let pushed = none_from_answer _ c.push_count_and_sum.ensures.answered c.in_ok-push_count_and_sum.was in
+    let totals = total_samples old.setting old.common Count Sum c.args.count c.args.sum in
+    let all = PushesSamples-then totals (λ s ls. created_samples s ls (Some (millis c.in-Some.created))) old _ _ c.push_count_and_sum.ensures.handed pushed c.push_created.ensures.handed in
     record {
-      handed = PushesSamples-then (total_samples old.setting old.common Count Sum c.args.count c.args.sum) (λ s ls. created_samples s ls created) old _ _ c.push_count_and_sum.ensures.handed pushed c.push_created.ensures.handed;
+      handed = rw (c.in-Some.is) all;
       answered = c.push_created.ensures.answered;
     }
