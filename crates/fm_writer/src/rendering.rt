@@ -105,13 +105,16 @@ pub(crate) fn append_reading<O: Output>(
         ++ (time_text time
         ++ (exemplar_text (option_map exemplar_at exemplar.entry) ++ codes "\n")))) }
 {
+    // Most lines end so, and these digits take the fewest steps.
+    if let (Value::Whole(number), None, None) = (value, time, exemplar) {
+        if let Ok(number) = i64::try_from(*number) {
+            let mut digits = Buffer::new();
+            return text.put_three(digits.format(number).as_bytes(), b"\n", b"");
+        }
+    }
     let (mut whole, mut fixed) = (Buffer::new(), FixedBuffer::new());
     let value = match value {
-        // The digits of a number that fits 64 bits take fewer steps.
-        Value::Whole(number) => match i64::try_from(*number) {
-            Ok(number) => whole.format(number),
-            Err(_) => whole.format(*number),
-        },
+        Value::Whole(number) => whole.format(*number),
         Value::Fixed(sum) => fixed.format(*sum),
         Value::Millis(millis) => fixed.format_millis(*millis),
     };

@@ -84,10 +84,7 @@ impl PointEncoder {
         ensures { Takes
             (BeginsBuckets metric_type buckets slots self.old self.new) self.new.refused result }
     {
-        if self.refused.error.is_none()
-            && metric_type == self.metric_type
-            && buckets != slots
-        {
+        if self.refused.error.is_none() && metric_type == self.metric_type && buckets != slots {
             return self.refused.refuse(EncodeError::ExemplarCountMismatch);
         }
         self.begin_point(metric_type)
