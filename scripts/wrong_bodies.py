@@ -1,0 +1,263 @@
+#!/usr/bin/env python3
+"""Tries the wrong bodies of the crates, each of which the check must refuse.
+
+    scripts/wrong_bodies.py [--follow LOG] [CRATE..]        those of all crates, or of these
+
+A crate lists its wrong bodies in must-fail/wrong_bodies.md: below a heading of its own, a line `file: src/FILE`, and pairs of lines
+`old: TEXT` and `new: TEXT`. Each old text stands in the file once.
+
+Many wrong bodies are tried together: one check of a copy of the crate, in which they all stand, says of each function what it can't prove.
+A function is proved from its own body and from the contracts of what it calls, never from another body. So a wrong body is refused where the
+check names something of its own function: a goal that is not proved, or an error in the function's own proof. Two wrong bodies of functions of
+one name are tried in two checks. One of whose function a check says nothing is tried by itself, and then any refusal counts.
+
+The libraries below a crate have to be built, in the crates' out/rlib, as `rt ci` leaves them. With --follow LOG, the output of an `rt ci` that
+still runs, a crate is tried once it is proved there, with half of the processors until the run ends; the libraries are linked into a
+folder as they are proved, since the run's end may put back older ones. Prints a line for each wrong body, and then 'N refused, M not refused';
+the status is 0 if M is 0.
+"""
+import argparse
+import os
+import re
+import shutil
+import subprocess
+import sys
+import tempfile
+import threading
+import time
+
+TOP = os.path.dirname(os.path.dirname(os.path.realpath(__file__)))
+KIT = os.path.dirname(subprocess.run(["rt", "doc"], stdout=subprocess.PIPE, text=True, check=True).stdout.strip())
+
+FUNCTION = re.compile(r" *(?:pub(?:\(crate\))? )?(?:const )?fn (\w+)")
+IMPL = re.compile(r"impl\b(?:<.*?>)? (?:(\w+) for )?(\w+)(?:<.*>)? \{$")
+
+
+def text_of(path):
+    with open(path, encoding="utf-8", errors="replace") as file:
+        return file.read()
+
+
+class Function:
+    """The function around a line of a file, with its attributes."""
+
+    def __init__(self, file, lines, at):
+        fn = next((i for i in range(at, -1, -1) if FUNCTION.match(lines[i])), None)
+        indent = "" if fn is None else re.match(" *", lines[fn])[0]
+        last = next((i for i in range(fn or 0, len(lines)) if lines[i] == indent + "}"), -1)
+        # Outside functions, as in a constant, there is the line alone.
+        is_within = fn is not None and fn <= at <= last
+        self.file, self.first, self.last = file, fn if is_within else at, last if is_within else at
+        self.name = FUNCTION.match(lines[fn])[1] if is_within else ""
+        while self.first > 0 and re.match(r" *(#\[|//)", lines[self.first - 1]):
+            self.first -= 1
+        module = [it for it in file.removesuffix(".rt").split("/")[1:] if it not in ("lib", "main")]
+        head = next((IMPL.match(it) for it in reversed(lines[:fn]) if it.startswith("impl")), None) if is_within and indent else None
+        # What --only takes: the end of the function's path, or the module for what has none.
+        path = [head[2] + (head[1] or ""), self.name] if head else [*module, self.name] if is_within and not indent else module
+        self.path = "::".join(path)
+
+    def refused_by(self, said):
+        """What a check says that it can't prove or refuses of this function, or None."""
+        for line in said.split("\n"):
+            here = re.match(rf"note: (?:\./)?{self.file}:(\d+):\d+: it is not proved ", line)
+            if here and self.first <= int(here[1]) - 1 <= self.last:
+                return line
+            if self.name and re.match(rf"(?:\./)?proofs/(?:\S+/)?\+?{self.name}/\w+\.antt:\d+:\d+: error", line):
+                return line
+        return None
+
+
+class WrongBody:
+    """A mistake in functions of a file: pairs of an old and a new text, one line each."""
+
+    def __init__(self, crate, title):
+        self.crate, self.title, self.file, self.pairs = crate, title, "", []
+
+    def functions(self):
+        """The functions that it changes."""
+        text, found = text_of(f"{self.crate.folder}/{self.file}"), []
+        for old, _ in self.pairs:
+            if text.count(old) != 1:
+                sys.exit(f"{self.crate.name}, {self.title}: an old text stands in {self.file} {text.count(old)} times, and not once")
+            found.append(Function(self.file, text.split("\n"), text[: text.index(old)].count("\n")))
+        return found
+
+    def stand_in(self, folder):
+        """Replaces what is right in a copy of the crate."""
+        text = text_of(f"{folder}/{self.file}")
+        for old, new in self.pairs:
+            text = text.replace(old, new)
+        with open(f"{folder}/{self.file}", "w", encoding="utf-8") as file:
+            file.write(text)
+
+
+class Crate:
+    """A crate of crates.txt: its name, and the libraries that its line names."""
+
+    def __init__(self, name, libraries):
+        self.name, self.libraries, self.folder = name, libraries, f"{TOP}/crates/{name}"
+
+    def wrong_bodies(self):
+        found, path = [], f"{self.folder}/must-fail/wrong_bodies.md"
+        for line in text_of(path).split("\n") if os.path.isfile(path) else []:
+            word, _, text = line.partition(" ")
+            if word == "##":
+                found.append(WrongBody(self, text))
+            elif word == "file:":
+                found[-1].file = text
+            elif word == "old:":
+                found[-1].pairs.append([text, ""])
+            elif word == "new:":
+                found[-1].pairs[-1][1] = text
+        return found
+
+    def batches(self):
+        """Its wrong bodies, in lists of which none has two of functions of one name."""
+        found = []
+        for wrong in self.wrong_bodies():
+            names = {it.name for it in wrong.functions()}
+            taken, batch = next((it for it in found if not it[0] & names), (set(), []))
+            if not batch:
+                found.append((taken, batch))
+            taken |= names
+            batch.append(wrong)
+        return [batch for _, batch in found]
+
+    def below(self, crates):
+        """The libraries of this repository that it is built on."""
+        found, left = [], list(self.libraries)
+        while left:
+            name = left.pop(0)
+            if name in crates and name not in found:
+                found.append(name)
+                left += crates[name].libraries
+        return [crates[name] for name in found]
+
+    def words(self, crates, run):
+        """The words of a check of it, on the libraries of a run."""
+        rlib = lambda name: f"{run.rlibs(crates[name])}/{name}.rlib" if name in crates else f"{KIT}/rlibs/{name}.rlib"
+        root = next(it for it in ("src/main.rt", "src/lib.rt") if os.path.isfile(f"{self.folder}/{it}"))
+        words = [f"{KIT}/bin/rattle", "check", "--crate-name", self.name, root, "-L", f"dependency={KIT}/rlibs"]
+        for name in ["std", *self.libraries]:
+            words += ["--extern", f"{name}={rlib(name)}"]
+        for crate in self.below(crates):
+            words += ["-L", f"dependency={os.path.dirname(rlib(crate.name))}"]
+        words += ["--antt-project", f"{KIT}/rattle/logic/antt-project.json", "--logic-built", f"{KIT}/logic_built"]
+        return [*words, "--links", f"{self.name}=", "--jobs", "1"]
+
+    def checked_with(self, wrongs, crates, run, kept, is_whole=False):
+        """What a check of the functions of these wrong bodies, or of the whole crate, says of a copy in which they stand. What is proved is kept for the next."""
+        with tempfile.TemporaryDirectory(prefix="wrong-bodies-") as room:
+            for part in ("src", "specs", "proofs"):
+                if os.path.isdir(f"{self.folder}/{part}"):
+                    shutil.copytree(f"{self.folder}/{part}", f"{room}/{part}")
+            for wrong in wrongs:
+                wrong.stand_in(room)
+            paths = {it.path for wrong in wrongs for it in wrong.functions()}
+            only = [word for path in sorted(paths) for word in ("--only", path)] if "" not in paths and not is_whole else []
+            how = {"stdin": subprocess.DEVNULL, "stdout": subprocess.PIPE, "stderr": subprocess.STDOUT, "errors": "replace"}
+            return subprocess.run([*self.words(crates, run), "--incremental", kept, *only], cwd=room, **how).stdout
+
+    def tried(self, crates, run):
+        """Each of its wrong bodies, with what refuses it, or None."""
+        answers = []
+        with tempfile.TemporaryDirectory(prefix="wrong-bodies-kept-") as kept:
+            for batch in self.batches():
+                said = self.checked_with(batch, crates, run, kept)
+                for wrong in batch:
+                    found = next(filter(None, (it.refused_by(said) for it in wrong.functions())), None) if is_refusal(said) else None
+                    if not found and is_refusal(self.checked_with([wrong], crates, run, kept, is_whole=True)):
+                        found = "the crate is not proved with it alone"
+                    answers.append((wrong, found))
+        return answers
+
+
+def is_refusal(said):
+    """Whether a check came to its verdict, and this is that something is not proved."""
+    last = said.rstrip("\n").split("\n")[-1]
+    only = re.match(r"only=(\d+) proved=(\d+)$", last)
+    return last.startswith("logic=not-proved") or only is not None and only[1] != only[2]
+
+
+def crates_of():
+    """The crates of crates.txt by their names."""
+    found = {}
+    for line in text_of(f"{TOP}/crates.txt").split("\n"):
+        head, _, libraries = line.partition("#")[0].partition(":")
+        if head.strip():
+            found[head.split()[0]] = Crate(head.split()[0], libraries.split())
+    return found
+
+
+class Run:
+    """The `rt ci` that proves the crates: one that may still run, by its output, or one that has ended before."""
+
+    def __init__(self, log, room):
+        self.log, self.room, self.proved, self.has_ended = log, room, set(), False
+
+    def is_over(self):
+        return not self.log or re.search(r"^\d+ passed, \d+ failed", text_of(self.log), re.M) is not None
+
+    def rlibs(self, crate):
+        """The folder of a library that is proved."""
+        return f"{self.room}/{crate.name}" if self.log else f"{crate.folder}/out/rlib"
+
+    def watch(self, crates):
+        """Notes the crates as they are proved, and links their libraries, until the run ends."""
+        is_over = False
+        while not is_over:
+            is_over = self.is_over()
+            said = text_of(self.log) if self.log else ""
+            for name, crate in crates.items():
+                if name not in self.proved and (not self.log or re.search(rf"^rt: {name} (proved$|is kept:)", said, re.M)):
+                    if self.log and os.path.isdir(f"{crate.folder}/out/rlib"):
+                        shutil.copytree(f"{crate.folder}/out/rlib", self.rlibs(crate), copy_function=os.link)
+                    self.proved.add(name)
+            time.sleep(0 if is_over else 1)
+        self.has_ended = True
+
+
+def work(left, crates, run, waits, lock, counts):
+    """Tries the wrong bodies of one crate after the other, each once it and what it is built on are proved."""
+    while waits and not run.has_ended:
+        time.sleep(1)
+    while left:
+        has_ended = run.has_ended
+        with lock:
+            crate = next((it for it in left if it.name in run.proved), left[0] if left and has_ended else None)
+            if crate:
+                left.remove(crate)
+        if not crate:
+            time.sleep(1)
+            continue
+        answers = crate.tried(crates, run) if crate.name in run.proved else [(it, None) for it in crate.wrong_bodies()]
+        with lock:
+            for wrong, found in answers:
+                counts[bool(found)] += 1
+                print(f"wrong body of {crate.name}, {wrong.title}: {f'refused, as it must be: {found[:150]}' if found else 'NOT REFUSED'}", flush=True)
+
+
+def main():
+    words = argparse.ArgumentParser(usage=__doc__)
+    words.add_argument("--follow")
+    words.add_argument("crates", nargs="*")
+    given, crates = words.parse_args(), crates_of()
+    left = [it for name, it in crates.items() if (not given.crates or name in given.crates) and it.batches()]
+    lanes, lock, counts = len(os.sched_getaffinity(0)), threading.Lock(), {True: 0, False: 0}
+    # On the crates' disk, since the libraries are linked there.
+    with tempfile.TemporaryDirectory(prefix="rlibs-", dir=f"{TOP}/.git" if os.path.isdir(f"{TOP}/.git") else None) as room:
+        run = Run(given.follow, room)
+        threads = [threading.Thread(target=run.watch, args=(crates,))]
+        for number in range(lanes):
+            threads.append(threading.Thread(target=work, args=(left, crates, run, number >= max(lanes // 2, 1), lock, counts)))
+        for thread in threads:
+            thread.start()
+        for thread in threads:
+            thread.join()
+    print(f"{counts[True]} refused, {counts[False]} not refused")
+    return 1 if counts[False] else 0
+
+
+if __name__ == "__main__":
+    sys.exit(main())
