@@ -4,8 +4,8 @@
 #   scripts/bench.sh [-d FOLDER] [SCENE..]      scenes: hand counters histograms gauges inc lookup observe register read; all without one
 #
 # The folder (else /tmp/fastmetrics-bench) is kept, so that only what changed is proved again. Prints a line for each figure: scene, members
-# (threads for `inc`), what was measured, nanoseconds a sample line or a call; docs/PERFORMANCE.md says how to compare. Run it on
-# a machine that does nothing else.
+# (threads for `inc`), what was measured, nanoseconds a sample line or a call; of one `encode` also the requests for memory, a line, and the most bytes
+# at once, over those of the document. docs/PERFORMANCE.md says how to compare. Run it on a machine that does nothing else.
 set -eu
 top=$(cd "$(dirname "$0")/.." && pwd)
 folder=/tmp/fastmetrics-bench
@@ -13,6 +13,7 @@ folder=/tmp/fastmetrics-bench
 [[ $# -gt 0 ]] || set -- hand counters histograms gauges inc lookup observe register read
 
 . "$top/scripts/scratch.sh"
+. "$top/scripts/memory.sh"
 lay_out "$top" "$folder"
 
 # The program of a scene, proved and built.
@@ -23,15 +24,31 @@ build() {
         { cat "$folder/bench_$1.log" >&2; exit 1; }
 }
 
+# What one `encode` of a scene asks for, by a program that is linked with the counter of requests: of so many members, and lines a member.
+count_memory() {
+    local before after most bytes
+    link_counted "out/bench_$1.o" "$folder/counted" || exit 1
+    REFUSE_COUNT="$folder/count" "$folder/counted" "$2" 0 >"$folder/bytes"
+    read -r before _ <"$folder/count"
+    REFUSE_COUNT="$folder/count" REFUSE_SINCE=$before "$folder/counted" "$2" 1 >"$folder/bytes"
+    read -r after most _ <"$folder/count"
+    bytes=$(<"$folder/bytes")
+    awk -v n="$((after - before))" -v lines="$(($2 * $3))" -v most="$most" -v bytes="$bytes" -v of="$1 $2" \
+        'BEGIN { printf "%s requests %.3f\n%s memory %.2f\n", of, n / lines, of, most / bytes }'
+}
+
 for scene; do
     build "$scene"
     cd "$folder/crates/bench_$scene"
+    lines=1
     case $scene in
         counters) sizes="1000 100000 1000000" ;;
-        histograms | gauges) sizes="1000 100000" ;;
-        *) sizes=1000 ;;
+        gauges) sizes="1000 100000" ;;
+        histograms) sizes="1000 100000" lines=15 ;;
+        *) sizes=1000 lines=0 ;;
     esac
     for size in $sizes; do
         rt run -- "$size" 2>/dev/null
+        [[ $lines == 0 ]] || count_memory "$scene" "$size" "$lines"
     done
 done

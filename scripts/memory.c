@@ -3,6 +3,7 @@
 //   REFUSE=N            the Nth request is refused
 //   REFUSE_COUNT=FILE   the number of requests, the greatest number of bytes at once, and the bytes that are held are written
 //                       there at the end
+//   REFUSE_SINCE=N      the greatest number of bytes leaves out what was held before the request after the Nth
 #include <malloc.h>
 #include <stdatomic.h>
 #include <stdio.h>
@@ -17,14 +18,16 @@ _Noreturn void __real__exit(int status);
 static atomic_ulong made;
 static atomic_long held;
 static atomic_long peak;
+static atomic_long held_before;
 static unsigned long refused;
+static unsigned long since;
 
 static void say(void) {
     const char *count = getenv("REFUSE_COUNT");
     if (count) {
         FILE *file = fopen(count, "w");
         if (file) {
-            fprintf(file, "%lu %ld %ld\n", atomic_load(&made), atomic_load(&peak), atomic_load(&held));
+            fprintf(file, "%lu %ld %ld\n", atomic_load(&made), atomic_load(&peak) - atomic_load(&held_before), atomic_load(&held));
             fclose(file);
         }
     }
@@ -33,6 +36,8 @@ static void say(void) {
 __attribute__((constructor)) static void begin(void) {
     const char *word = getenv("REFUSE");
     refused = word ? strtoul(word, NULL, 10) : 0;
+    word = getenv("REFUSE_SINCE");
+    since = word ? strtoul(word, NULL, 10) : 0;
     atexit(say);
 }
 
@@ -45,7 +50,12 @@ static void hold(long bytes) {
 }
 
 static int is_refused(void) {
-    return atomic_fetch_add(&made, 1) + 1 == refused;
+    unsigned long number = atomic_fetch_add(&made, 1) + 1;
+    if (since && number == since + 1) {
+        atomic_store(&held_before, atomic_load(&held));
+        atomic_store(&peak, atomic_load(&held));
+    }
+    return number == refused;
 }
 
 void *__wrap_malloc(size_t size) {

@@ -72,7 +72,7 @@ class WrongBody:
     """A mistake in functions of a file: pairs of an old and a new text, one line each."""
 
     def __init__(self, crate, title):
-        self.crate, self.title, self.file, self.pairs = crate, title, "", []
+        self.crate, self.title, self.tests, self.file, self.pairs = crate, title, "", "", []
 
     def functions(self):
         """The functions that it changes."""
@@ -92,30 +92,34 @@ class WrongBody:
             file.write(text)
 
 
+def listed(crate, name):
+    """The bodies that a crate lists in a file of must-fail/."""
+    found, path = [], f"{crate.folder}/must-fail/{name}.md"
+    for line in text_of(path).split("\n") if os.path.isfile(path) else []:
+        word, _, text = line.partition(" ")
+        if word == "##":
+            found.append(WrongBody(crate, text))
+        elif word == "tests:":
+            found[-1].tests = text
+        elif word == "file:":
+            found[-1].file = text
+        elif word == "old:":
+            found[-1].pairs.append([text, ""])
+        elif word == "new:":
+            found[-1].pairs[-1][1] = text
+    return found
+
+
 class Crate:
     """A crate of crates.txt: its name, and the libraries that its line names."""
 
     def __init__(self, name, libraries):
         self.name, self.libraries, self.folder = name, libraries, f"{TOP}/crates/{name}"
 
-    def wrong_bodies(self):
-        found, path = [], f"{self.folder}/must-fail/wrong_bodies.md"
-        for line in text_of(path).split("\n") if os.path.isfile(path) else []:
-            word, _, text = line.partition(" ")
-            if word == "##":
-                found.append(WrongBody(self, text))
-            elif word == "file:":
-                found[-1].file = text
-            elif word == "old:":
-                found[-1].pairs.append([text, ""])
-            elif word == "new:":
-                found[-1].pairs[-1][1] = text
-        return found
-
     def batches(self):
         """Its wrong bodies, in lists of which none has two of functions of one name."""
         found = []
-        for wrong in self.wrong_bodies():
+        for wrong in listed(self, "wrong_bodies"):
             names = {it.name for it in wrong.functions()}
             taken, batch = next((it for it in found if not it[0] & names), (set(), []))
             if not batch:
@@ -231,7 +235,7 @@ def work(left, crates, run, waits, lock, counts):
         if not crate:
             time.sleep(1)
             continue
-        answers = crate.tried(crates, run) if crate.name in run.proved else [(it, None) for it in crate.wrong_bodies()]
+        answers = crate.tried(crates, run) if crate.name in run.proved else [(it, None) for it in listed(crate, "wrong_bodies")]
         with lock:
             for wrong, found in answers:
                 counts[bool(found)] += 1
