@@ -17,8 +17,8 @@ from concurrent.futures import ThreadPoolExecutor
 
 from wrong_bodies import TOP, crates_of, listed
 
-# What one run of the tests may take, in seconds.
-MOST = 300
+# What one run of the tests may take beside other work, in seconds, and with its compilation.
+MOST_RUN, MOST = 600, 3000
 
 
 def copied_to(folder):
@@ -39,7 +39,7 @@ def refused_by(body):
         body.stand_in(f"{folder}/crates/{body.crate.name}")
         how = {"stdin": subprocess.DEVNULL, "stdout": subprocess.PIPE, "stderr": subprocess.STDOUT, "errors": "replace"}
         try:
-            said = subprocess.run(["rt", "try", "--test"], cwd=f"{folder}/crates/{body.tests}", timeout=MOST, **how).stdout
+            said = subprocess.run(["rt", "try", "--test", "--seconds", str(MOST_RUN)], cwd=f"{folder}/crates/{body.tests}", timeout=MOST, **how).stdout
         except subprocess.TimeoutExpired:
             return None, f"no result in {MOST} seconds"
     failed = re.findall(r"^test (\S+) \.\.\. (?!ok$)", said, re.M)

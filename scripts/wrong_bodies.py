@@ -8,11 +8,11 @@ A crate lists its wrong bodies in must-fail/wrong_bodies.md: below a heading of 
 
 Many wrong bodies are tried together: one check of a copy of the crate, in which they all stand, says of each function what it can't prove.
 A function is proved from its own body and from the contracts of what it calls, never from another body. So a wrong body is refused where the
-check names something of its own function: a goal that is not proved, or an error in the function's own proof. Two wrong bodies of functions of
-one name are tried in two checks. One of whose function a check says nothing is tried by itself, and then any refusal counts.
+check names something of its own function: a goal that is not proved, or an error in the function's own proof. Two wrong bodies of one function are
+tried in two checks. One of whose function a check says nothing is tried by itself, and then any refusal counts.
 
 The libraries below a crate have to be built, in the crates' out/rlib, as `rt ci` leaves them. With --follow LOG, the output of an `rt ci` that
-still runs, a crate is tried once it is proved there, with half of the processors until the run ends; the libraries are linked into a
+still runs, a crate is tried once it is proved there, with all processors but one until the run ends; the libraries are linked into a
 folder as they are proved, since the run's end may put back older ones. Prints a line for each wrong body, and then 'N refused, M not refused';
 the status is 0 if M is 0.
 """
@@ -31,6 +31,7 @@ KIT = os.path.dirname(subprocess.run(["rt", "doc"], stdout=subprocess.PIPE, text
 
 FUNCTION = re.compile(r" *(?:pub(?:\(crate\))? )?(?:const )?fn (\w+)")
 IMPL = re.compile(r"impl\b(?:<.*?>)? (?:(\w+) for )?(\w+)(?:<.*>)? \{$")
+BLOCK = re.compile(r"(?:pub(?:\(crate\))? )?(?:impl|trait)\b")
 
 
 def text_of(path):
@@ -52,18 +53,24 @@ class Function:
         while self.first > 0 and re.match(r" *(#\[|//)", lines[self.first - 1]):
             self.first -= 1
         module = [it for it in file.removesuffix(".rt").split("/")[1:] if it not in ("lib", "main")]
-        head = next((IMPL.match(it) for it in reversed(lines[:fn]) if it.startswith("impl")), None) if is_within and indent else None
-        # What --only takes: the end of the function's path, or the module for what has none.
-        path = [head[2] + (head[1] or ""), self.name] if head else [*module, self.name] if is_within and not indent else module
+        block = next((it for it in reversed(lines[:fn]) if BLOCK.match(it)), "") if is_within and indent else ""
+        head = IMPL.match(block)
+        # The type and the trait of a method, as a check joins them; nothing where they have parameters.
+        self.owner = head[2] + (head[1] or "") if head else ""
+        # What --only takes: the end of the function's path, or the module.
+        path = [self.owner, self.name] if head else [*module, self.name] if is_within and not indent else module
         self.path = "::".join(path)
+
+    def may_be(self, other):
+        """Whether a check may name the other function as it names this one."""
+        return self.name == other.name and (self.owner == other.owner or not self.owner or not other.owner)
 
     def refused_by(self, said):
         """What a check says that it can't prove or refuses of this function, or None."""
+        proof = rf"(?:\./)?proofs/(?:\S+/)?{f'{self.owner}/' if self.owner else ''}\+?{self.name}/\w+\.antt:\d+:\d+: error"
         for line in said.split("\n"):
             here = re.match(rf"note: (?:\./)?{self.file}:(\d+):\d+: it is not proved ", line)
-            if here and self.first <= int(here[1]) - 1 <= self.last:
-                return line
-            if self.name and re.match(rf"(?:\./)?proofs/(?:\S+/)?\+?{self.name}/\w+\.antt:\d+:\d+: error", line):
+            if here and self.first <= int(here[1]) - 1 <= self.last or self.name and re.match(proof, line):
                 return line
         return None
 
@@ -117,14 +124,15 @@ class Crate:
         self.name, self.libraries, self.folder = name, libraries, f"{TOP}/crates/{name}"
 
     def batches(self):
-        """Its wrong bodies, in lists of which none has two of functions of one name."""
+        """Its wrong bodies, in lists of which none has two of one function."""
         found = []
         for wrong in listed(self, "wrong_bodies"):
-            names = {it.name for it in wrong.functions()}
-            taken, batch = next((it for it in found if not it[0] & names), (set(), []))
+            functions = wrong.functions()
+            fits = lambda taken: not any(one.may_be(other) for one in functions for other in taken)
+            taken, batch = next((it for it in found if fits(it[0])), ([], []))
             if not batch:
                 found.append((taken, batch))
-            taken |= names
+            taken += functions
             batch.append(wrong)
         return [batch for _, batch in found]
 
@@ -254,7 +262,7 @@ def main():
         run = Run(given.follow, room)
         threads = [threading.Thread(target=run.watch, args=(crates,))]
         for number in range(lanes):
-            threads.append(threading.Thread(target=work, args=(left, crates, run, number >= max(lanes // 2, 1), lock, counts)))
+            threads.append(threading.Thread(target=work, args=(left, crates, run, number >= max(lanes - 1, 1), lock, counts)))
         for thread in threads:
             thread.start()
         for thread in threads:
