@@ -31,6 +31,7 @@ KIT = os.path.dirname(subprocess.run(["rt", "doc"], stdout=subprocess.PIPE, text
 
 FUNCTION = re.compile(r" *(?:pub(?:\(crate\))? )?(?:const )?fn (\w+)")
 IMPL = re.compile(r"impl\b(?:<.*?>)? (?:(\w+) for )?(\w+)(?:<.*>)? \{$")
+NAMING = re.compile(r"has no `|has no field|is not in scope|was not admitted")
 BLOCK = re.compile(r"(?:pub(?:\(crate\))? )?(?:impl|trait)\b")
 
 
@@ -65,14 +66,17 @@ class Function:
         """Whether a check may name the other function as it names this one."""
         return self.name == other.name and (self.owner == other.owner or not self.owner or not other.owner)
 
-    def refused_by(self, said):
-        """What a check says that it can't prove or refuses of this function, or None."""
+    def refusals(self, said):
+        """What a check says that it can't prove or refuses of this function: goals first, and last that its proof names what isn't there, which says little."""
         proof = rf"(?:\./)?proofs/(?:\S+/)?{f'{self.owner}/' if self.owner else ''}\+?{self.name}/\w+\.antt:\d+:\d+: error"
+        found = []
         for line in said.split("\n"):
             here = re.match(rf"note: (?:\./)?{self.file}:(\d+):\d+: it is not proved ", line)
-            if here and self.first <= int(here[1]) - 1 <= self.last or self.name and re.match(proof, line):
-                return line
-        return None
+            if here and self.first <= int(here[1]) - 1 <= self.last:
+                found.append((0, line))
+            elif self.name and re.match(proof, line):
+                found.append((2, f"its proof names what is not there: {line}") if NAMING.search(line) else (1, line))
+        return found
 
 
 class WrongBody:
@@ -178,7 +182,8 @@ class Crate:
             for batch in self.batches():
                 said = self.checked_with(batch, crates, run, kept)
                 for wrong in batch:
-                    found = next(filter(None, (it.refused_by(said) for it in wrong.functions())), None) if is_refusal(said) else None
+                    named = sorted(it for function in wrong.functions() for it in function.refusals(said)) if is_refusal(said) else []
+                    found = named[0][1] if named else None
                     if not found and is_refusal(self.checked_with([wrong], crates, run, kept, is_whole=True)):
                         found = "the crate is not proved with it alone"
                     answers.append((wrong, found))
