@@ -1,19 +1,35 @@
-// Stands between a program and its memory (linked by `--wrap`): counts the requests, refuses one of them, and keeps the peak.
+// Stands between a program and its memory: counts the requests, refuses one of them, and keeps the peak. It is linked to the program's
+// object by `--wrap`, or compiled with PRELOADED as a library that is loaded before the C library; then the program's own requests count
+// alone, as they do by `--wrap`, and none of the C library's.
 //
 //   REFUSE=N            the Nth request is refused
 //   REFUSE_COUNT=FILE   the number of requests, the greatest number of bytes at once, and the bytes that are held are written
 //                       there at the end
 //   REFUSE_SINCE=N      the greatest number of bytes leaves out what was held before the request after the Nth
+#define _GNU_SOURCE
+#include <link.h>
 #include <malloc.h>
 #include <stdatomic.h>
 #include <stdio.h>
 #include <stdlib.h>
+#include <sys/syscall.h>
 #include <unistd.h>
 
-void *__real_malloc(size_t size);
-void *__real_realloc(void *place, size_t size);
-void __real_free(void *place);
-_Noreturn void __real__exit(int status);
+#ifdef PRELOADED
+#define WRAPPED(name) name
+#define REAL_MALLOC __libc_malloc
+#define REAL_REALLOC __libc_realloc
+#define REAL_FREE __libc_free
+#else
+#define WRAPPED(name) __wrap_##name
+#define REAL_MALLOC __real_malloc
+#define REAL_REALLOC __real_realloc
+#define REAL_FREE __real_free
+#endif
+
+void *REAL_MALLOC(size_t size);
+void *REAL_REALLOC(void *place, size_t size);
+void REAL_FREE(void *place);
 
 static atomic_ulong made;
 static atomic_long held;
@@ -21,6 +37,31 @@ static atomic_long peak;
 static atomic_long held_before;
 static unsigned long refused;
 static unsigned long since;
+
+// Where the program's code begins and ends, among all that is loaded.
+static char *code_begin, *code_end;
+
+static int find_code(struct dl_phdr_info *info, size_t size, void *data) {
+    (void)size, (void)data;
+    for (int i = 0; i < info->dlpi_phnum; i++) {
+        if (info->dlpi_phdr[i].p_type == PT_LOAD && info->dlpi_phdr[i].p_flags & PF_X) {
+            code_begin = (char *)info->dlpi_addr + info->dlpi_phdr[i].p_vaddr;
+            code_end = code_begin + info->dlpi_phdr[i].p_memsz;
+        }
+    }
+    // The program comes first.
+    return 1;
+}
+
+// Whether the program itself asks.
+static int is_own(void *caller) {
+#ifdef PRELOADED
+    return code_begin <= (char *)caller && (char *)caller < code_end;
+#else
+    (void)caller;
+    return 1;
+#endif
+}
 
 static void say(void) {
     const char *count = getenv("REFUSE_COUNT");
@@ -34,6 +75,7 @@ static void say(void) {
 }
 
 __attribute__((constructor)) static void begin(void) {
+    dl_iterate_phdr(find_code, NULL);
     const char *word = getenv("REFUSE");
     refused = word ? strtoul(word, NULL, 10) : 0;
     word = getenv("REFUSE_SINCE");
@@ -58,21 +100,25 @@ static int is_refused(void) {
     return number == refused;
 }
 
-void *__wrap_malloc(size_t size) {
+void *WRAPPED(malloc)(size_t size) {
+    if (!is_own(__builtin_return_address(0)))
+        return REAL_MALLOC(size);
     if (is_refused())
         return NULL;
-    void *place = __real_malloc(size);
+    void *place = REAL_MALLOC(size);
     if (place)
         hold((long)malloc_usable_size(place));
     return place;
 }
 
 // The old place and the new one are held at once, as where the memory has to move.
-void *__wrap_realloc(void *place, size_t size) {
+void *WRAPPED(realloc)(void *place, size_t size) {
+    if (!is_own(__builtin_return_address(0)))
+        return REAL_REALLOC(place, size);
     if (is_refused())
         return NULL;
     long before = place ? (long)malloc_usable_size(place) : 0;
-    void *next = __real_realloc(place, size);
+    void *next = REAL_REALLOC(place, size);
     if (next) {
         hold((long)malloc_usable_size(next));
         hold(-before);
@@ -80,13 +126,14 @@ void *__wrap_realloc(void *place, size_t size) {
     return next;
 }
 
-void __wrap_free(void *place) {
-    if (place)
+void WRAPPED(free)(void *place) {
+    if (place && is_own(__builtin_return_address(0)))
         hold(-(long)malloc_usable_size(place));
-    __real_free(place);
+    REAL_FREE(place);
 }
 
-_Noreturn void __wrap__exit(int status) {
+_Noreturn void WRAPPED(_exit)(int status) {
     say();
-    __real__exit(status);
+    for (;;)
+        syscall(SYS_exit_group, status);
 }

@@ -3,16 +3,18 @@
 #
 #   scripts/refuse_allocations.sh [CRATE..]      all crates that have stories, without one
 #
-# It links the tests that were proved and built (`rt ci` and `rt test` leave crates/NAME/out/NAME_tests.o) with scripts/memory.c,
+# It runs the tests as they were proved and built (`rt ci` and `rt test` leave crates/NAME/out/NAME_tests) with scripts/memory.c loaded before the C library,
 # which counts the requests of a process and refuses the Nth. Each story is a pair of tests: `.._without_refusals`, whose requests
 # are counted and which has to fail whichever of them is refused, and `.._after_a_refusal`, which has to pass. A document of 1,000
-# lines is written with at most two requests more than it is collected with. OBJECTS=FOLDER takes FOLDER/NAME_tests.o instead.
+# lines is written with at most two requests more than it is collected with. PROGRAMS=FOLDER takes FOLDER/NAME_tests instead.
 set -u
 
 top=$(cd "$(dirname "$0")/.." && pwd) || exit 2
 . "$top/scripts/memory.sh"
 scratch=$(mktemp -d) || exit 2
 trap 'rm -rf "$scratch"' EXIT
+counter_library "$scratch/counter.so" || exit 2
+export scratch
 failed=0
 stories=0
 requests_in_all=0
@@ -21,13 +23,13 @@ requests_in_all=0
 # How many requests a test makes.
 count() {
     rm -f "$scratch/count"
-    REFUSE_COUNT="$scratch/count" timeout 60 "$scratch/$1" "$2" >"$scratch/said" 2>&1 || return 1
+    timeout 60 env LD_PRELOAD="$scratch/counter.so" REFUSE_COUNT="$scratch/count" "$scratch/$1" "$2" >"$scratch/said" 2>&1 || return 1
     cut -d ' ' -f 1 "$scratch/count"
 }
 
 # One run: program, test, request, and whether it has to pass.
 one() {
-    REFUSE=$3 timeout 60 "$1" "$2" >/dev/null 2>&1
+    timeout 60 env LD_PRELOAD="$scratch/counter.so" REFUSE="$3" "$1" "$2" >/dev/null 2>&1
     local status=$?
     [[ $4 == passes && $status == 0 ]] && return
     # A test that fails ends with 101; 124 is a test that hung, and more than 128 a crash.
@@ -59,7 +61,7 @@ refuse() {
 }
 
 for crate; do
-    link_counted "${OBJECTS:-$top/crates/$crate/out}/${crate}_tests.o" "$scratch/$crate" || exit 2
+    cp "${PROGRAMS:-$top/crates/$crate/out}/${crate}_tests" "$scratch/$crate" || exit 2
     names=$("$scratch/$crate" --list | sed -n 's/^\(.*\)_after_a_refusal: test$/\1/p')
     [[ -n $names ]] || { echo "FAILED: $crate has no stories"; failed=1; }
     for name in $names; do

@@ -5,20 +5,21 @@
 #
 #   scripts/refuse_scenes.sh
 #
-# It links the program that was proved and built (`rt ci` and `rt run` leave crates/expose/out/expose.o) with scripts/memory.c.
-# OBJECTS=FOLDER takes FOLDER/expose.o instead.
+# It runs the program as it was proved and built (`rt ci` and `rt run` leave crates/expose/out/expose) with scripts/memory.c loaded before the C library.
+# PROGRAMS=FOLDER takes FOLDER/expose instead.
 set -u
 
 top=$(cd "$(dirname "$0")/.." && pwd) || exit 2
 . "$top/scripts/memory.sh"
 scratch=$(mktemp -d) || exit 2
 trap 'rm -rf "$scratch"' EXIT
-link_counted "${OBJECTS:-$top/crates/expose/out}/expose.o" "$scratch/expose" || exit 2
+counter_library "$scratch/counter.so" || exit 2
+cp "${PROGRAMS:-$top/crates/expose/out}/expose" "$scratch/expose" || exit 2
 failed=0
 
 # One run: scene and request.
 one() {
-    REFUSE=$2 timeout 60 "$scratch/expose" "$1" >"$scratch/out.$2" 2>"$scratch/said.$2"
+    timeout 60 env LD_PRELOAD="$scratch/counter.so" REFUSE="$2" "$scratch/expose" "$1" >"$scratch/out.$2" 2>"$scratch/said.$2"
     local status=$?
     if [[ $status != 1 || -s $scratch/out.$2 || $(wc -l <"$scratch/said.$2") != 1 ]] ||
         ! grep -qxE 'fault: (registry 5|metric 1|encode 1|tally [16])' "$scratch/said.$2"; then
@@ -30,7 +31,7 @@ export scratch
 
 for scene in empty tally histogram states tree; do
     rm -f "$scratch/count"
-    REFUSE_COUNT="$scratch/count" "$scratch/expose" "$scene" >"$scratch/whole" 2>/dev/null &&
+    env LD_PRELOAD="$scratch/counter.so" REFUSE_COUNT="$scratch/count" "$scratch/expose" "$scene" >"$scratch/whole" 2>/dev/null &&
         [[ $(tail -n 1 "$scratch/whole") == "# EOF" ]] || { echo "FAILED: $scene"; failed=1; continue; }
     requests=$(cut -d ' ' -f 1 "$scratch/count")
     bad=$(seq "$requests" | xargs -r -P "$(nproc)" -I{} bash -c 'one "$@"' one "$scene" {})
