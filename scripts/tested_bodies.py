@@ -1,5 +1,5 @@
 #!/usr/bin/env python3
-"""Plants bodies that break what is only tested, each of which a test must refuse.
+"""Plants bodies without a proof, each of which a test must refuse.
 
     scripts/tested_bodies.py [CRATE..]        those of all crates, or of these
 

@@ -7,7 +7,7 @@ A crate lists its wrong bodies in must-fail/wrong_bodies.md: below a heading of 
 `old: TEXT` and `new: TEXT`. Each old text stands in the file once.
 
 Many wrong bodies are tried together: one check of a copy of the crate, in which they all stand, says of each function what it can't prove.
-A function is proved from its own body and from the contracts of what it calls, never from another body. So a wrong body is refused where the
+A function is proved from its own body and from the contracts of what it calls; only functions that call one another have one proof. So a wrong body is refused where the
 check names something of its own function: a goal that is not proved, or an error in the function's own proof. Two wrong bodies of one function are
 tried in two checks. One of whose function a check says nothing is tried by itself, and then any refusal counts.
 
