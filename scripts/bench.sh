@@ -1,7 +1,7 @@
 #!/usr/bin/env bash
 # Proves, builds and runs the programs of bench/ in a scratch copy of the crates, so that the gate doesn't prove them each time.
 #
-#   scripts/bench.sh [-d FOLDER] [SCENE..]      scenes: hand counters histograms gauges inc lookup observe register read; all without one
+#   scripts/bench.sh [-d FOLDER] [SCENE..]      scenes: hand counters labeled histograms gauges inc lookup observe register read; all without one
 #
 # The folder (else /tmp/fastmetrics-bench) is kept, so that only what changed is proved again. Prints a line for each figure: scene, members
 # (threads for `inc`), what was measured, nanoseconds a sample line or a call; of one `encode` also the requests for memory, a line, and the most bytes
@@ -10,7 +10,7 @@ set -eu
 top=$(cd "$(dirname "$0")/.." && pwd)
 folder=/tmp/fastmetrics-bench
 [[ ${1:-} == -d ]] && { folder=$2; shift 2; }
-[[ $# -gt 0 ]] || set -- hand counters histograms gauges inc lookup observe register read
+[[ $# -gt 0 ]] || set -- hand counters labeled histograms gauges inc lookup observe register read
 
 . "$top/scripts/scratch.sh"
 . "$top/scripts/memory.sh"
@@ -43,7 +43,7 @@ for scene; do
     lines=1
     case $scene in
         counters) sizes="1000 100000 1000000" ;;
-        gauges) sizes="1000 100000" ;;
+        gauges | labeled) sizes="1000 100000" ;;
         histograms) sizes="1000 100000" lines=15 ;;
         *) sizes=1000 lines=0 ;;
     esac
