@@ -1,9 +1,8 @@
 //! Buckets and their bounds.
-ghost use Rattle.std.specs.Prelude.{◌≡◌, ◌+◌, ◌^◌, ◌↔◌, ℤ, pos, [], ◌∷◌, Ok, Err, IfErr, OnOk, OnErr};
+ghost use Rattle.std.specs.Prelude.{◌≡◌, ◌+◌, ◌^◌, ◌↔◌, ℤ, Ok, Err, IfErr, OnOk, OnErr};
 ghost use Rattle.std.specs.Ordering.{int_cmp};
 ghost use Rattle.std.specs.declared.cmp.Ordering.TheVariants.{Less, Equal, Greater};
 ghost use Rattle.fm_raw.specs.declared.error.MetricError.TheVariants.{CountFull};
-ghost use Rattle.fm_bucket.specs.declared.bound.Bound.{Bound as OneBound};
 ghost use Rattle.fm_bucket.specs.declared.bound.Bound.TheVariants.{Finite, Inf};
 ghost use Rattle.fm_bucket.specs.BoundTests.{lies_below, bound_text};
 ghost use Rattle.fm_bucket.specs.Bounds.{default_bounds};

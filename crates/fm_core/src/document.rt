@@ -1,7 +1,6 @@
 // The text of a registry's document, which is rendered while its metrics are visited.
 ghost use Rattle.std.specs.Prelude.{◌≡◌, ◌⊎◌, ◌++◌, codes, MatchResult, IfOk, IfErr, IfSome, OnOk};
 ghost use Rattle.std.specs.Option.{option_copied};
-ghost use Rattle.std.specs.Io.KnownBytes.{Keeps};
 ghost use Rattle.fm_grammar.specs.Exposition.{Exposition};
 ghost use Rattle.fm_grammar.specs.Reading.{IsExposition};
 ghost use Rattle.fm_grammar.specs.WellFormed.{AreMillis};
@@ -11,7 +10,7 @@ ghost use Rattle.fm_exposition.specs.Samples.{labels_of};
 ghost use Rattle.fm_exposition.specs.Written.{AppendsDocument, AppendsBeginningOfDocument, IsWritersFault};
 ghost use Rattle.fm_registry_calls.specs.Listing.{listed_name, order, IsListable};
 ghost use Rattle.fm_registry_calls.specs.Tree.{Shows};
-ghost use Rattle.fm_registry.specs.Seen.{seen_list, seen_listed};
+ghost use Rattle.fm_registry.specs.Seen.{seen_listed};
 ghost use Rattle.fm_registry.specs.HasHistory.{HasHistory};
 ghost use Rattle.fm_writer.specs.Output.{with_lines};
 ghost use Rattle.fm_encoder.specs.Offers.{context_at};
@@ -19,9 +18,9 @@ ghost use Rattle.fm_core.specs.Families.{heading_in, FaultUnder};
 ghost use Rattle.fm_core.specs.Admits.{Admits, FaultOf, Fault};
 ghost use Rattle.fm_core.specs.inside.Documents.{heading_rows, text_in, HasLines, AddsRows, AddsNextRows};
 
-use crate::family::{join_name, text_of, whole_millis};
+use crate::family::{join_name, text_of};
 use fm_encode_error::EncodeError;
-use fm_encoder::{EncodeMetric, MetricEncoder};
+use fm_encoder::{EncodeMetric, MetricEncoder, whole_millis};
 use fm_exposition::write_text;
 use fm_raw::Metadata;
 use fm_registry::{ListedMetric, Registry};
@@ -151,18 +150,13 @@ pub(crate) fn document_lines(alloc: Global, registry: &Registry) -> Result<Lines
         → Fault k (λ m. offers m) (λ m. stamps m) (λ m. may_fault m) (order b))) }
     ensures not_writing { IfErr result (λ k. ¬ (IsWritersFault k)) }
 {
-    let Ok(list) = registry.listing(alloc) else {
-        return Err(EncodeError::Memory);
-    };
+    let list = registry.listing(alloc)?;
     let mut encoder = MetricEncoder::for_lines(alloc)?;
     let mut name = String::new(alloc);
     for listed in &list {
         add_listed(alloc, &mut encoder, &mut name, listed)?;
     }
-    match ended_lines(encoder) {
-        Ok(lines) => Ok(lines),
-        Err(_) => Err(EncodeError::Memory),
-    }
+    Ok(ended_lines(encoder)?)
 }
 
 // Writes the lines of a document, all or a beginning of them.

@@ -1,10 +1,10 @@
 //! The encoder of families, one for a whole collection.
-ghost use Rattle.std.specs.Prelude.{◌≡◌, ◌⊎◌, [], Some, None, MatchResult, OnOk, IfOk, IfSome, string_bytes};
+ghost use Rattle.std.specs.Prelude.{◌≡◌, ◌⊎◌, [], Some, None, MatchResult, OnOk, IfOk, string_bytes};
 ghost use Rattle.std.specs.Option.{option_map, option_copied};
 ghost use Rattle.std.specs.List.{AllByRecursion};
 ghost use Rattle.fm_grammar.specs.Names.{IsSnakeCase};
 ghost use Rattle.fm_grammar.specs.Reading.{IsNewName};
-ghost use Rattle.fm_grammar.specs.WellFormed.{AreMillis, IsSample, IsFamily};
+ghost use Rattle.fm_grammar.specs.WellFormed.{IsSample, IsFamily};
 ghost use Rattle.fm_raw.specs.Units.{unit_text};
 ghost use Rattle.fm_encode_error.specs.declared.EncodeError.{EncodeError};
 ghost use Rattle.fm_exposition.specs.Samples.{labels_of};
@@ -12,31 +12,18 @@ ghost use Rattle.fm_writer.specs.Output.{AreShared};
 ghost use Rattle.fm_registry_calls.specs.Texts.{printed_name};
 ghost use Rattle.fm_registry_calls.specs.Registration.{printed_unit};
 ghost use Rattle.fm_registry_calls.specs.Listing.{listed_name, IsListable};
-ghost use Rattle.fm_encoder.specs.Points.{millis};
 ghost use Rattle.fm_encoder.specs.Takes.{Takes};
 ghost use Rattle.fm_encoder.specs.Offers.{AdmitsSamples, MetricHasFault};
 ghost use Rattle.fm_core.specs.Families.{next_heading, FaultUnder, EncodesFamily};
 ghost use Rattle.fm_core.specs.inside.Offered.{IsFamilyUnder, Offered};
 
 use fm_encode_error::EncodeError;
-use fm_encoder::{EncodeMetric, FirstRefusal, MetricEncoder};
+use fm_encoder::{EncodeMetric, FirstRefusal, MetricEncoder, whole_millis};
 use fm_exposition::{Exposition, FamilySamples, SampleStore, make};
 use fm_raw::{Metadata, MetricType, Unit};
 use fm_writer::Sink;
 use std::alloc::{AllocError, Global};
 use std::marker::Model;
-use std::time::Duration;
-
-// The whole milliseconds of a timestamp.
-pub(crate) fn whole_millis(time: Option<Duration>) -> Option<u128>
-    ensures value { result ≡ option_map millis time }
-    ensures range { IfSome result AreMillis }
-{
-    match time {
-        Some(time) => Some(time.as_millis()),
-        None => None,
-    }
-}
 
 // The number of bytes that a text takes together with an underscore.
 fn room_of(text: Option<&str>) -> usize {
@@ -160,13 +147,8 @@ fn samples_of_metric(
         (string_bytes name)
         metric_type (labels_of constants.now)) }
 {
-    let Ok(sink) = Sink::samples(alloc) else {
-        return Err(EncodeError::Memory);
-    };
-    let (name, sink) = match offered_by(alloc, name, metric_type, constants, metric, sink) {
-        Ok(made) => made,
-        Err(error) => return Err(error),
-    };
+    let sink = Sink::samples(alloc)?;
+    let (name, sink) = offered_by(alloc, name, metric_type, constants, metric, sink)?;
     match sink.into_samples() {
         Some(samples) => Ok((name, samples)),
         None => unreachable!(),
@@ -257,14 +239,16 @@ impl<'a> MetricFamilyEncoder<'a> {
             ⊎ FaultUnder (offers metric.now) (stamps metric.now) k (may_fault metric.now)
             (next_heading self.now metadata.now)) }
     {
-        let Ok((name, help, unit)) = self.heads_of(metadata) else {
-            return Err(EncodeError::Memory);
-        };
+        let (name, help, unit) = self.heads_of(metadata)?;
         let metric_type = metadata.metric_type();
-        match samples_of_metric(self.alloc, name, metric_type, self.const_labels, metric) {
-            Ok((name, samples)) => Ok(make::family(name, metric_type, help, unit, samples)),
-            Err(error) => Err(error),
-        }
+        let (name, samples) = samples_of_metric(
+            self.alloc,
+            name,
+            metric_type,
+            self.const_labels,
+            metric,
+        )?;
+        Ok(make::family(name, metric_type, help, unit, samples))
     }
 
     /// Takes the next metric: adds its family with this metadata, unless the metric is empty. The metadata is that of a metric of

@@ -9,5 +9,4 @@ pub mod FaultLemmas
 pub mod BucketLemmas
 pub mod OwnLabels
 pub mod ExemplarLemmas
-pub mod KnownNamesLemmas
 pub mod KeptLemmas

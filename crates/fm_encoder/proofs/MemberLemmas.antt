@@ -15,7 +15,8 @@ use Rattle.fm_encoder.specs.Points.{Point, Member, Setting, Context, PointClean,
 use Rattle.fm_encoder.specs.Gathered.{GatheredPoints, GatheredMembers, OwnRefusal, own_refusal, result_of}
 use Rattle.fm_encoder.specs.Hands.{HandsPoints, HandsMembers, PointsClean, PointsFault, points_samples, MembersOf, members_of, Joined, OffersOf}
 use Rattle.fm_encoder.specs.inside.Steps.{BeginsMember, EndsPoints}
-use Rattle.fm_encoder.proofs.Cases.{option_cases, answer_cases}
+use Rattle.fm_encoder.specs.Takes.{Takes, TakesPoints, TakesMembers}
+use Rattle.fm_encoder.proofs.Cases.{option_cases, answer_cases, none_from_answer}
 use Rattle.fm_encoder.proofs.LabelSetLemmas.{own_refusal_is}
 
 abbrev pub context_of : List Label → Setting → Context
@@ -184,6 +185,25 @@ HandsMembers-nothing g admitted = record {
 pub HandsMembers-bare : (p : Point) (F G : Type 0) (old new : GatheredMembers) (r : Result (Unit {0}) EncodeError) → (F → ⊥) → HandsMembers (MembersOf [] (λ ps. ps ≡ p ∷ [])) (F ⊎ G) old new r → HandsMembers (λ ms. ms ≡ record { labels = []; point = p } ∷ []) G old new r
 HandsMembers-bare p F G old new r never a =
     HandsMembers-weaker old new r (λ ms m. m.2 ∙ ap (members_of []) m.1) (λ (h : _). elim h [ inl own ↦ absurd (never own) | inr fault ↦ fault ]) a
+
+-- the end of points that returned their own refusal changes nothing
+EndsPoints-again : (g : GatheredPoints) (r : Result (Unit {0}) EncodeError) → r ≡ result_of g.refused → EndsPoints r g g
+EndsPoints-again g r answered = record {
+  place = record { setting = refl; common = refl; deferred = refl };
+  output = refl;
+  kept = λ k e. refl;
+  visited_ok = λ o n. answered ∙ ap result_of n;
+  own = λ e o is. (let none : Ok tt ≡ Err e = sym (answered ∙ ap result_of o) ∙ is in absurd cc);
+  ok = λ o is. o;
+}
+
+-- a member without labels of its own, and a call of its point encoder
+pub TakesMembers-bare : (constants : List Label) (p : Point) (F G : Type 0) (old begun new : GatheredPoints) (first r : Result (Unit {0}) EncodeError) → (F → ⊥) → Takes (BeginsMember (handed_again constants ++ []) F old begun) begun.refused first → first ≡ Ok tt → TakesPoints (λ ps. ps ≡ p ∷ []) G begun new r → TakesMembers (λ ms. ms ≡ record { labels = []; point = p } ∷ []) G (shown constants old) (shown constants new) r
+TakesMembers-bare constants p F G old begun new first r never begins ok takes =
+    let accepting : old.refused ≡ None = sym begins.handed.refused ∙ none_from_answer begun.refused begins.answered ok in
+    let one = HandsMembers-one constants [] (λ ps. ps ≡ p ∷ []) F G old begun new new r begins.handed takes.handed (EndsPoints-again new r takes.answered) accepting in
+    let hands = subst (λ (x : Result (Unit {0}) EncodeError). HandsMembers (MembersOf [] (λ ps. ps ≡ p ∷ [])) (F ⊎ G) (shown constants old) (shown constants new) x) (sym takes.answered) one in
+    record { handed = HandsMembers-bare p F G (shown constants old) (shown constants new) r never hands; answered = takes.answered }
 
 -- one pair more
 pub OffersOf-push : {S M : Type 0} (labels : S → List HandedLabel) (Points : M → List Point → Type 0) (xs : List (S × M)) (x : S × M) (ms : List Member) → Joined (OffersOf labels Points xs) (MembersOf (labels x.0) (Points x.1)) ms → OffersOf labels Points (xs ++ x ∷ []) ms

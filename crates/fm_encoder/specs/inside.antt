@@ -2,6 +2,5 @@
 pub mod Steps
 pub mod Gathering
 pub mod Constants
-pub mod KnownNames
 pub mod BucketSteps
 pub mod FreeLabels

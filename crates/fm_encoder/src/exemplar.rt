@@ -1,6 +1,6 @@
 //! Exemplars: what emits them, and the encoder that takes one of them.
-ghost use Rattle.std.specs.Prelude.{◌≡◌, ◌^◌, ◌⊎◌, List, [], ◌∷◌, MatchResult, MatchOption, Option, IfSome, None, Some, Err};
-ghost use Rattle.std.specs.Option.{option_map, option_map_or};
+ghost use Rattle.std.specs.Prelude.{◌≡◌, ◌^◌, ◌⊎◌, List, [], ◌∷◌, MatchResult, Option, IfSome, None, Some, Err};
+ghost use Rattle.std.specs.Option.{option_map};
 ghost use Rattle.fm_grammar.specs.declared.MetricType.TheVariants.{Unknown};
 ghost use Rattle.fm_grammar.specs.WellFormed.{IsBetween, IsExemplar, AreMillis};
 ghost use Rattle.fm_exposition.specs.Samples.{labels_of, exemplar_of};
@@ -141,10 +141,10 @@ fn in_range(value: Fixed) -> Fixed
     Fixed::from_millionths(value.millionths())
 }
 
-// The whole milliseconds of a time, if there is one.
-fn whole_millis(time: Option<Duration>) -> Option<u128>
-    ensures whole { result ≡ option_map millis time }
-    ensures fit { IfSome result AreMillis }
+/// The whole milliseconds of a time, if there is one.
+pub fn whole_millis(time: Option<Duration>) -> Option<u128>
+    ensures value { result ≡ option_map millis time }
+    ensures range { IfSome result AreMillis }
 {
     match time {
         Some(time) => Some(time.as_millis()),

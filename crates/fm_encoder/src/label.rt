@@ -1,5 +1,5 @@
 //! Labels: what emits them, and the encoders that gather them.
-ghost use Rattle.std.specs.Prelude.{◌≡◌, ◌↔◌, IsTrue, IfOk, ℕ, List, [], ◌∷◌, ◌++◌, Bool, ◌⊎◌, Some, None, Ok, Err, OnOk, MatchResult};
+ghost use Rattle.std.specs.Prelude.{◌≡◌, [], ◌∷◌, ◌++◌, Bool, Some, None, Ok, Err, OnOk};
 ghost use Rattle.fm_encode_error.specs.declared.EncodeError.{EncodeError};
 ghost use Rattle.fm_encoder.specs.Labels.{HandedLabel, NamePiece, ValuePiece, written};
 ghost use Rattle.fm_encoder.specs.Gathered.{GatheredPieces, GatheredLabels, result_of, IsOutcome};
@@ -8,7 +8,6 @@ ghost use Rattle.fm_encoder.specs.Takes.{Takes, TakesPieces, TakesLabels};
 ghost use Rattle.fm_encoder.specs.inside.Steps.{EndsLabel};
 
 use crate::first_refusal::{FirstRefusal, own_refusal};
-use crate::known_names::KnownNames;
 use crate::names::is_reserved;
 use fm_encode_error::EncodeError;
 use fm_grammar::MetricType;
@@ -72,14 +71,13 @@ pub struct LabelEncoder {
     metric_type: MetricType,
     labels: LabelText,
     refused: FirstRefusal,
-    known: KnownNames,
-    // The labels so far have the first of the known names.
-    is_known: bool,
 }
 
 impl Model for LabelEncoder {
+    ghost use Rattle.std.specs.Prelude.{◌≡◌, Some};
+    ghost use Rattle.fm_grammar.specs.Exposition.{Text};
+    ghost use Rattle.fm_encoder.specs.Labels.{NameFits};
     ghost use Rattle.fm_encoder.specs.inside.Steps.{pieces_of};
-    ghost use Rattle.fm_encoder.specs.inside.KnownNames.{AreKnown};
     ghost use Rattle.fm_encoder.specs.Gathered.{GatheredPieces};
 
     ghost Value = { GatheredPieces };
@@ -91,15 +89,14 @@ impl Model for LabelEncoder {
       refused = e.refused.error;
     } };
 
-    ghost invariant = { λ e.
-        AreKnown e.metric_type e.known e.is_known e.labels.labels e.labels.name };
+    ghost invariant = { λ e. (name : Text) → e.labels.name ≡ Some name
+        → NameFits e.metric_type e.labels.labels name };
 }
 
 impl LabelEncoder {
     /// Takes the label's name. Errors, in this order: the label already has a piece (`MalformedLabel`); the name is not a valid
     /// label name (`InvalidLabelName`); the metric's type reserves the name for its own labels (`ReservedLabel`); an earlier
     /// label has the name (`DuplicateLabel`); memory runs out (`Memory`).
-    #[tactic(auto, using(crate::proofs::KnownNamesLemmas::fits_known, crate::proofs::KnownNamesLemmas::may_follow, crate::proofs::KnownNamesLemmas::learnt_known, crate::proofs::KnownNamesLemmas::learnt_still))]
     pub fn encode_label_name(&mut self, name: &str) -> Result<(), EncodeError>
         ensures { TakesPieces (NamePiece name.now ∷ []) ⊥ self.old self.new result }
     {
@@ -109,12 +106,6 @@ impl LabelEncoder {
         if self.labels.is_named() || self.labels.is_valued() {
             return self.refused.refuse(EncodeError::MalformedLabel);
         }
-        if self.is_known && self.known.has_at(self.labels.len(), name) {
-            return match self.labels.set_name(name) {
-                Ok(()) => Ok(()),
-                Err(_) => self.refused.refuse(EncodeError::Memory),
-            };
-        }
         if !is_label_name(name) {
             return self.refused.refuse(EncodeError::InvalidLabelName);
         }
@@ -123,11 +114,6 @@ impl LabelEncoder {
         }
         if self.labels.has_name(name) {
             return self.refused.refuse(EncodeError::DuplicateLabel);
-        }
-        let was_known = self.is_known;
-        self.is_known = self.known.learn(was_known, self.labels.len(), name);
-        if was_known && !self.is_known {
-            return self.refused.refuse(EncodeError::Memory);
         }
         match self.labels.set_name(name) {
             Ok(()) => Ok(()),
@@ -217,8 +203,6 @@ impl LabelSetEncoder {
                 metric_type,
                 labels: LabelText::new(alloc),
                 refused: FirstRefusal { error: None },
-                known: KnownNames::new(alloc, metric_type),
-                is_known: false,
             },
         }
     }
@@ -237,7 +221,6 @@ impl LabelSetEncoder {
             (self.new ≡ record self.old { labels = before.now.labels; refused = None }) }
     {
         self.label.refused.error = None;
-        self.label.is_known = false;
         self.label.labels.assign(before)
     }
 
@@ -247,9 +230,7 @@ impl LabelSetEncoder {
     {
         self.label.metric_type = metric_type;
         self.label.refused.error = None;
-        self.label.known.begin(metric_type);
         self.label.labels.clear();
-        self.label.is_known = true;
     }
 
     /// Takes one more label. Besides the errors of its name and its value: a name without a value is refused as

@@ -1,5 +1,5 @@
 //! Whole numbers as values of labels, in decimal.
-ghost use Rattle.std.specs.Prelude.{◌≡◌, [], ◌∷◌, false, decimal};
+ghost use Rattle.std.specs.Prelude.{[], ◌∷◌, false, decimal};
 ghost use Rattle.std.specs.Fmt.{signed_decimal};
 ghost use Rattle.fm_encoder.specs.Labels.{ValuePiece};
 ghost use Rattle.fm_encoder.specs.Takes.{TakesPieces};

@@ -1,5 +1,5 @@
 //! Label sets: lists, sets and maps of labels.
-ghost use Rattle.std.specs.Prelude.{◌≡◌, ℕ, [], ◌∷◌, ◌++◌, ◌⊎◌, List, IsTrue, map, Any, Ok};
+ghost use Rattle.std.specs.Prelude.{◌≡◌, [], List, IsTrue, map, Any, Ok};
 ghost use Rattle.fm_exposition.specs.Samples.{labels_of};
 ghost use Rattle.fm_encoder.specs.Labels.{HandedLabel, handed_again};
 ghost use Rattle.fm_encoder.specs.Hands.{HandsLabels};

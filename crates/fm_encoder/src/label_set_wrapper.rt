@@ -1,5 +1,4 @@
 //! Label sets, by reference or in a smart pointer.
-ghost use Rattle.std.specs.Prelude.{◌≡◌, []};
 ghost use Rattle.std.specs.Arc.{arc_value};
 ghost use Rattle.std.specs.Rc.{rc_value};
 

@@ -1,5 +1,5 @@
 //! Names and values of labels: texts, truth values, millionths and options, and labels that are pairs of them.
-ghost use Rattle.std.specs.Prelude.{◌≡◌, [], ◌∷◌, ◌++◌, ◌⊎◌, false, true, if◌then◌else◌, MatchOption, codes, string_bytes};
+ghost use Rattle.std.specs.Prelude.{[], ◌∷◌, ◌++◌, ◌⊎◌, false, true, if◌then◌else◌, MatchOption, codes, string_bytes};
 ghost use Rattle.std.specs.Option.{option_map_or};
 ghost use Rattle.fm_grammar.specs.Numbers.{fixed_text};
 ghost use Rattle.fm_encoder.specs.Labels.{NamePiece, ValuePiece};

@@ -1,5 +1,5 @@
 //! Names and values of labels by reference or in a smart pointer, and texts that are borrowed or owned.
-ghost use Rattle.std.specs.Prelude.{◌≡◌, [], ◌∷◌, false};
+ghost use Rattle.std.specs.Prelude.{[], ◌∷◌, false};
 ghost use Rattle.std.specs.Arc.{arc_value};
 ghost use Rattle.std.specs.Cow.{cow_str_bytes};
 ghost use Rattle.std.specs.Rc.{rc_value};

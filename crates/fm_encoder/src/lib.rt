@@ -9,7 +9,6 @@ pub mod exemplar;
 mod first_refusal;
 mod gathered;
 mod kept;
-mod known_names;
 pub mod label;
 mod label_number;
 pub mod label_set;
@@ -23,7 +22,7 @@ mod names;
 pub mod point;
 pub mod value;
 
-pub use exemplar::{EncodeExemplar, ExemplarEncoder, LabeledExemplar};
+pub use exemplar::{EncodeExemplar, ExemplarEncoder, LabeledExemplar, whole_millis};
 pub use first_refusal::FirstRefusal;
 pub use fm_encode_error::EncodeError;
 pub use kept::KeptLabels;

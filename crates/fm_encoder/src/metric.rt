@@ -1,5 +1,5 @@
 //! Metrics: what offers members, and the encoder that puts a family's samples into a sink.
-ghost use Rattle.std.specs.Prelude.{◌≡◌, ◌++◌, ℕ, List, [], ◌∷◌, ◌⊎◌, MatchResult, MatchOption, Option, None, Some, IsTrue, IfSome, OnOk, IfOk, IfErr, Ok, Err, map, string_bytes};
+ghost use Rattle.std.specs.Prelude.{◌≡◌, ℕ, List, [], ◌∷◌, ◌⊎◌, MatchOption, Option, None, IsTrue, IfSome, OnOk, IfOk, IfErr, Ok, map, string_bytes};
 ghost use Rattle.std.specs.Option.{option_map, option_map_or, option_copied};
 ghost use Rattle.fm_grammar.specs.declared.MetricType.{MetricType};
 ghost use Rattle.fm_grammar.specs.Names.{IsSnakeCase};
@@ -8,10 +8,10 @@ ghost use Rattle.fm_encode_error.specs.declared.EncodeError.{EncodeError};
 ghost use Rattle.fm_exposition.specs.Rows.{head_rows};
 ghost use Rattle.fm_exposition.specs.Samples.{labels_of};
 ghost use Rattle.fm_writer.specs.Output.{AreShared, OutputText, with_lines};
-ghost use Rattle.fm_encoder.specs.Labels.{LabelsClean, LabelsFault, all_written, handed_again};
-ghost use Rattle.fm_encoder.specs.Points.{Member, UnknownPoint, GaugePoint, CounterPoint, StateSetPoint, InfoPoint, millis};
+ghost use Rattle.fm_encoder.specs.Points.{Member, UnknownPoint, GaugePoint, CounterPoint, StateSetPoint, InfoPoint, HistogramPoint, GaugeHistogramPoint, SummaryPoint, millis};
+ghost use Rattle.fm_encoder.specs.Buckets.{slots_of, MaySlotsFault};
 ghost use Rattle.fm_encoder.specs.States.{state_of};
-ghost use Rattle.fm_encoder.specs.Gathered.{OwnRefusal, IsOutcome};
+ghost use Rattle.fm_encoder.specs.Gathered.{IsOutcome};
 ghost use Rattle.fm_encoder.specs.Kept.{Keeps};
 ghost use Rattle.fm_encoder.specs.Hands.{HandsMembers, MembersOf};
 ghost use Rattle.fm_encoder.specs.Takes.{TakesMembers};
@@ -22,15 +22,14 @@ use crate::kept::KeptLabels;
 use crate::label_set::EncodeLabelSet;
 use crate::point::{EncodePoint, PointEncoder};
 use crate::value::{EncodeCounterValue, EncodeGaugeValue, EncodeUnknownValue};
+use fm_bucket::{Bucket, Quantile};
 use fm_encode_error::EncodeError;
 use fm_grammar::MetricType;
+use fm_raw::fixed::FixedSum;
 use fm_writer::{Lines, Sink};
 use std::alloc::Global;
 use std::marker::Model;
 use std::time::Duration;
-
-mod histogram;
-mod summary;
 
 /// A metric, which a registry keeps in a box.
 ///
@@ -72,82 +71,6 @@ pub trait EncodeMetric: Send + Sync + Drop {
         ensures { IsTrue result → may_be_empty self.now }
     {
         false
-    }
-}
-
-// The point of an unknown metric's value.
-#[derive(Drop)]
-struct UnknownNumber<'a, V>(&'a V);
-
-impl<V: EncodeUnknownValue> EncodePoint for UnknownNumber<'_, V> {
-    ghost points = { λ p ps. ps ≡ UnknownPoint (V.numbers p.0.now) ∷ [] };
-
-    ghost may_fault = { λ p. V.may_fault p.0.now };
-
-    fn encode(&self, encoder: &mut PointEncoder) -> Result<(), EncodeError> {
-        encoder.encode_unknown(self.0)
-    }
-}
-
-// The point of a gauge's value.
-#[derive(Drop)]
-struct GaugeNumber<'a, V>(&'a V);
-
-impl<V: EncodeGaugeValue> EncodePoint for GaugeNumber<'_, V> {
-    ghost points = { λ p ps. ps ≡ GaugePoint (V.numbers p.0.now) ∷ [] };
-
-    ghost may_fault = { λ p. V.may_fault p.0.now };
-
-    fn encode(&self, encoder: &mut PointEncoder) -> Result<(), EncodeError> {
-        encoder.encode_gauge(self.0)
-    }
-}
-
-// The point of a counter's parts.
-#[derive(Drop)]
-struct CounterTotal<'a, V, E> {
-    total: &'a V,
-    exemplar: Option<&'a E>,
-    created: Option<Duration>,
-}
-
-impl<V: EncodeCounterValue, E: EncodeExemplar> EncodePoint for CounterTotal<'_, V, E> {
-    ghost points = { λ p ps. ps
-        ≡ CounterPoint (V.numbers p.total.now)
-        (option_map_or (λ e. E.exemplars e.now) p.exemplar [])
-        (option_map millis p.created) ∷ [] };
-
-    ghost may_fault = { λ p.
-        V.may_fault p.total.now ⊎ MatchOption p.exemplar ⊥ (λ e. E.may_fault e.now) };
-
-    fn encode(&self, encoder: &mut PointEncoder) -> Result<(), EncodeError> {
-        encoder.encode_counter(self.total, self.exemplar, self.created)
-    }
-}
-
-// The point of states.
-#[derive(Drop)]
-struct States<'a>(&'a [(&'a str, bool)]);
-
-impl EncodePoint for States<'_> {
-    ghost points = { λ p ps. ps ≡ StateSetPoint (map state_of p.0.now) ∷ [] };
-
-    fn encode(&self, encoder: &mut PointEncoder) -> Result<(), EncodeError> {
-        encoder.encode_states(self.0)
-    }
-}
-
-// The point of an info's labels.
-#[derive(Drop)]
-struct InfoLabels<'a, LS>(&'a LS);
-
-impl<LS: EncodeLabelSet> EncodePoint for InfoLabels<'_, LS> {
-    ghost points = { λ p ps. ps ≡ InfoPoint (LS.labels p.0.now) ∷ [] };
-
-    ghost may_fault = { λ p. LS.may_fault p.0.now };
-
-    fn encode(&self, encoder: &mut PointEncoder) -> Result<(), EncodeError> {
-        encoder.encode_info(self.0)
     }
 }
 
@@ -249,13 +172,10 @@ impl MetricEncoder {
         ensures memory { IfErr result (λ e. e ≡ EncodeError.Memory) }
     {
         self.constants.begin(alloc, metric_type, constants)?;
-        match self
-            .points
-            .begin_family(name, metric_type, help, unit, time)
-        {
-            Ok(()) => Ok(()),
-            Err(_) => Err(EncodeError::Memory),
-        }
+        Ok(
+            self.points
+                .begin_family(name, metric_type, help, unit, time)?,
+        )
     }
 
     /// Takes a member: its labels, which are read once, and its point. Errors, in this order: those of the point's type, of the
@@ -299,7 +219,8 @@ impl MetricEncoder {
           point = UnknownPoint (V.numbers value.now);
         } ∷ []) (V.may_fault value.now) self.old self.new result }
     {
-        self.encode(&(), &UnknownNumber(value))
+        self.points.begin_member(&self.constants, None, &())?;
+        self.points.encode_unknown(value)
     }
 
     /// Takes the point of a gauge without member labels, as `PointEncoder::encode_gauge` does.
@@ -309,7 +230,8 @@ impl MetricEncoder {
           point = GaugePoint (V.numbers value.now);
         } ∷ []) (V.may_fault value.now) self.old self.new result }
     {
-        self.encode(&(), &GaugeNumber(value))
+        self.points.begin_member(&self.constants, None, &())?;
+        self.points.encode_gauge(value)
     }
 
     /// Takes the point of a counter without member labels, as `PointEncoder::encode_counter` does.
@@ -327,12 +249,8 @@ impl MetricEncoder {
         } ∷ []) (V.may_fault total.now ⊎ MatchOption exemplar.entry ⊥ (λ e. E.may_fault e.now))
             self.old self.new result }
     {
-        let point = CounterTotal {
-            total,
-            exemplar,
-            created,
-        };
-        self.encode(&(), &point)
+        self.points.begin_member(&self.constants, None, &())?;
+        self.points.encode_counter(total, exemplar, created)
     }
 
     /// Takes the point of a state set without member labels, as `PointEncoder::encode_stateset` does.
@@ -342,7 +260,8 @@ impl MetricEncoder {
           point = StateSetPoint (map state_of states.entry.items);
         } ∷ []) ⊥ self.old self.new result }
     {
-        self.encode(&(), &States(states.as_slice()))
+        self.points.begin_member(&self.constants, None, &())?;
+        self.points.encode_stateset(states)
     }
 
     /// Takes the point of an info without member labels, as `PointEncoder::encode_info` does.
@@ -352,7 +271,63 @@ impl MetricEncoder {
           point = InfoPoint (LS.labels labels.now);
         } ∷ []) (LS.may_fault labels.now) self.old self.new result }
     {
-        self.encode(&(), &InfoLabels(labels))
+        self.points.begin_member(&self.constants, None, &())?;
+        self.points.encode_info(labels)
+    }
+
+    /// Takes the point of a histogram without member labels, as `PointEncoder::encode_histogram` does.
+    pub fn encode_histogram<E: EncodeExemplar>(
+        &mut self,
+        buckets: &[Bucket],
+        exemplars: &[Option<&E>],
+        count: u64,
+        sum: FixedSum,
+        created: Option<Duration>,
+    ) -> Result<(), EncodeError>
+        ensures { TakesMembers (λ ms. ms ≡ record {
+          labels = [];
+          point = HistogramPoint buckets.now (slots_of E.exemplars exemplars.now) count sum
+              (option_map millis created);
+        } ∷ []) (MaySlotsFault E.may_fault exemplars.now) self.old self.new result }
+    {
+        self.points.begin_member(&self.constants, None, &())?;
+        self.points
+            .encode_histogram(buckets, exemplars, count, sum, created)
+    }
+
+    /// Takes the point of a gauge histogram without member labels, as `PointEncoder::encode_gauge_histogram` does.
+    pub fn encode_gauge_histogram<E: EncodeExemplar>(
+        &mut self,
+        buckets: &[Bucket],
+        exemplars: &[Option<&E>],
+        count: u64,
+        sum: FixedSum,
+    ) -> Result<(), EncodeError>
+        ensures { TakesMembers (λ ms. ms ≡ record {
+          labels = [];
+          point = GaugeHistogramPoint buckets.now (slots_of E.exemplars exemplars.now) count sum;
+        } ∷ []) (MaySlotsFault E.may_fault exemplars.now) self.old self.new result }
+    {
+        self.points.begin_member(&self.constants, None, &())?;
+        self.points
+            .encode_gauge_histogram(buckets, exemplars, count, sum)
+    }
+
+    /// Takes the point of a summary without member labels, as `PointEncoder::encode_summary` does.
+    pub fn encode_summary(
+        &mut self,
+        quantiles: &[Quantile],
+        sum: FixedSum,
+        count: u64,
+        created: Option<Duration>,
+    ) -> Result<(), EncodeError>
+        ensures { TakesMembers (λ ms. ms ≡ record {
+          labels = [];
+          point = SummaryPoint quantiles.now sum count (option_map millis created);
+        } ∷ []) ⊥ self.old self.new result }
+    {
+        self.points.begin_member(&self.constants, None, &())?;
+        self.points.encode_summary(quantiles, sum, count, created)
     }
 
     /// The timestamp of the current family, in milliseconds since the Unix epoch. A metric whose values change can offer those of

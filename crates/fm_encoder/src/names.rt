@@ -1,5 +1,5 @@
 // The test of a label's name against the type of its family.
-ghost use Rattle.std.specs.Prelude.{◌≡◌, ◌↔◌, IsTrue};
+ghost use Rattle.std.specs.Prelude.{◌↔◌, IsTrue};
 ghost use Rattle.fm_encoder.specs.Labels.{IsReserved};
 
 use fm_grammar::MetricType;

@@ -1,5 +1,5 @@
 //! Points: what emits them, and the encoder that puts their samples into a sink.
-ghost use Rattle.std.specs.Prelude.{◌≡◌, ◌⊎◌, ◌++◌, List, [], ◌∷◌, MatchResult, None, Some, OnOk, IfErr, IfSome, string_bytes};
+ghost use Rattle.std.specs.Prelude.{◌≡◌, ◌++◌, List, [], None, Some, OnOk, IfSome, string_bytes};
 ghost use Rattle.std.specs.Option.{option_map, option_copied};
 ghost use Rattle.fm_grammar.specs.Names.{IsSnakeCase};
 ghost use Rattle.fm_grammar.specs.declared.MetricType.{MetricType};
@@ -9,9 +9,9 @@ ghost use Rattle.fm_exposition.specs.Rows.{head_rows};
 ghost use Rattle.fm_exposition.specs.Samples.{value_of, exemplar_of};
 ghost use Rattle.fm_writer.specs.Output.{AreShared, with_lines};
 ghost use Rattle.fm_encoder.specs.Points.{Point};
-ghost use Rattle.fm_encoder.specs.Labels.{LabelsClean, LabelsFault, all_written, handed_again};
+ghost use Rattle.fm_encoder.specs.Labels.{handed_again};
 ghost use Rattle.fm_encoder.specs.inside.FreeLabels.{AreFree};
-ghost use Rattle.fm_encoder.specs.Gathered.{OwnRefusal, IsOutcome};
+ghost use Rattle.fm_encoder.specs.Gathered.{IsOutcome};
 ghost use Rattle.fm_encoder.specs.Takes.{Takes};
 ghost use Rattle.fm_encoder.specs.Hands.{HandsPoints};
 ghost use Rattle.fm_encoder.specs.Kept.{Keeps};

@@ -1,5 +1,5 @@
 //! The samples of a family while they are collected point by point.
-ghost use Rattle.std.specs.Prelude.{◌≡◌, ◌+◌, ◌^◌, ◌<◌, ℕ, List, [], ◌∷◌, ◌++◌, length, OnOk, OnErr, IfErr};
+ghost use Rattle.std.specs.Prelude.{◌≡◌, ◌+◌, ◌^◌, ◌<◌, ℕ, List, [], ◌∷◌, ◌++◌, OnOk, OnErr, IfErr};
 ghost use Rattle.std.specs.Option.{option_map};
 ghost use Rattle.fm_exposition.specs.inside.Points.{AreInPoints};
 ghost use Rattle.fm_exposition.specs.Samples.{labels_of, shared_labels, value_of, exemplar_of, samples_of};

@@ -1,6 +1,6 @@
 // The members of a family, each with its labels as they are written.
-ghost use Rattle.std.specs.Prelude.{◌≡◌, ◌<◌, ◌↔◌, ◌++◌, ◌⊎◌, IsTrue, OnOk, OnErr, IfSome, Some, None, Ok, Any, List, option_copied, [], ◌∷◌, length, slice_get, is_some};
-ghost use Rattle.indexmap.specs.IndexMap.{get, values, index_of, IsUnique};
+ghost use Rattle.std.specs.Prelude.{◌≡◌, ◌<◌, ◌↔◌, ◌++◌, IsTrue, OnOk, OnErr, IfSome, Some, None, Ok, Any, List, option_copied, [], ◌∷◌, length, slice_get, is_some};
+ghost use Rattle.indexmap.specs.IndexMap.{get, values, IsUnique};
 ghost use Rattle.fm_encoder.specs.Points.{Member, MembersClean, members_samples};
 ghost use Rattle.fm_encoder.specs.Output.{appended};
 ghost use Rattle.fm_encoder.specs.Hands.{HandsMembers, OffersOf};

@@ -1,5 +1,5 @@
 //! The members of a family: metrics by label set, in the order in which they were made.
-ghost use Rattle.std.specs.Prelude.{◌≡◌, ◌<◌, ◌↔◌, ◌++◌, IfOk, IsTrue, Some, None, Ok, Any, List, option_copied, [], length, slice_get, IsSome, IsOk};
+ghost use Rattle.std.specs.Prelude.{◌≡◌, ◌<◌, ◌↔◌, IfOk, IsTrue, Some, None, Ok, Any, List, option_copied, [], length, slice_get, IsSome, IsOk};
 ghost use Rattle.std.specs.Borrow.{sem};
 ghost use Rattle.indexmap.specs.IndexMap.{get, values, IsUnique};
 ghost use Rattle.fm_encoder.specs.Points.{Member, MembersClean, members_samples};

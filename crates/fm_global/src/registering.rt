@@ -1,5 +1,5 @@
 //! Values that register their metrics themselves.
-ghost use Rattle.std.specs.Prelude.{◌≡◌, Result, ⊤};
+ghost use Rattle.std.specs.Prelude.{Result, ⊤};
 ghost use Rattle.fm_registry_calls.specs.Tree.{Tree};
 ghost use Rattle.fm_registry_calls.specs.declared.RegistryError.{RegistryError as Refusal};
 ghost use Rattle.fm_global.specs.Locked.{RegistersLocked};

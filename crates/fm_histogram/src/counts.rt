@@ -1,5 +1,5 @@
 //! Counts of values by bounds, for both kinds of histograms.
-ghost use Rattle.std.specs.Prelude.{◌≡◌, ℕ, ℤ, pos, true, ◌+◌, ◌^◌, ◌<◌, ◌≤◌, ◌↔◌, List, [], ◌∷◌, ◌++◌, None, Err, IfOk, IfErr, OnOk, OnErr, length, ◌⊎◌, ◌≢◌, IsTrue, slice_index_or, slice_set};
+ghost use Rattle.std.specs.Prelude.{◌≡◌, ℕ, ℤ, true, ◌+◌, ◌^◌, ◌<◌, ◌≤◌, ◌↔◌, List, [], ◌∷◌, ◌++◌, None, Err, IfOk, IfErr, OnOk, OnErr, length, ◌⊎◌, ◌≢◌, IsTrue, slice_index_or, slice_set};
 ghost use Rattle.fm_raw.specs.declared.error.MetricError.TheVariants.{Memory, CountFull, UnequalBounds};
 ghost use Rattle.fm_bucket.specs.declared.bound.Bucket.{Bucket as OneBucket};
 ghost use Rattle.fm_bucket.specs.Bounds.{default_bounds};

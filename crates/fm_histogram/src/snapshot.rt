@@ -1,5 +1,5 @@
 //! Snapshots of histograms, and of gauge histograms.
-ghost use Rattle.std.specs.Prelude.{◌≡◌, ℤ, ◌+◌, ◌^◌, ◌≤◌, ◌↔◌, List, [], ◌∷◌, ◌++◌, true, None, Err, IfOk, IfErr, OnOk, OnErr, ◌⊎◌, ◌≢◌, if◌then◌else◌};
+ghost use Rattle.std.specs.Prelude.{◌≡◌, ℤ, ◌+◌, ◌^◌, ◌≤◌, ◌↔◌, List, [], ◌∷◌, ◌++◌, true, Err, IfOk, IfErr, OnOk, OnErr, ◌⊎◌, ◌≢◌, if◌then◌else◌};
 ghost use Rattle.std.specs.Option.{option_map};
 ghost use Rattle.std.specs.Iterator.{IsFinite, Drains};
 ghost use Rattle.fm_raw.specs.declared.error.MetricError.TheVariants.{Memory, CountFull, UnequalBounds};

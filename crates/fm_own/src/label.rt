@@ -1,5 +1,5 @@
 //! Labels by name and value, for label sets of a program's own.
-ghost use Rattle.std.specs.Prelude.{◌≡◌, ◌++◌, [], ◌∷◌, Bool, true, false, map, codes, decimal, if◌then◌else◌};
+ghost use Rattle.std.specs.Prelude.{[], ◌∷◌, true, false, map, codes, decimal, if◌then◌else◌};
 ghost use Rattle.std.specs.Fmt.{signed_decimal};
 ghost use Rattle.fm_grammar.specs.Numbers.{fixed_text};
 ghost use Rattle.fm_encoder.specs.Labels.{ValuePiece};

@@ -1,5 +1,5 @@
 //! Reads what comes after a sample's labels: its value, its timestamp and its exemplar.
-ghost use Rattle.std.specs.Prelude.{◌≡◌, IfOk};
+ghost use Rattle.std.specs.Prelude.{IfOk};
 ghost use Rattle.std.specs.Option.{option_map};
 ghost use Rattle.fm_exposition.specs.Samples.{value_of};
 ghost use Rattle.fm_reader_lines.specs.inside.Parts.{tail_text, IsToken, FoundValue, FoundNumber, IsTimeFront, FoundShown};

@@ -1,7 +1,5 @@
 //! Reads labels and their values.
-ghost use Rattle.std.specs.Prelude.{◌≡◌, ◌↔◌, IsTrue, IfOk, map, string_bytes};
-ghost use Rattle.fm_grammar.specs.Names.{AllDifferent};
-ghost use Rattle.fm_exposition.specs.Samples.{labels_of};
+ghost use Rattle.std.specs.Prelude.{IfOk};
 ghost use Rattle.fm_reader_parts.specs.inside.Fronts.{IsEscapedFront, IsLabelFront, IsLabelsFront, seen, seen_label, front_labels};
 
 use fm_raw::is_label_name;

@@ -6,7 +6,7 @@ use crate::boxed::{calls_at, root, six_calls};
 use fastmetrics::registry::{Registry, RegistryCall, RegistryError};
 use fm_test_support::support::expect_document_of;
 use fm_test_support::trees::{
-    build_below, expect_refused, gauge, have_numbers, refuses, register_below, subsystem_at,
+    build_below, expect_refused, gauge, have_numbers, refuses, register_below,
 };
 use std::alloc::{AllocError, Global};
 use std::test::Fail;

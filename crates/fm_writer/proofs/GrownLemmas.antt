@@ -1,6 +1,6 @@
 -- Pieces appended to an output one after another.
-use Rattle.std.proofs.Common.{◌≡◌, ℕ, List, [], ◌∷◌, ◌++◌, refl, sym, ap, ◌∙◌, codes, append_assoc, arith, length, length-append, ◌≤◌, ◌<◌, ◌+◌, ◌-◌, ◌^◌, min, get_or, take, drop, drop-cons, add-one, map, subst}
-use Rattle.std.proofs.lemmas.List.{append-nil, length-map, take-append-drop}
+use Rattle.std.proofs.Common.{◌≡◌, ℕ, List, [], ◌∷◌, ◌++◌, refl, sym, ap, ◌∙◌, ◌⊎◌, inl, inr, codes, append_assoc, arith, length, length-append, ◌≤◌, ◌<◌, ◌+◌, ◌-◌, ◌^◌, min, get_or, take, drop, drop-cons, add-one, map, subst}
+use Rattle.std.proofs.lemmas.List.{append-nil, length-map, length-take, map-append, take-append-drop, take_all, take_more}
 use Rattle.std.proofs.lemmas.Grind.{flat_map-append}
 use Rattle.std.specs.List.{flat_map}
 use Rattle.std.proofs.Math.ListN.{drop_of_length-le, get_or-map}
@@ -94,9 +94,26 @@ left_of_run f n b rest plain others after whole old now next last plain_is other
     ∙ (λ i. (as_it_is ∙ sym plain_is) i ++ flat_map f ((sym others_is ∙ split) i)) in
     left_of_more (f b) (flat_map f after) whole old next last (left_of_more plain (f b ++ flat_map f after) whole old now next (subst (λ (t : Text). IsLeftOf t whole old now) parts left) grown) escape
 
--- a first label, and the others with a comma before each, are a list of labels
-pub list_whole : (a b : Text → Type 0) (first : Label) (others labels : List Label) → labels ≡ first ∷ others → Grows a b (label_text first ++ further_labels others) → Grows a b (label_list_text labels)
-list_whole a b first others labels is g = rw (is, label_list_is first others) g
+-- a list of labels with one more after a comma, unless it is the first
+pub list_more : {Y : Type 0} (view : Y → Label) (ys : List Y) (i : ℕ) (d : Y) (comma : Text) (old now next : Text → Type 0) → i < length ys → ((i ≡ 0) × (comma ≡ [])) ⊎ ((0 < i) × (comma ≡ codes ",")) → Grows old now (label_list_text (map view (take i ys))) → Grows now next (comma ++ label_text (view (get_or ys i d))) → Grows old next (label_list_text (map view (take (i + 1) ys)))
+list_more {Y} view ys i d comma old now next within (inl (start, none)) before more =
+    let front : map view (take i ys) ≡ [] = ap (λ (n : ℕ). map view (take n ys)) start in
+    let label : Text = label_text (view (get_or ys i d)) in
+    let one : map view (take (i + 1) ys) ≡ view (get_or ys i d) ∷ [] = ap (map view) (take_more ys i d within) ∙ map-append view (take i ys) (get_or ys i d ∷ []) ∙ ap (λ (ls : List Label). ls ++ view (get_or ys i d) ∷ []) front in
+    let grown : Grows old next (label_list_text (map view (take i ys)) ++ (comma ++ label)) = grown_then old now next _ _ before more in
+    let same : label_list_text (map view (take i ys)) ++ (comma ++ label) ≡ label = (λ j. label_list_text (front j) ++ (none j ++ label)) in
+    rw (one, ← same) grown
+list_more {Y} view ys i d comma old now next within (inr (later, is)) before more =
+    let front = map view (take i ys) in
+    let last = view (get_or ys i d) in
+    let some : 0 < length front = omega (arith, length-map (take i ys) view, length-take i ys) in
+    let one : map view (take (i + 1) ys) ≡ front ++ last ∷ [] = ap (map view) (take_more ys i d within) ∙ map-append view (take i ys) (get_or ys i d ∷ []) in
+    let list : label_list_text (front ++ last ∷ []) ≡ label_list_text front ++ (codes "," ++ label_text last) = list_joined front (last ∷ []) some ∙ ap (λ (t : Text). label_list_text front ++ t) (append-nil (codes "," ++ label_text last)) in
+    rw (one, list) (subst (λ (t : Text). Grows old next (label_list_text front ++ (t ++ label_text last))) is (grown_then old now next _ _ before more))
+
+-- the list of all labels
+pub list_taken : {Y : Type 0} (view : Y → Label) (ys : List Y) (i : ℕ) (a b : Text → Type 0) → length ys ≤ i → Grows a b (label_list_text (map view (take i ys))) → Grows a b (label_list_text (map view ys))
+list_taken view ys i a b all g = rw (take_all i ys all) at g
 
 -- the texts of two lists that are not empty, with a comma between them, are the text of both
 pub joined_whole : (a b : Text → Type 0) (front back : List Label) (after : Text) → ◌<◌ 0 (length front) → ◌<◌ 0 (length back) → Grows a b (label_list_text front ++ (codes "," ++ (label_list_text back ++ after))) → Grows a b (label_list_text (front ++ back) ++ after)

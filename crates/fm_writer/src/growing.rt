@@ -1,5 +1,5 @@
 // A text that grows.
-ghost use Rattle.std.specs.Prelude.{◌≡◌, ◌+◌, ◌≤◌, ◌++◌, [], length, take, IfOk, IfSome, OnOk, OnErr};
+ghost use Rattle.std.specs.Prelude.{◌≡◌, ◌+◌, ◌≤◌, ◌++◌, [], length, take, IfOk, OnOk, OnErr};
 ghost use Rattle.fm_writer.specs.inside.Grown.{Grown};
 
 use crate::output::Output;

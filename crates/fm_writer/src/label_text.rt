@@ -1,15 +1,14 @@
 //! Labels that are kept in one text.
-ghost use Rattle.std.specs.Prelude.{◌≡◌, ◌++◌, ◌≤◌, ◌<◌, ◌↔◌, IsTrue, [], ◌∷◌, length, drop, map, Contains, OnOk, OnErr, IfOk, Some, None, IsSome, true, is_some, codes, if◌then◌else◌, IfSome};
+ghost use Rattle.std.specs.Prelude.{◌≡◌, ◌++◌, ◌≤◌, ◌<◌, ◌↔◌, IsTrue, [], length, drop, map, Contains, OnOk, OnErr, IfOk, Some, None, IsSome, true, is_some, codes, IfSome};
 ghost use Rattle.std.specs.Option.{option_map};
 ghost use Rattle.std.specs.List.{AllByRecursion};
 ghost use Rattle.fm_grammar.specs.Spelling.{label_list_text, escaped};
 ghost use Rattle.fm_exposition.specs.Samples.{label_of, labels_of, shown_label};
-ghost use Rattle.fm_writer.specs.inside.Grown.{Grown, Grows};
+ghost use Rattle.fm_writer.specs.inside.Grown.{Grown};
 ghost use Rattle.fm_writer.specs.inside.LabelTexts.{part_in, label_in, labels_in, IsPart, IsPlace, names_in, name_in_list, whole_label, whole_place};
 
 use crate::growing::GrowingText;
-use crate::label_list::append_placed_list;
-use crate::labels::LabelSource;
+use crate::labels::{LabelSource, append_placed_list};
 use crate::output::Output;
 use crate::plain::is_plain;
 use std::alloc::{AllocError, Global};
@@ -69,7 +68,7 @@ fn append_name(text: &mut GrowingText, is_first: bool, name: &str) -> Result<Par
 }
 
 // The bytes of a name or a value.
-fn part_at(text: &[u8], part: Part) -> &[u8]
+pub(crate) fn part_at(text: &[u8], part: Part) -> &[u8]
     requires { IsPart text.now part }
     ensures { result.now ≡ part_in text.now part }
 {

@@ -1,11 +1,13 @@
 // The labels of a sample's line, appended to an output.
-ghost use Rattle.std.specs.Prelude.{◌≡◌, ◌++◌, List, length, map, codes, OnOk};
+ghost use Rattle.std.specs.Prelude.{◌≡◌, ◌++◌, ◌⊎◌, ◌<◌, List, [], length, codes, OnOk};
+ghost use Rattle.std.specs.List.{AllByRecursion};
 ghost use Rattle.fm_grammar.specs.Exposition.{Label};
 ghost use Rattle.fm_grammar.specs.Spelling.{escaped, label_text, label_list_text, in_braces};
-ghost use Rattle.fm_exposition.specs.inside.DocumentRows.{further_label, further_labels};
-ghost use Rattle.fm_exposition.specs.Samples.{label_of, labels_of};
+ghost use Rattle.fm_exposition.specs.Samples.{labels_of};
 ghost use Rattle.fm_writer.specs.inside.Grown.{Grows};
+ghost use Rattle.fm_writer.specs.inside.LabelTexts.{labels_in, IsPlace};
 
+use crate::label_text::{Place, part_at};
 use crate::output::Output;
 use crate::plain::is_plain;
 use crate::rendering::append_escaped;
@@ -98,57 +100,40 @@ fn append_separated<O: Output>(
     append_quoted(text, value)
 }
 
-// Appends a label.
-pub(crate) fn append_label<O: Output>(
-    text: &mut O,
-    name: &[u8],
-    value: &[u8],
-) -> Result<(), AllocError>
-    ensures { OnOk result (Grows (O.stands_for text.old) (O.stands_for text.new)
-        (label_text (record { name = name.now; value = value.now }))) }
+// What comes before the label at an index of a list.
+fn separator(index: usize) -> &'static [u8]
+    ensures { ((index ≡ 0) × (result.now ≡ [])) ⊎ ((0 < index) × (result.now ≡ codes ",")) }
 {
-    append_separated(text, b"", name, value)
-}
-
-// Appends labels with a comma before each.
-fn append_further_labels<O: Output>(
-    text: &mut O,
-    labels: &[(String, String)],
-) -> Result<(), AllocError>
-    ensures { OnOk result (Grows (O.stands_for text.old) (O.stands_for text.new)
-        (further_labels (labels_of labels.now))) }
-{
-    for label in labels {
-        append_separated(text, b",", label.0.as_bytes(), label.1.as_bytes())?;
-    }
-    Ok(())
-}
-
-// Appends a label, and others with a comma before each.
-#[tactic(auto, using(crate::proofs::GrownLemmas::grown))]
-fn append_first<O: Output>(
-    text: &mut O,
-    first: &(String, String),
-    others: &[(String, String)],
-) -> Result<(), AllocError>
-    ensures { OnOk result (Grows (O.stands_for text.old) (O.stands_for text.new)
-        (label_text (label_of first.now)
-        ++ further_labels (labels_of others.now))) }
-{
-    append_label(text, first.0.as_bytes(), first.1.as_bytes())?;
-    append_further_labels(text, others)
+    if index == 0 { b"" } else { b"," }
 }
 
 // Appends labels with commas between them.
-#[tactic(auto, using(crate::proofs::GrownLemmas::grown))]
 fn append_label_list<O: Output>(text: &mut O, labels: &[(String, String)]) -> Result<(), AllocError>
     ensures { OnOk result (Grows (O.stands_for text.old) (O.stands_for text.new)
         (label_list_text (labels_of labels.now))) }
 {
-    match labels.split_first() {
-        Some((first, others)) => append_first(text, first, others),
-        None => Ok(()),
+    for i in 0..labels.len() {
+        let label = &labels[i];
+        append_separated(text, separator(i), label.0.as_bytes(), label.1.as_bytes())?;
     }
+    Ok(())
+}
+
+// Appends labels that are kept in another text, with commas between them.
+pub(crate) fn append_placed_list<O: Output>(
+    text: &mut O,
+    raw: &[u8],
+    places: &[Place],
+) -> Result<(), AllocError>
+    requires { AllByRecursion (IsPlace raw.now) places.now }
+    ensures { OnOk result (Grows (O.stands_for text.old) (O.stands_for text.new)
+        (label_list_text (labels_in raw.now places.now))) }
+{
+    for i in 0..places.len() {
+        let name = part_at(raw, places[i].name);
+        append_separated(text, separator(i), name, part_at(raw, places[i].value))?;
+    }
+    Ok(())
 }
 
 // Replaces an output by the text of labels with commas between them.

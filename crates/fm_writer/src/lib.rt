@@ -4,7 +4,6 @@
 mod front;
 mod growing;
 mod heads;
-mod label_list;
 pub mod label_text;
 mod labels;
 pub mod lines;

@@ -183,25 +183,12 @@ impl Sink {
     {
         match &mut self.form {
             Form::Samples(_, false) => Err(EncodeError::Memory),
-            Form::Samples(store, true) => match copied(self.alloc, own) {
-                Ok(own) => store.push(kind, own, *value, time, exemplar),
-                Err(_) => Err(EncodeError::Memory),
-            },
+            Form::Samples(store, true) => {
+                store.push(kind, copied(self.alloc, own)?, *value, time, exemplar)
+            }
             Form::Lines(lines) => {
-                let exemplar = exemplar.as_ref();
-                match append_sample_row(
-                    &mut lines.text,
-                    name,
-                    kind,
-                    common,
-                    own,
-                    value,
-                    time,
-                    exemplar,
-                ) {
-                    Ok(()) => Ok(()),
-                    Err(_) => Err(EncodeError::Memory),
-                }
+                let (text, exemplar) = (&mut lines.text, exemplar.as_ref());
+                Ok(append_sample_row(text, name, kind, common, own, value, time, exemplar)?)
             }
         }
     }
@@ -237,11 +224,8 @@ impl Sink {
         let Form::Lines(lines) = &mut self.form else {
             return self.push(name, kind, common, own, value, time, exemplar);
         };
-        let exemplar = exemplar.as_ref();
-        match append_row_behind(&mut lines.text, front, own, value, time, exemplar) {
-            Ok(()) => Ok(()),
-            Err(_) => Err(EncodeError::Memory),
-        }
+        let (text, exemplar) = (&mut lines.text, exemplar.as_ref());
+        Ok(append_row_behind(text, front, own, value, time, exemplar)?)
     }
 
     /// The samples, or `None` if the sink appends lines.

@@ -208,8 +208,6 @@ pub fn encode_exposition<W: Write>(
         (W.contents writer.old) (W.contents writer.new) exposition.now) }
     ensures refusals { IfErr result IsWritingRefusal }
 {
-    let Ok(text) = rendered(alloc, exposition.families()) else {
-        return Err(EncodeError::Memory);
-    };
+    let text = rendered(alloc, exposition.families())?;
     write_text(writer, text.as_slice())
 }

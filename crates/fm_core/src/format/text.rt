@@ -95,9 +95,7 @@ pub fn collect(alloc: Global, registry: &Registry) -> Result<Exposition, EncodeE
         → Fault k (λ m. offers m) (λ m. stamps m) (λ m. may_fault m) (order b))) }
     ensures not_writing { IfErr result (λ k. ¬ (IsWritersFault k)) }
 {
-    let Ok(list) = registry.listing(alloc) else {
-        return Err(EncodeError::Memory);
-    };
+    let list = registry.listing(alloc)?;
     let mut encoder = MetricFamilyEncoder::new(alloc);
     for listed in &list {
         encode_listed(&mut encoder, listed)?;

@@ -2,12 +2,11 @@
 ghost use Rattle.std.specs.Prelude.{◌≡◌, ◌⊎◌, [], ◌∷◌, MatchOption, None, Contains};
 ghost use Rattle.std.specs.Option.{option_map, option_map_or};
 ghost use Rattle.fm_grammar.specs.declared.MetricType.{MetricType};
-ghost use Rattle.fm_grammar.specs.declared.SampleKind.TheVariants.{Total as TotalKind, Created as CreatedKind};
+ghost use Rattle.fm_grammar.specs.declared.SampleKind.TheVariants.{Created as CreatedKind};
 ghost use Rattle.fm_grammar.specs.WellFormed.{kinds_of};
-ghost use Rattle.fm_exposition.specs.Samples.{value_of, exemplar_of};
-ghost use Rattle.fm_encoder.specs.Points.{UnknownPoint, GaugePoint, CounterPoint, plain_sample, created_samples, millis};
+ghost use Rattle.fm_encoder.specs.Points.{UnknownPoint, GaugePoint, CounterPoint, created_samples, millis};
 ghost use Rattle.fm_encoder.specs.Takes.{Takes, TakesPoints};
-ghost use Rattle.fm_encoder.specs.inside.Steps.{FitsType, PushesSamples};
+ghost use Rattle.fm_encoder.specs.inside.Steps.{PushesSamples};
 
 use crate::exemplar::{EncodeExemplar, exemplar_given};
 use crate::point::PointEncoder;

@@ -29,7 +29,7 @@ impl PointEncoder {
         self.encode_states(states.as_slice())
     }
 
-    pub(crate) fn encode_states(&mut self, states: &[(&str, bool)]) -> Result<(), EncodeError>
+    fn encode_states(&mut self, states: &[(&str, bool)]) -> Result<(), EncodeError>
         ensures { TakesPoints
             (λ ps. ps ≡ StateSetPoint (map state_of states.now) ∷ [])
             ⊥ self.old self.new result }

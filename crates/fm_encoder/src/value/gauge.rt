@@ -1,13 +1,10 @@
 //! The value of a gauge.
-ghost use Rattle.std.specs.Prelude.{◌≡◌, pos, List, [], ◌∷◌, MatchResult};
+ghost use Rattle.std.specs.Prelude.{pos, List, [], ◌∷◌};
 ghost use Rattle.fm_grammar.specs.Exposition.{Value as Number, Whole, Fixed as Millionths};
-ghost use Rattle.fm_exposition.specs.Samples.{value_of};
 ghost use Rattle.fm_encoder.specs.Hands.{HandsNumbers};
-ghost use Rattle.fm_encoder.specs.inside.Steps.{NumberRefusal, IsNumber};
 
 use crate::value::encoder::{OfGauge, ValueEncoder};
 use fm_encode_error::EncodeError;
-use fm_exposition::Value;
 use fm_raw::fixed::Fixed;
 
 /// Takes the value of a gauge, which is one number.

@@ -12,5 +12,5 @@ returns g c =
     let handed : HandedExemplar = record { labels = g.LS.EncodeLabelSet.labels c.args.labels.now; value = c.args.value; time = option_map millis c.args.time } in
     let labels = labels_of c.in_ok-written.written.items in
     let short : label_code_points labels ≤ 128 = rw c.deref.ensures.value at (c.are_short.ensures.0 c.if-not-are_short.false) in
-    let is = c.exemplar.ensures ∙ (λ i. record { labels = labels; value = c.in_range.ensures.same i; time = c.whole_millis.ensures.whole i }) in
-    exemplar_whole handed labels _ read.0 read.1 short c.in_range.ensures.fits (rw c.whole_millis.ensures.whole at c.whole_millis.ensures.fit) is
+    let is = c.exemplar.ensures ∙ (λ i. record { labels = labels; value = c.in_range.ensures.same i; time = c.whole_millis.ensures.value i }) in
+    exemplar_whole handed labels _ read.0 read.1 short c.in_range.ensures.fits (rw c.whole_millis.ensures.value at c.whole_millis.ensures.range) is

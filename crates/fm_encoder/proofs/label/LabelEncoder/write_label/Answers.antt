@@ -1,13 +1,9 @@
-use Rattle.std.proofs.Common.{subst, sym}
+use Rattle.std.proofs.Common.{◌≡◌, Some, subst, sym}
+use Rattle.fm_grammar.specs.Exposition.{Text}
 use Rattle.fm_writer.specs.inside.LabelTexts.{LabelsState}
-use Rattle.fm_encoder.specs.inside.KnownNames.{AreKnown}
-use Rattle.fm_encoder.proofs.KnownNamesLemmas.{ended_known}
+use Rattle.fm_encoder.specs.Labels.{NameFits}
 use Rattle.fm_encoder.proofs.label.LabelEncoder.write_label.Goals as goal
 
 pub invariant_of-self-in-Err : goal.invariant_of-self-in-Err
 invariant_of-self-in-Err c =
-    subst (λ (l : LabelsState). AreKnown c.self.inside.metric_type c.self.inside.known c.self.inside.is_known l.labels l.name) (sym c.in-Err.ensures.kept) c.self.invariant
-
-pub invariant_of-self : goal.invariant_of-self
-invariant_of-self c =
-    subst (λ (l : LabelsState). AreKnown c.self.inside.metric_type c.self.inside.known c.self.inside.is_known l.labels l.name) (sym c.in-Ok.ensures.ended) (ended_known _ _ _ _ _ _ c.self.invariant)
+    subst (λ (l : LabelsState). (n : Text) → l.name ≡ Some n → NameFits c.self.inside.metric_type l.labels n) (sym c.in-Err.ensures.kept) c.self.invariant

@@ -14,8 +14,8 @@ exemplar_behind : (borrowed : Option (Bor Exemplar)) → option_map exemplar_at 
 exemplar_behind None = refl
 exemplar_behind (Some exemplar) = refl
 
-pub returns-in-Ok-clause-pushed : goal.returns-in-Ok-clause-pushed
-returns-in-Ok-clause-pushed c =
+pub returns-clause-pushed : goal.returns-clause-pushed
+returns-clause-pushed c =
     let before : c.args.self.now.output ≡ OutputText c.lines.inside.text =
     ap (λ (s : SinkState). s.output) (sym c.self.view_is) ∙ ap (λ (f : Form). (sink_state f).output) c.in-Lines.is ∙ ap (λ (l : LinesState). OutputText l.text) (sym c.lines.view_is) in
     let exemplar : option_map exemplar_at c.as_ref-exemplar.result ≡ option_map exemplar_of c.args.exemplar =
@@ -27,4 +27,4 @@ returns-in-Ok-clause-pushed c =
       time = c.args.time;
       exemplar = option_map exemplar_at c.as_ref-exemplar.result;
     } in
-    rw (before, ← exemplar) (row_pushed _ _ c.args.front.now c.args.name.now c.args.common.now.labels c.args.own.now.labels sample refl c.requires.own c.requires.front c.in-Ok.ensures)
+    rw (before, ← exemplar) (row_pushed _ _ c.args.front.now c.args.name.now c.args.common.now.labels c.args.own.now.labels sample refl c.requires.own c.requires.front c.in_ok-append_row_behind.ensures)
