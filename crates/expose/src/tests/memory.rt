@@ -7,8 +7,10 @@ ghost use Rattle.fastmetrics.specs.HasHistory.{HasHistory};
 
 use super::scenes::{filled, states_calls, tally_calls};
 use super::{APPLICATION, JOBS, NUMBERS, TASK};
+use crate::calls::one_metric;
+use crate::histogram::numbers_histogram;
 use crate::output::Fault;
-use crate::tree::production;
+use crate::tree::{application, application_metrics, production};
 use fastmetrics::format::text::{EncodeError, Exposition, collect, encode, encode_exposition};
 use fastmetrics::metrics::tally::TallyError;
 use fastmetrics::raw::MetricError;

@@ -2,7 +2,7 @@
 use super::{bear, boxed, expect_document};
 use fastmetrics::metrics::counter::Counter;
 use fastmetrics::metrics::family::{DefaultFactory, Family, FamilyCore};
-use fastmetrics::raw::TryDefault;
+use fastmetrics::raw::{MetricError, TryDefault};
 use fm_test_support::replies::Path;
 use fm_test_support::support::Patience;
 use std::alloc::Global;

@@ -1,5 +1,5 @@
 //! Counters, gauges and state sets under refused memory.
-use super::{boxed, expect_document};
+use super::{bear, boxed, expect_document};
 use fastmetrics::metrics::counter::Counter;
 use fastmetrics::metrics::gauge::Gauge;
 use fastmetrics::metrics::state_set::StateSet;

@@ -1,7 +1,7 @@
 //! Histograms and their snapshots under refused memory.
-use super::{boxed, expect_document};
+use super::{bear, boxed, expect_document};
 use fastmetrics::metrics::histogram::{Histogram, HistogramSnapshot};
-use fastmetrics::raw::{Fixed, TryDefault};
+use fastmetrics::raw::{Fixed, MetricError, TryDefault};
 use fm_test_support::support::Patience;
 use std::alloc::Global;
 use std::sync::Wait;

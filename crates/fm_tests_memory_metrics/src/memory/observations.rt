@@ -2,8 +2,8 @@
 use super::bear;
 use fastmetrics::metrics::gauge_histogram::GaugeHistogramSnapshot;
 use fastmetrics::metrics::tally::{OpenGate, TallyError, observe_all, observe_all_gauge};
-use fastmetrics::raw::Fixed;
 use fastmetrics::raw::bucket::{Bound, Bucket};
+use fastmetrics::raw::{Fixed, MetricError};
 use fm_test_support::support::Patience;
 use std::alloc::{AllocError, Global};
 use std::sync::Wait;
