@@ -65,25 +65,25 @@ fn begin_family(
 }
 
 // Appends the lines of a metric's family, unless the metric is empty, or returns the first refusal.
-fn add_family(
+fn add_family<M: EncodeMetric>(
     alloc: Global,
     encoder: &mut MetricEncoder,
     name: &mut String,
     namespace: Option<&str>,
     constants: &[(String, String)],
     metadata: &Metadata,
-    metric: &dyn EncodeMetric,
+    metric: &M,
 ) -> Result<(), EncodeError>
     requires heading { IsListable
         (heading_in (option_copied namespace) (labels_of constants.now) metadata.now) }
     requires lines { HasLines encoder.old }
     ensures { MatchResult result
         (λ _. HasLines encoder.new
-        × AddsRows (offers metric.now) (stamps metric.now) (may_be_empty metric.now)
+        × AddsRows (M.offers metric.now) (M.stamps metric.now) (M.may_be_empty metric.now)
         (heading_in (option_copied namespace.entry) (labels_of constants.now) metadata.now)
         (text_in encoder.old.output) (text_in encoder.new.output))
         (λ k. (k ≡ EncodeError.Memory)
-        ⊎ FaultUnder (offers metric.now) (stamps metric.now) k (may_fault metric.now)
+        ⊎ FaultUnder (M.offers metric.now) (M.stamps metric.now) k (M.may_fault metric.now)
         (heading_in (option_copied namespace.entry) (labels_of constants.now) metadata.now)) }
 {
     if metric.is_empty() {
@@ -96,21 +96,21 @@ fn add_family(
 }
 
 // Appends the lines of a listed metric's family, unless the metric is empty, or returns the first refusal.
-fn add_listed(
+fn add_listed<M: EncodeMetric>(
     alloc: Global,
     encoder: &mut MetricEncoder,
     name: &mut String,
-    listed: &ListedMetric<'_, Box<dyn EncodeMetric>>,
+    listed: &ListedMetric<'_, M>,
 ) -> Result<(), EncodeError>
     requires listable { IsListable (seen_listed listed.now) }
     requires lines { HasLines encoder.old }
     ensures { MatchResult result
         (λ _. HasLines encoder.new
-        × AddsNextRows (λ m. offers m) (λ m. stamps m) (λ m. may_be_empty m)
+        × AddsNextRows (λ m. M.offers m) (λ m. M.stamps m) (λ m. M.may_be_empty m)
         (seen_listed listed.now)
         (text_in encoder.old.output) (text_in encoder.new.output))
         (λ k. (k ≡ EncodeError.Memory)
-        ⊎ FaultOf k (λ m. offers m) (λ m. stamps m) (λ m. may_fault m) (seen_listed listed.now)) }
+        ⊎ FaultOf k (λ m. M.offers m) (λ m. M.stamps m) (λ m. M.may_fault m) (seen_listed listed.now)) }
 {
     add_family(
         alloc,
@@ -119,7 +119,7 @@ fn add_listed(
         listed.namespace.as_deref(),
         listed.constant_labels(),
         listed.metadata,
-        &**listed.metric,
+        listed.metric,
     )
 }
 
@@ -139,15 +139,15 @@ fn ended_lines(encoder: MetricEncoder) -> Result<Lines, AllocError>
 }
 
 // The lines of the document of a registry and all below it, or the first refusal. It may wait if a metric waits for a lock.
-pub(crate) fn document_lines(alloc: Global, registry: &Registry) -> Result<Lines, EncodeError>
+pub(crate) fn document_lines<M: EncodeMetric>(alloc: Global, registry: &Registry<M>) -> Result<Lines, EncodeError>
     requires { HasHistory registry.now }
     ensures text { IfOk result (λ lines. (e : Exposition)
         × ((b : _) → Shows registry.now b
-        → Admits (λ m. offers m) (λ m. stamps m) (λ m. may_be_empty m) (order b) e)
+        → Admits (λ m. M.offers m) (λ m. M.stamps m) (λ m. M.may_be_empty m) (order b) e)
         × IsExposition e × (lines.text ≡ document_rows e)) }
     ensures fault { IfErr result (λ k. (k ≡ EncodeError.Memory)
         ⊎ ((b : _) → Shows registry.now b
-        → Fault k (λ m. offers m) (λ m. stamps m) (λ m. may_fault m) (order b))) }
+        → Fault k (λ m. M.offers m) (λ m. M.stamps m) (λ m. M.may_fault m) (order b))) }
     ensures not_writing { IfErr result (λ k. ¬ (IsWritersFault k)) }
 {
     let list = registry.listing(alloc)?;

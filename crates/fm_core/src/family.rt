@@ -97,23 +97,23 @@ pub(crate) fn text_of(unit: Option<&Unit>) -> Option<&str>
 
 // Puts what a metric offers under its printed name, type and constant labels into a sink, or returns the first refusal. The name
 // comes back with the sink.
-fn offered_by(
+fn offered_by<M: EncodeMetric>(
     alloc: Global,
     name: String,
     metric_type: MetricType,
     constants: &[(String, String)],
-    metric: &dyn EncodeMetric,
+    metric: &M,
     sink: Sink,
 ) -> Result<(String, Sink), EncodeError>
     requires name { IsSnakeCase (string_bytes name) }
     requires shared { AreShared [] sink.shared }
     ensures { MatchResult result
         (λ made. (string_bytes made.0 ≡ string_bytes name)
-        × Offered (offers metric.now) (stamps metric.now)
+        × Offered (M.offers metric.now) (M.stamps metric.now)
         (string_bytes name) metric_type (labels_of constants.now)
         sink.output made.1.output)
         (λ k. (k ≡ EncodeError.Memory)
-        ⊎ MetricHasFault k (offers metric.now) (stamps metric.now) (may_fault metric.now)
+        ⊎ MetricHasFault k (M.offers metric.now) (M.stamps metric.now) (M.may_fault metric.now)
         (string_bytes name)
         metric_type (labels_of constants.now)) }
 {
@@ -128,22 +128,22 @@ fn offered_by(
 
 // What a metric offers under its printed name, type and constant labels, as samples, or the first refusal. The name comes
 // back with them.
-fn samples_of_metric(
+fn samples_of_metric<M: EncodeMetric>(
     alloc: Global,
     name: String,
     metric_type: MetricType,
     constants: &[(String, String)],
-    metric: &dyn EncodeMetric,
+    metric: &M,
 ) -> Result<(String, SampleStore), EncodeError>
     requires { IsSnakeCase (string_bytes name) }
     ensures { MatchResult result
         (λ made. (string_bytes made.0 ≡ string_bytes name)
-        × AdmitsSamples (offers metric.now) (stamps metric.now)
+        × AdmitsSamples (M.offers metric.now) (M.stamps metric.now)
         (string_bytes name) metric_type (labels_of constants.now)
         made.1.samples
         × AllByRecursion (IsSample metric_type) made.1.samples)
         (λ k. (k ≡ EncodeError.Memory)
-        ⊎ MetricHasFault k (offers metric.now) (stamps metric.now) (may_fault metric.now)
+        ⊎ MetricHasFault k (M.offers metric.now) (M.stamps metric.now) (M.may_fault metric.now)
         (string_bytes name)
         metric_type (labels_of constants.now)) }
 {
@@ -225,18 +225,18 @@ impl<'a> MetricFamilyEncoder<'a> {
     }
 
     // The family of a metric with this metadata, or the first refusal.
-    fn family_of(
+    fn family_of<M: EncodeMetric>(
         &self,
         metadata: &Metadata,
-        metric: &dyn EncodeMetric,
+        metric: &M,
     ) -> Result<FamilySamples, EncodeError>
         requires { IsListable (next_heading self.now metadata.now) }
         ensures { MatchResult result
-            (λ family. IsFamilyUnder (offers metric.now) (stamps metric.now)
+            (λ family. IsFamilyUnder (M.offers metric.now) (M.stamps metric.now)
             (next_heading self.now metadata.now) family
             × IsFamily family)
             (λ k. (k ≡ EncodeError.Memory)
-            ⊎ FaultUnder (offers metric.now) (stamps metric.now) k (may_fault metric.now)
+            ⊎ FaultUnder (M.offers metric.now) (M.stamps metric.now) k (M.may_fault metric.now)
             (next_heading self.now metadata.now)) }
     {
         let (name, help, unit) = self.heads_of(metadata)?;
@@ -254,16 +254,16 @@ impl<'a> MetricFamilyEncoder<'a> {
     /// Takes the next metric: adds its family with this metadata, unless the metric is empty. The metadata is that of a metric of
     /// the current registry, whose printed name no family has so far. Fails with `Memory` if memory runs out, or for a fault of
     /// the metric; from then on each call returns this first error and changes nothing. It may wait if the metric waits for a lock.
-    pub fn encode(
+    pub fn encode<M: EncodeMetric>(
         &mut self,
         metadata: &Metadata,
-        metric: &dyn EncodeMetric,
+        metric: &M,
     ) -> Result<(), EncodeError>
         requires heading { IsListable (next_heading self.old metadata.now) }
         requires new_name { IsNewName
             (listed_name (next_heading self.old metadata.now)) self.old.families }
-        ensures { Takes (EncodesFamily (offers metric.now) (stamps metric.now)
-            (may_be_empty metric.now) (may_fault metric.now)
+        ensures { Takes (EncodesFamily (M.offers metric.now) (M.stamps metric.now)
+            (M.may_be_empty metric.now) (M.may_fault metric.now)
             (next_heading self.old metadata.now) self.old self.new) self.new.refused result }
     {
         if let Some(error) = self.refused.error {

@@ -74,6 +74,35 @@ pub trait EncodeMetric: Send + Sync + Drop {
     }
 }
 
+/// A boxed metric declares and offers what the metric in the box does.
+impl EncodeMetric for Box<dyn EncodeMetric> {
+    ghost types = { λ b. (EncodeMetric-box b).types b.value };
+
+    ghost may_be_empty = { λ b. (EncodeMetric-box b).may_be_empty b.value };
+
+    ghost stamps = { λ b. (EncodeMetric-box b).stamps b.value };
+
+    ghost offers = { λ b. (EncodeMetric-box b).offers b.value };
+
+    ghost may_fault = { λ b. (EncodeMetric-box b).may_fault b.value };
+
+    fn encode(&self, encoder: &mut MetricEncoder) -> Result<(), EncodeError> {
+        (**self).encode(encoder)
+    }
+
+    fn metric_type(&self) -> MetricType {
+        (**self).metric_type()
+    }
+
+    fn timestamp(&self) -> Option<Duration> {
+        (**self).timestamp()
+    }
+
+    fn is_empty(&self) -> bool {
+        (**self).is_empty()
+    }
+}
+
 /// Puts the samples of a metric's family into a sink.
 #[derive(Drop)]
 pub struct MetricEncoder {

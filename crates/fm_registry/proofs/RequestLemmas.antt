@@ -16,8 +16,7 @@ use Rattle.fm_registry_calls.proofs.ApplyLemmas.{apply-missing}
 use Rattle.fm_registry_calls.proofs.RunLemmas.{Runs-more, path_of-++, path_of-reversed}
 use Rattle.fm_registry.specs.HasHistory.{HasHistory, Grows}
 use Rattle.fm_registry.specs.inside.Request.{call_at}
-use Rattle.fm_registry.specs.Calls.{IsCall, AreCalls, RunsCalls, seen_path}
-use Rattle.fm_registry.specs.inside.CallSteps.{RunsCall}
+use Rattle.fm_registry.specs.Calls.{IsCall, AreCalls, RunsCall, RunsCalls, seen_path}
 use Rattle.fm_registry.proofs.GrowthLemmas.{Grows-run}
 use Rattle.fm_registry.specs.declared.registry.run.Request.{Request}
 use Rattle.fm_registry.specs.declared.registry.run.Request.TheVariants as request

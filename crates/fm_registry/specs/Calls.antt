@@ -1,5 +1,5 @@
 -- Calls that are made in turn, each with the type that its metric declared.
-use Rattle.std.specs.Prelude.{◌≡◌, ⊤, List, [], ◌∷◌, map, Option, String}
+use Rattle.std.specs.Prelude.{◌≡◌, ⊤, List, [], ◌∷◌, map, Option, String, Result, OnOk, OnErr}
 use Rattle.std.specs.declared.alloc.Global.{Global}
 use Rattle.std.specs.String.{string_bytes}
 use Rattle.fm_grammar.specs.declared.MetricType.{MetricType}
@@ -7,9 +7,10 @@ use Rattle.fm_exposition.specs.Samples.{labels_of}
 use Rattle.fm_registry_calls.specs.Texts.{Path}
 use Rattle.fm_registry_calls.specs.History as history
 use Rattle.fm_registry_calls.specs.History.{History, Call}
-use Rattle.fm_registry_calls.specs.Answer.{Refusal}
+use Rattle.fm_registry_calls.specs.Answer.{Refusal, refusal_of, after}
 use Rattle.fm_registry_calls.specs.Tree.{Tree, Reads}
-use Rattle.fm_registry_calls.specs.Running.{Runs}
+use Rattle.fm_registry_calls.specs.Running.{Runs, IsReply}
+use Rattle.fm_registry_calls.specs.declared.RegistryError.{RegistryError}
 use Rattle.fm_registry.specs.View.{asked_metric}
 use Rattle.fm_registry.specs.declared.registry.run.RegistryCall as given
 
@@ -37,3 +38,12 @@ module _ {M : Type 0} (Types : M → MetricType → Type 0) where
     pub calls : List (Call M)
     pub are : AreCalls gs calls
     pub runs : (b : History M) → Reads old b → Runs b calls replies new
+
+  -- what one call does: for every history that the registry read, the reply is the history's, or there was no memory and the
+  -- call may need some; at `Ok` the registry reads the history after the call, and at `Err` it is as it was
+  pub record RunsCall (g : given.RegistryCall M) (old new : Tree M) (result : Result (Unit {0}) RegistryError) : Type 0 where
+    pub call : Call M
+    pub is : IsCall g call
+    pub reply : (b : History M) → Reads old b → IsReply (refusal_of result) b call
+    pub ok : OnOk result ((b : History M) → Reads old b → Reads new (after b call))
+    pub err : OnErr result (new ≡ old)

@@ -3,6 +3,5 @@ pub mod Names
 pub mod Falls
 pub mod RootLabels
 pub mod Request
-pub mod CallSteps
 pub mod LendsParts
 pub mod TreeView

@@ -27,12 +27,12 @@ use std::alloc::Global;
 use std::io::Write;
 
 // Goes on to a registry, and takes a metric of it, which has a new name.
-fn encode_under<'a>(
+fn encode_under<'a, M: EncodeMetric>(
     encoder: &mut MetricFamilyEncoder<'a>,
     namespace: Option<&'a str>,
     constants: &'a [(String, String)],
     metadata: &Metadata,
-    metric: &dyn EncodeMetric,
+    metric: &M,
 ) -> Result<(), EncodeError>
     requires heading { IsListable
         (heading_in (option_copied namespace) (labels_of constants.now) metadata.now) }
@@ -42,12 +42,12 @@ fn encode_under<'a>(
     requires accepting { encoder.old.refused ≡ None }
     ensures accepting { OnOk result (encoder.new.refused ≡ None) }
     ensures ok { OnOk result
-        (AddsFamily (offers metric.now) (stamps metric.now) (may_be_empty metric.now)
+        (AddsFamily (M.offers metric.now) (M.stamps metric.now) (M.may_be_empty metric.now)
         (heading_in (option_copied namespace.entry) (labels_of constants.now) metadata.now)
         encoder.old.families
         encoder.new.families) }
     ensures err { IfErr result (λ k. (k ≡ EncodeError.Memory)
-        ⊎ FaultUnder (offers metric.now) (stamps metric.now) k (may_fault metric.now)
+        ⊎ FaultUnder (M.offers metric.now) (M.stamps metric.now) k (M.may_fault metric.now)
         (heading_in (option_copied namespace.entry) (labels_of constants.now) metadata.now)) }
 {
     encoder.enter(namespace, constants);
@@ -55,27 +55,27 @@ fn encode_under<'a>(
 }
 
 // Goes on to a listed metric's registry, and takes the metric.
-fn encode_listed<'a>(
+fn encode_listed<'a, M: EncodeMetric>(
     encoder: &mut MetricFamilyEncoder<'a>,
-    listed: &ListedMetric<'a, Box<dyn EncodeMetric>>,
+    listed: &ListedMetric<'a, M>,
 ) -> Result<(), EncodeError>
     requires listable { IsListable (seen_listed listed.now) }
     requires new_name { IsNewName (listed_name (seen_listed listed.now)) encoder.old.families }
     requires accepting { encoder.old.refused ≡ None }
     ensures accepting { OnOk result (encoder.new.refused ≡ None) }
     ensures ok { OnOk result
-        (AdmitsNext (λ m. offers m) (λ m. stamps m) (λ m. may_be_empty m)
+        (AdmitsNext (λ m. M.offers m) (λ m. M.stamps m) (λ m. M.may_be_empty m)
         (seen_listed listed.now) encoder.old.families
         encoder.new.families) }
     ensures err { IfErr result (λ k. (k ≡ EncodeError.Memory)
-        ⊎ FaultOf k (λ m. offers m) (λ m. stamps m) (λ m. may_fault m) (seen_listed listed.now)) }
+        ⊎ FaultOf k (λ m. M.offers m) (λ m. M.stamps m) (λ m. M.may_fault m) (seen_listed listed.now)) }
 {
     encode_under(
         encoder,
         listed.namespace.as_deref(),
         listed.constant_labels(),
         listed.metadata,
-        &**listed.metric,
+        listed.metric,
     )
 }
 
@@ -84,15 +84,15 @@ fn encode_listed<'a>(
 ///
 /// It stops at the first error: `Memory` if memory runs out, or a refusal of an encoder, even if the metric ignores it. It may
 /// wait if a metric waits for a lock.
-pub fn collect(alloc: Global, registry: &Registry) -> Result<Exposition, EncodeError>
+pub fn collect<M: EncodeMetric>(alloc: Global, registry: &Registry<M>) -> Result<Exposition, EncodeError>
     requires { HasHistory registry.now }
     // Every history that the registry reads admits the exposition.
     ensures admitted { IfOk result (λ e. (b : _) → Shows registry.now b
-        → Admits (λ m. offers m) (λ m. stamps m) (λ m. may_be_empty m) (order b) e) }
+        → Admits (λ m. M.offers m) (λ m. M.stamps m) (λ m. M.may_be_empty m) (order b) e) }
     // A refusal names a fault that the tree has.
     ensures fault { IfErr result (λ k. (k ≡ EncodeError.Memory)
         ⊎ ((b : _) → Shows registry.now b
-        → Fault k (λ m. offers m) (λ m. stamps m) (λ m. may_fault m) (order b))) }
+        → Fault k (λ m. M.offers m) (λ m. M.stamps m) (λ m. M.may_fault m) (order b))) }
     ensures not_writing { IfErr result (λ k. ¬ (IsWritersFault k)) }
 {
     let list = registry.listing(alloc)?;
@@ -108,27 +108,27 @@ pub fn collect(alloc: Global, registry: &Registry) -> Result<Exposition, EncodeE
 ///
 /// Errors: a metric was refused or memory ran out, and nothing was written; the writer returned an error (`Write`) or took no
 /// byte (`WriteZero`), and a beginning of the document was written. Wrap a file or a socket in a `BufWriter`, and flush it.
-pub fn encode<W: Write>(
+pub fn encode<W: Write, M: EncodeMetric>(
     alloc: Global,
     writer: &mut W,
-    registry: &Registry,
+    registry: &Registry<M>,
 ) -> Result<(), EncodeError>
     requires { HasHistory registry.now }
     // The document, and nothing else, of an exposition that every history of the registry admits, and of no other exposition.
     ensures document { OnOk result (WritesAdmitted
         (λ e. (b : _) → Shows registry.now b
-        → Admits (λ m. offers m) (λ m. stamps m) (λ m. may_be_empty m) (order b) e)
+        → Admits (λ m. M.offers m) (λ m. M.stamps m) (λ m. M.may_be_empty m) (order b) e)
         (W.contents writer.old) (W.contents writer.new)) }
     // A refusal in collecting writes nothing, and names a fault that the tree has.
     ensures refused { IfErr result (λ k. ¬ (IsWritersFault k)
         → Keeps (W.contents writer.old) (W.contents writer.new)
         × ((k ≡ EncodeError.Memory)
         ⊎ ((b : _) → Shows registry.now b
-        → Fault k (λ m. offers m) (λ m. stamps m) (λ m. may_fault m) (order b)))) }
+        → Fault k (λ m. M.offers m) (λ m. M.stamps m) (λ m. M.may_fault m) (order b)))) }
     // After an error of the writer, a beginning of such a document was written.
     ensures stopped { IfErr result (λ k. IsWritersFault k → BeginsAdmitted
         (λ e. (b : _) → Shows registry.now b
-        → Admits (λ m. offers m) (λ m. stamps m) (λ m. may_be_empty m) (order b) e)
+        → Admits (λ m. M.offers m) (λ m. M.stamps m) (λ m. M.may_be_empty m) (order b) e)
         (W.contents writer.old) (W.contents writer.new)) }
 {
     let lines = document_lines(alloc, registry)?;

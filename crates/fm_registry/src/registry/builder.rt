@@ -90,12 +90,20 @@ impl RegistryBuilder {
             (seen_labels self.const_labels) t) }
         ensures answer { refusal_of result ≡ None }
     {
-        Ok(Registry {
+        Ok(self.build_root())
+    }
+
+    /// Returns the root as a registry of metrics of any one type. It allocates nothing.
+    pub fn build_root<M>(self) -> Registry<M>
+        ensures { IsNewRoot (option_map string_bytes self.namespace)
+            (seen_labels self.const_labels) result }
+    {
+        Registry {
             namespace: self.namespace,
             const_labels: self.const_labels,
             depth: 0,
             metrics: None,
             subsystems: None,
-        })
+        }
     }
 }

@@ -10,13 +10,11 @@ ghost use Rattle.fm_registry_calls.specs.Steps.{with_subsystem};
 ghost use Rattle.fm_registry_calls.specs.Running.{IsReply};
 ghost use Rattle.fm_registry_calls.specs.inside.Paths.{path_of};
 ghost use Rattle.fm_registry.specs.inside.Request.{call_at};
-ghost use Rattle.fm_registry.specs.Calls.{RunsCalls};
-ghost use Rattle.fm_registry.specs.inside.CallSteps.{RunsCall};
+ghost use Rattle.fm_registry.specs.Calls.{RunsCall, RunsCalls};
 ghost use Rattle.fm_registry.specs.HasHistory.{HasHistory, Grows};
 
 use super::Registry;
 use fm_encoder::EncodeMetric;
-use fm_encoder::metric_type::type_of;
 use fm_raw::{MetricType, Unit};
 use fm_registry_calls::RegistryError;
 use std::alloc::Global;
@@ -144,10 +142,21 @@ impl<M: Drop> Registry<M> {
     }
 }
 
-impl Registry {
+impl<M: EncodeMetric> Registry<M> {
+    /// Makes one call, and returns its reply: that of `register_metric` or of a subsystem builder at the registry that the
+    /// path leads to, or `NoSuchSubsystem` with the first name on the path that does not exist. A call that fails changes
+    /// nothing.
+    pub fn run_call(&mut self, alloc: Global, call: RegistryCall<M>) -> Result<(), RegistryError>
+        ensures runs { RunsCall M.types call self.old self.new result }
+        ensures grows { Grows self.old self.new }
+        ensures sound { HasHistory self.old → HasHistory self.new }
+    {
+        self.apply_call(alloc, call)
+    }
+
     // Makes one call.
-    fn run_call(&mut self, alloc: Global, call: RegistryCall) -> Result<(), RegistryError>
-        ensures { RunsCall (λ m t. types m t) call self.old self.new result }
+    fn apply_call(&mut self, alloc: Global, call: RegistryCall<M>) -> Result<(), RegistryError>
+        ensures { RunsCall M.types call self.old self.new result }
     {
         match call {
             RegistryCall::Register {
@@ -157,7 +166,7 @@ impl Registry {
                 unit,
                 metric,
             } => {
-                let metric_type = type_of(&metric);
+                let metric_type = metric.metric_type();
                 path.reverse();
                 let request = Request::Register {
                     name,
@@ -178,7 +187,9 @@ impl Registry {
             }
         }
     }
+}
 
+impl Registry {
     /// Makes the calls in turn, also after a call that fails, and returns the reply to each.
     ///
     /// A call gets the reply that `register_metric` or a subsystem builder gives at that registry, or `NoSuchSubsystem`

@@ -14,7 +14,7 @@ use Rattle.fm_core.proofs.DocumentLemmas.{IsTextOf-none, IsTextOf-next}
 use Rattle.fm_core.proofs.document.document_lines.Goals as goal
 
 pub add_listed-requires-clause-listable : goal.add_listed-requires-clause-listable
-add_listed-requires-clause-listable g c =
+add_listed-requires-clause-listable g c = λ κs lives.
     let within : c.loop-listed.listed-index < length c.deref-listed-items.result.now = omega arith in
     let whole = ap seen_list c.deref-listed-items.ensures.value ∙ c.in_ok-list.ensures.tree in
     IsListable-at c.deref-listed-items.result.now c.loop-listed.listed-index c.listed-item.result within c.listed-item.is
@@ -49,8 +49,8 @@ returns-in_err-add_listed-clause-fault g c =
     let k = c.in_err-add_listed.field-0.0 in
     rw (exit.1, exit.2) (elim refusal [
       | inl memory ↦ inl memory
-      | inr fault ↦ inr (λ b shows. subst (λ ls. Fault k (λ m. (goal.EncodeMetric-dyn g (m.vtable, m.value)).offers m.value) (λ m. (goal.EncodeMetric-dyn g (m.vtable, m.value)).stamps m.value) (λ m. (goal.EncodeMetric-dyn g (m.vtable, m.value)).may_fault m.value) ls) (ap seen_list c.deref-listed-items.ensures.value ∙ c.in_ok-list.ensures.history c.requires b shows)
-          (Fault-at k (λ m. (goal.EncodeMetric-dyn g (m.vtable, m.value)).offers m.value) (λ m. (goal.EncodeMetric-dyn g (m.vtable, m.value)).stamps m.value) (λ m. (goal.EncodeMetric-dyn g (m.vtable, m.value)).may_fault m.value) c.deref-listed-items.result.now c.loop-listed.listed-index c.listed-item.result within c.listed-item.is fault))
+      | inr fault ↦ inr (λ b shows. subst (λ ls. Fault k (λ m. g.M.EncodeMetric.offers m) (λ m. g.M.EncodeMetric.stamps m) (λ m. g.M.EncodeMetric.may_fault m) ls) (ap seen_list c.deref-listed-items.ensures.value ∙ c.in_ok-list.ensures.history c.requires b shows)
+          (Fault-at k (λ m. g.M.EncodeMetric.offers m) (λ m. g.M.EncodeMetric.stamps m) (λ m. g.M.EncodeMetric.may_fault m) c.deref-listed-items.result.now c.loop-listed.listed-index c.listed-item.result within c.listed-item.is fault))
     ])
 
 pub returns-in_err-add_listed-clause-not_writing : goal.returns-in_err-add_listed-clause-not_writing
@@ -58,14 +58,14 @@ returns-in_err-add_listed-clause-not_writing g c =
     let exit = err_from_is_err_and c.from_residual-in_err-add_listed.result c.from_residual-in_err-add_listed.ensures.1 in
     let refusal = rw c.in_err-add_listed.was at c.add_listed.ensures in
     let k = c.in_err-add_listed.field-0.0 in
-    rw (exit.1, exit.2) (refusal-not_writing k (λ m. (goal.EncodeMetric-dyn g (m.vtable, m.value)).offers m.value) (λ m. (goal.EncodeMetric-dyn g (m.vtable, m.value)).stamps m.value) (λ m. (goal.EncodeMetric-dyn g (m.vtable, m.value)).may_fault m.value) (seen_listed c.listed-item.result) refusal)
+    rw (exit.1, exit.2) (refusal-not_writing k (λ m. g.M.EncodeMetric.offers m) (λ m. g.M.EncodeMetric.stamps m) (λ m. g.M.EncodeMetric.may_fault m) (seen_listed c.listed-item.result) refusal)
 
 pub returns-clause-text : goal.returns-clause-text
 returns-clause-text g c =
     let whole = take_all c.loop-listed.listed-index c.deref-listed-items.result.now c.loop-listed-test.false in
     let text = rw whole at c.loop-listed.invariant.text in (
       text.exposition,
-      (λ b shows. subst (λ ls. Admits (λ m. (goal.EncodeMetric-dyn g (m.vtable, m.value)).offers m.value) (λ m. (goal.EncodeMetric-dyn g (m.vtable, m.value)).stamps m.value) (λ m. (goal.EncodeMetric-dyn g (m.vtable, m.value)).may_be_empty m.value) ls text.exposition) (ap seen_list c.deref-listed-items.ensures.value ∙ c.in_ok-list.ensures.history c.requires b shows)
+      (λ b shows. subst (λ ls. Admits (λ m. g.M.EncodeMetric.offers m) (λ m. g.M.EncodeMetric.stamps m) (λ m. g.M.EncodeMetric.may_be_empty m) ls text.exposition) (ap seen_list c.deref-listed-items.ensures.value ∙ c.in_ok-list.ensures.history c.requires b shows)
           text.admitted),
       text.is_exposition,
       c.in_ok-ended_lines.ensures ∙ ap (λ (t : Text). t ++ codes "# EOF\n") text.rows,

@@ -6,8 +6,8 @@ use Rattle.fm_core.proofs.document.document_lines.Given as goal
 abbrev pub invariant-loop-listed : goal.invariant-loop-listed
 invariant-loop-listed g l = record {
   lines : HasLines l.encoder;
-  text : IsTextOf (λ m. (goal.EncodeMetric-dyn g (m.vtable, m.value)).offers m.value)
-      (λ m. (goal.EncodeMetric-dyn g (m.vtable, m.value)).stamps m.value)
-      (λ m. (goal.EncodeMetric-dyn g (m.vtable, m.value)).may_be_empty m.value)
+  text : IsTextOf (λ m. g.M.EncodeMetric.offers m)
+      (λ m. g.M.EncodeMetric.stamps m)
+      (λ m. g.M.EncodeMetric.may_be_empty m)
       (seen_list (take l.listed-index l.listed-items)) (text_in l.encoder.output);
 }

@@ -5,9 +5,9 @@ use Rattle.fm_core.proofs.format.text.collect.Given as goal
 
 abbrev pub invariant-loop-listed : goal.invariant-loop-listed
 invariant-loop-listed g l = record {
-  admitted : Admits (λ m. (goal.EncodeMetric-dyn g (m.vtable, m.value)).offers m.value)
-      (λ m. (goal.EncodeMetric-dyn g (m.vtable, m.value)).stamps m.value)
-      (λ m. (goal.EncodeMetric-dyn g (m.vtable, m.value)).may_be_empty m.value)
+  admitted : Admits (λ m. g.M.EncodeMetric.offers m)
+      (λ m. g.M.EncodeMetric.stamps m)
+      (λ m. g.M.EncodeMetric.may_be_empty m)
       (seen_list (take l.listed-index l.listed-items)) l.encoder.families;
   accepting : l.encoder.refused ≡ None;
 }

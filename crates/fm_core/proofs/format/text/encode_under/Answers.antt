@@ -8,7 +8,7 @@ use Rattle.fm_core.proofs.format.text.encode_under.Goals as goal
 pub returns-clause-err : goal.returns-clause-err
 returns-clause-err g c =
     let accepting : c.enter.new.self.refused ≡ None = ap (λ e. e.refused) c.enter.ensures ∙ c.requires.accepting in
-    let members = goal.EncodeMetric-dyn g c.args.metric.now in
-    refused_under (members.offers c.args.metric.now.1) (members.stamps c.args.metric.now.1) (members.may_fault c.args.metric.now.1) (next_heading c.enter.new.self c.args.metadata.now) (heading_in (option_copied c.args.namespace) (labels_of c.args.constants.now) c.args.metadata.now) c.encode.result c.encode.new.self.refused
+    let members = g.M.EncodeMetric in
+    refused_under (members.offers c.args.metric.now) (members.stamps c.args.metric.now) (members.may_fault c.args.metric.now) (next_heading c.enter.new.self c.args.metadata.now) (heading_in (option_copied c.args.namespace) (labels_of c.args.constants.now) c.args.metadata.now) c.encode.result c.encode.new.self.refused
     (ap (λ e. heading_in e.namespace e.labels c.args.metadata.now) c.enter.ensures) c.encode.ensures.answered
     (λ k is. c.encode.ensures.handed.refused k accepting is)

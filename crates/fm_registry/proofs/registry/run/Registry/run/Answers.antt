@@ -11,7 +11,7 @@ loop-call-preserved g c =
       tt,
       same_length-push c.push.new.self.items c.loop-call.replies.items c.run_call-reply.result c.loop-call.yielded c.in-Some.call items c.loop-call.invariant.2,
       omega (arith, c.push.ensures.capacity, c.loop-call.invariant.3),
-      RunsCalls-more _ c.loop-call.yielded c.in-Some.call c.args.self.now c.loop-call.self c.run_call-reply.new.self c.loop-call.replies.items c.push.new.self.items c.run_call-reply.result items c.loop-call.invariant.4 c.run_call-reply.ensures,
+      RunsCalls-more _ c.loop-call.yielded c.in-Some.call c.args.self.now c.loop-call.self c.run_call-reply.new.self c.loop-call.replies.items c.push.new.self.items c.run_call-reply.result items c.loop-call.invariant.4 c.run_call-reply.ensures.runs,
     )
 
 pub returns-clause-sound : goal.returns-clause-sound

@@ -1,13 +1,13 @@
 use Rattle.std.proofs.Common.{refl}
 use Rattle.fm_registry.proofs.RequestLemmas.{called, call_at-reversed}
 use Rattle.fm_registry.specs.declared.registry.run.Request.TheVariants as request
-use Rattle.fm_registry.proofs.registry.run.Registry.run_call.Goals as goal
+use Rattle.fm_registry.proofs.registry.Registry.apply_call.Goals as goal
 
 pub returns-in-Register : goal.returns-in-Register
 returns-in-Register g c =
     rw c.in-Register.is
-    (called _ _ _ _ _ _ _ (c.type_of-metric_type.result, c.type_of-metric_type.ensures, refl)
-    (call_at-reversed c.in-Register.path.items c.reverse.new.self.items (request.Register c.in-Register.name c.in-Register.help c.type_of-metric_type.result c.in-Register.unit c.in-Register.metric) c.reverse.ensures.items)
+    (called _ _ _ _ _ _ _ (c.metric_type-metric_type.result, c.metric_type-metric_type.ensures, refl)
+    (call_at-reversed c.in-Register.path.items c.reverse.new.self.items (request.Register c.in-Register.name c.in-Register.help c.metric_type-metric_type.result c.in-Register.unit c.in-Register.metric) c.reverse.ensures.items)
     c.apply.ensures.reply c.apply.ensures.ok c.apply.ensures.err)
 
 pub returns-in-Subsystem : goal.returns-in-Subsystem

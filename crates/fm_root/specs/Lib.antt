@@ -1,0 +1,3 @@
+pub use Rattle.fm_registry.specs.HasHistory
+pub use Rattle.fm_registry.specs.Registers
+pub mod Roots
