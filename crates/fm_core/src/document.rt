@@ -139,7 +139,10 @@ fn ended_lines(encoder: MetricEncoder) -> Result<Lines, AllocError>
 }
 
 // The lines of the document of a registry and all below it, or the first refusal. It may wait if a metric waits for a lock.
-pub(crate) fn document_lines<M: EncodeMetric>(alloc: Global, registry: &Registry<M>) -> Result<Lines, EncodeError>
+pub(crate) fn document_lines<M: EncodeMetric>(
+    alloc: Global,
+    registry: &Registry<M>,
+) -> Result<Lines, EncodeError>
     requires { HasHistory registry.now }
     ensures text { IfOk result (λ lines. (e : Exposition)
         × ((b : _) → Shows registry.now b

@@ -84,7 +84,10 @@ fn encode_listed<'a, M: EncodeMetric>(
 ///
 /// It stops at the first error: `Memory` if memory runs out, or a refusal of an encoder, even if the metric ignores it. It may
 /// wait if a metric waits for a lock.
-pub fn collect<M: EncodeMetric>(alloc: Global, registry: &Registry<M>) -> Result<Exposition, EncodeError>
+pub fn collect<M: EncodeMetric>(
+    alloc: Global,
+    registry: &Registry<M>,
+) -> Result<Exposition, EncodeError>
     requires { HasHistory registry.now }
     // Every history that the registry reads admits the exposition.
     ensures admitted { IfOk result (λ e. (b : _) → Shows registry.now b

@@ -1,3 +1,0 @@
-pub use Rattle.fm_registry.specs.HasHistory
-pub use Rattle.fm_registry.specs.Registers
-pub mod Roots

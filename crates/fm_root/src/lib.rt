@@ -1,6 +1,0 @@
-//! Registries for programs: the metrics are values of one type and need no box, and a program writes no clause.
-#![tactic(auto)]
-
-pub mod root;
-
-pub use root::RootOf;
