@@ -109,7 +109,7 @@ pub mod raw {
 }
 
 pub mod registry {
-    //! Registries of metrics, with their subsystems, and the one that a whole program shares.
+    //! Registries of metrics, with their subsystems, roots that need no box, and the registry that a whole program shares.
     pub use fm_global::{
         GlobalRegistry, Register, SetRegistryError, register, register_global, register_metric,
         register_with_unit, set_global_registry, with_global_registry, with_global_registry_mut,
@@ -119,4 +119,5 @@ pub mod registry {
         ListedMetric, MetricType, Registry, RegistryBuilder, RegistryCall, RegistryError,
         RegistrySubsystemBuilder, Subsystem, Unit,
     };
+    pub use fm_root::{Kind, Metric, Never, Root, RootOf};
 }

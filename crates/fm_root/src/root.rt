@@ -1,0 +1,244 @@
+//! A registry that always reads a history, so that its callers need no clause.
+ghost use Rattle.std.specs.Prelude.{◌≡◌, ◌⊎◌, ◌++◌, ◌∷◌, [], None, Some, Err, Ok, IfOk, IfErr, OnOk, MatchResult, map, string_bytes};
+ghost use Rattle.fm_exposition.specs.Samples.{shown_label};
+ghost use Rattle.fm_registry_calls.specs.declared.RegistryError.TheVariants.{Memory};
+ghost use Rattle.fm_registry.specs.HasHistory.{HasHistory};
+ghost use Rattle.fm_registry.specs.Calls.{seen_path};
+ghost use Rattle.fm_own.specs.Named.{named_metric};
+ghost use Rattle.fm_root.specs.Roots.{IsUnchanged, AddsOrNot, AddsClone, Enters};
+ghost use Rattle.fm_root.specs.inside.Requests.{Registering, Asking};
+
+use crate::kinds::{Kind, Metric, Never};
+use fm_encoder::EncodeMetric;
+use fm_raw::{TryDefault, Unit};
+use fm_registry::{Registry, RegistryBuilder, RegistryCall, RegistryError};
+use fm_writer::owned_labels;
+use std::alloc::{AllocError, Global};
+use std::marker::Model;
+use std::sync::Wait;
+
+/// A registry of the library's usual metrics and of those of the type `X`, which is the program's own.
+pub type Root<H, X = Never> = RootOf<Metric<H, X>, H>;
+
+/// A registry whose metrics are values of the type `M`, with the subsystem in which it registers: at first the root itself.
+///
+/// Its type says that it reads a history of accepted calls. So any function may make one, register in it, return it or keep it under
+/// a lock, and no clause and no box is needed. `wait` is what its metrics wait by.
+#[derive(Drop)]
+pub struct RootOf<M, H> {
+    registry: Registry<M>,
+    path: Vec<String>,
+    alloc: Global,
+    wait: H,
+}
+
+impl<M, H> Model for RootOf<M, H> {
+    ghost use Rattle.std.specs.Prelude.{map, string_bytes};
+    ghost use Rattle.fm_registry.specs.HasHistory.{HasHistory};
+    ghost use Rattle.fm_root.specs.Roots.{RootState};
+    ghost use Rattle.fm_root.specs.inside.RootCode.{root_code};
+
+    ghost Value = { RootState M };
+
+    ghost coded = { root_code M.code };
+
+    ghost view = { λ r. record { tree = r.registry; path = map string_bytes r.path.items } };
+
+    ghost invariant = { λ r. HasHistory r.registry };
+}
+
+// A call that registers a metric at this path.
+fn registering<M: Drop>(
+    alloc: Global,
+    path: &Vec<String>,
+    name: &str,
+    help: &str,
+    unit: Option<Unit>,
+    metric: M,
+) -> Result<RegistryCall<M>, AllocError>
+    ensures { IfOk result (Registering (seen_path path.now.items) name.now help.now unit metric) }
+{
+    Ok(RegistryCall::Register {
+        path: path.clone()?,
+        name: String::from_str(alloc, name)?,
+        help: String::from_str(alloc, help)?,
+        unit,
+        metric,
+    })
+}
+
+// A call that asks for a subsystem at this path.
+fn asking<M: Drop>(
+    alloc: Global,
+    path: &Vec<String>,
+    name: &str,
+    labels: &[(&str, &str)],
+) -> Result<RegistryCall<M>, AllocError>
+    ensures { IfOk result (Asking (seen_path path.now.items) name.now (map shown_label labels.now)) }
+{
+    Ok(RegistryCall::Subsystem {
+        path: path.clone()?,
+        name: String::from_str(alloc, name)?,
+        labels: owned_labels(alloc, labels)?,
+    })
+}
+
+// The path with a name at its end.
+fn path_below(alloc: Global, path: &Vec<String>, name: &str) -> Result<Vec<String>, AllocError>
+    ensures { IfOk result
+        (λ below. seen_path below.items ≡ seen_path path.now.items ++ name.now ∷ []) }
+{
+    let mut below = path.clone()?;
+    below.push(String::from_str(alloc, name)?)?;
+    Ok(below)
+}
+
+impl<M: EncodeMetric, H: Wait + Copy + Drop> RootOf<M, H> {
+    /// A root with no namespace, no labels and no metrics. It takes no memory.
+    pub fn new(wait: H, alloc: Global) -> RootOf<M, H>
+        ensures path { result.path ≡ [] }
+    {
+        RootOf {
+            registry: Registry::default(),
+            path: Vec::new(alloc),
+            alloc,
+            wait,
+        }
+    }
+
+    /// A root with the namespace and the constant labels of the builder, and no metrics. It takes no memory.
+    pub fn built(builder: RegistryBuilder, wait: H, alloc: Global) -> RootOf<M, H>
+        ensures path { result.path ≡ [] }
+    {
+        RootOf {
+            registry: builder.build_root(),
+            path: Vec::new(alloc),
+            alloc,
+            wait,
+        }
+    }
+
+    /// The registry, for `collect` and `encode`.
+    pub fn registry(&self) -> &Registry<M>
+        ensures shown { result.now ≡ self.now.tree }
+        ensures sound { HasHistory result.now }
+    {
+        &self.registry
+    }
+
+    /// Goes on in the subsystem with this name below the current one. If it isn't there, it is made, with these labels besides those
+    /// of the registries above it. From now on metrics are registered there.
+    ///
+    /// Fails as a subsystem builder does, or with `Memory`; then the root stays as it was.
+    pub fn enter(&mut self, name: &str, labels: &[(&str, &str)]) -> Result<(), RegistryError>
+        ensures { ((result ≡ Err Memory) × (self.new ≡ self.old))
+            ⊎ Enters name.now (map shown_label labels.now) self.old self.new result }
+    {
+        let call = asking(self.alloc, &self.path, name, labels)?;
+        let below = path_below(self.alloc, &self.path, name)?;
+        self.registry.run_call(self.alloc, call)?;
+        self.path = below;
+        Ok(())
+    }
+
+    /// Goes back to the root itself. It takes no memory.
+    pub fn leave(&mut self)
+        ensures { self.new ≡ record self.old { path = [] } }
+    {
+        self.path = Vec::new(self.alloc);
+    }
+
+    /// Registers a metric in the current subsystem, with or without a unit. It has the errors of `Registry::register_metric`, in the
+    /// same order, and fails with `Memory` first if there is none for the call. At an error the metric is dropped, and the root
+    /// stays as it was.
+    pub fn register(
+        &mut self,
+        name: &str,
+        help: &str,
+        unit: Option<Unit>,
+        metric: M,
+    ) -> Result<(), RegistryError>
+        ensures { AddsOrNot (M.types metric) (named_metric name.now help.now unit metric)
+            self.old self.new result }
+    {
+        let call = registering(self.alloc, &self.path, name, help, unit, metric)?;
+        self.registry.run_call(self.alloc, call)
+    }
+
+    /// Registers a clone of a metric in the current subsystem, with or without a unit, as `register` does.
+    pub fn add<T: Kind<M> + Clone>(
+        &mut self,
+        name: &str,
+        help: &str,
+        unit: Option<Unit>,
+        metric: &T,
+    ) -> Result<(), RegistryError>
+        ensures { ((result ≡ Err Memory) × (self.new ≡ self.old))
+            ⊎ AddsClone (T.is_clone metric.now) M.types
+            (λ clone. named_metric name.now help.now unit (T.metric clone)) T.metric
+            self.old self.new result }
+    {
+        let metric = metric.clone()?;
+        self.register(name, help, unit, metric.into_metric())
+    }
+
+    /// Makes a metric by `try_default`, registers a clone of it in the current subsystem, and returns it. It has the errors of
+    /// `register`.
+    pub fn metric<T: TryDefault<H> + Kind<M> + Clone + Drop>(
+        &mut self,
+        name: &str,
+        help: &str,
+    ) -> Result<T, RegistryError>
+        ensures made { MatchResult result
+            (λ made. T.is_default made × AddsClone (T.is_clone made) M.types
+            (λ clone. named_metric name.now help.now None (T.metric clone)) T.metric
+            self.old self.new (Ok tt))
+            (λ e. IsUnchanged e self.old self.new ⊎ ((made : T) × AddsClone (T.is_clone made) M.types
+            (λ clone. named_metric name.now help.now None (T.metric clone)) T.metric
+            self.old self.new (Err e))) }
+    {
+        self.made(name, help, None)
+    }
+
+    /// Like `metric`, with a unit.
+    pub fn metric_with_unit<T: TryDefault<H> + Kind<M> + Clone + Drop>(
+        &mut self,
+        name: &str,
+        help: &str,
+        unit: Unit,
+    ) -> Result<T, RegistryError>
+        ensures made { MatchResult result
+            (λ made. T.is_default made × AddsClone (T.is_clone made) M.types
+            (λ clone. named_metric name.now help.now (Some unit) (T.metric clone)) T.metric
+            self.old self.new (Ok tt))
+            (λ e. IsUnchanged e self.old self.new ⊎ ((made : T) × AddsClone (T.is_clone made) M.types
+            (λ clone. named_metric name.now help.now (Some unit) (T.metric clone)) T.metric
+            self.old self.new (Err e))) }
+    {
+        self.made(name, help, Some(unit))
+    }
+
+    // Makes a metric, registers a clone of it, and returns it.
+    fn made<T: TryDefault<H> + Kind<M> + Clone + Drop>(
+        &mut self,
+        name: &str,
+        help: &str,
+        unit: Option<Unit>,
+    ) -> Result<T, RegistryError>
+        ensures { MatchResult result
+            (λ made. T.is_default made × AddsClone (T.is_clone made) M.types
+            (λ clone. named_metric name.now help.now unit (T.metric clone)) T.metric
+            self.old self.new (Ok tt))
+            (λ e. IsUnchanged e self.old self.new ⊎ ((made : T) × AddsClone (T.is_clone made) M.types
+            (λ clone. named_metric name.now help.now unit (T.metric clone)) T.metric
+            self.old self.new (Err e))) }
+    {
+        let Ok(metric) = T::try_default(self.wait, self.alloc) else {
+            return Err(RegistryError::Memory);
+        };
+        match self.add(name, help, unit, &metric) {
+            Ok(()) => Ok(metric),
+            Err(error) => Err(error),
+        }
+    }
+}

@@ -1,0 +1,70 @@
+//! A root without boxes: metrics of several kinds, a subsystem, and the document, with no clause and no proof.
+#![tactic(auto)]
+
+use fastmetrics::format::text::{EncodeError, encode};
+use fastmetrics::metrics::counter::Counter;
+use fastmetrics::metrics::family::{TextFamily, with_texts};
+use fastmetrics::metrics::gauge::Gauge;
+use fastmetrics::metrics::histogram::Histogram;
+use fastmetrics::raw::{Fixed, MetricError};
+use fastmetrics::registry::{RegistryError, Root, Unit};
+use std::alloc::Global;
+use std::sync::Wait;
+
+/// What the program counts.
+#[derive(Drop)]
+struct Metrics<H: Wait> {
+    connections: Counter,
+    in_flight: Gauge,
+    latency: Histogram<H>,
+    requests: TextFamily<Counter, H>,
+}
+
+// Makes each metric and registers it: a line a metric.
+fn metrics<H: Wait + Copy + Send + Sync + Drop>(
+    root: &mut Root<H>,
+) -> Result<Metrics<H>, RegistryError> {
+    let connections = root.metric("connections", "Connections opened")?;
+    root.enter("http", &[("port", "80")])?;
+    Ok(Metrics {
+        connections,
+        in_flight: root.metric("in_flight", "Requests that are served now")?,
+        latency: root.metric_with_unit("latency", "Time to serve a request", Unit::Seconds)?,
+        requests: root.metric("requests", "Requests by method and status")?,
+    })
+}
+
+// What the program counts of a request.
+fn serve<H: Wait + Clone + Drop>(
+    alloc: Global,
+    metrics: &Metrics<H>,
+    seconds: Fixed,
+) -> Result<(), MetricError> {
+    metrics.connections.inc();
+    metrics.in_flight.inc();
+    metrics.latency.observe(seconds)?;
+    let labels = [("method", "GET"), ("status", "200")];
+    with_texts(alloc, &metrics.requests, &labels, |count| count.inc())?;
+    metrics.in_flight.dec();
+    Ok(())
+}
+
+// The document.
+fn scrape<H: Wait + Copy + Send + Sync + Drop>(
+    alloc: Global,
+    root: &Root<H>,
+) -> Result<Vec<u8>, EncodeError> {
+    let mut document = Vec::new(alloc);
+    encode(alloc, &mut document, root.registry())?;
+    Ok(document)
+}
+
+fn main(rt: HostRuntime) -> anyhow::Result<()> {
+    let alloc = rt.alloc();
+    let mut root = Root::new(rt, alloc);
+    let metrics = metrics(&mut root)?;
+    serve(alloc, &metrics, Fixed::from_millionths(250_000))?;
+    let document = scrape(alloc, &root)?;
+    std::io::Write::write_all(&mut rt.stdout(), &document)?;
+    Ok(())
+}
