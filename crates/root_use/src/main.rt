@@ -21,7 +21,7 @@ struct Metrics<H: Wait> {
 }
 
 // Makes each metric and registers it: a line a metric.
-fn metrics<H: Wait + Copy + Send + Sync + Drop>(
+fn make_metrics<H: Wait + Copy + Send + Sync + Drop>(
     root: &mut Root<H>,
 ) -> Result<Metrics<H>, RegistryError> {
     let connections = root.metric("connections", "Connections opened")?;
@@ -62,7 +62,7 @@ fn scrape<H: Wait + Copy + Send + Sync + Drop>(
 fn main(rt: HostRuntime) -> anyhow::Result<()> {
     let alloc = rt.alloc();
     let mut root = Root::new(rt, alloc);
-    let metrics = metrics(&mut root)?;
+    let metrics = make_metrics(&mut root)?;
     serve(alloc, &metrics, Fixed::from_millionths(250_000))?;
     let document = scrape(alloc, &root)?;
     std::io::Write::write_all(&mut rt.stdout(), &document)?;
