@@ -1,15 +1,20 @@
-//! A root without boxes: metrics of several kinds, a subsystem, and the document, with no clause and no proof.
+//! A root without boxes: metrics of several kinds, a subsystem, a metric of another type, and the document, with no clause and no
+//! proof.
 #![tactic(auto)]
 
 use fastmetrics::format::text::{EncodeError, encode};
 use fastmetrics::metrics::counter::Counter;
 use fastmetrics::metrics::family::{TextFamily, with_texts};
-use fastmetrics::metrics::gauge::Gauge;
+use fastmetrics::metrics::gauge::{ConstGauge, Gauge};
 use fastmetrics::metrics::histogram::Histogram;
+use fastmetrics::metrics::info::Info;
 use fastmetrics::raw::{Fixed, MetricError};
-use fastmetrics::registry::{RegistryError, Root, Unit};
+use fastmetrics::registry::{Metric, Registry, RegistryError, Root, RootOf, Unit};
 use std::alloc::Global;
 use std::sync::Wait;
+
+/// The registry of the program: its own metrics are gauges that never change.
+type App<H> = Root<H, ConstGauge<i64>>;
 
 /// What the program counts.
 #[derive(Drop)]
@@ -22,16 +27,33 @@ struct Metrics<H: Wait> {
 
 // Makes each metric and registers it: a line a metric.
 fn make_metrics<H: Wait + Copy + Send + Sync + Drop>(
-    root: &mut Root<H>,
+    root: &mut App<H>,
 ) -> Result<Metrics<H>, RegistryError> {
     let connections = root.metric("connections", "Connections opened")?;
     root.enter("http", &[("port", "80")])?;
-    Ok(Metrics {
+    let metrics = Metrics {
         connections,
         in_flight: root.metric("in_flight", "Requests that are served now")?,
         latency: root.metric_with_unit("latency", "Time to serve a request", Unit::Seconds)?,
         requests: root.metric("requests", "Requests by method and status")?,
-    })
+    };
+    root.leave();
+    Ok(metrics)
+}
+
+// Registers what never changes.
+fn add_constants<H: Wait + Copy + Send + Sync + Drop>(
+    alloc: Global,
+    root: &mut App<H>,
+) -> Result<(), RegistryError> {
+    let version = (
+        String::from_str(alloc, "version")?,
+        String::from_str(alloc, "1.2")?,
+    );
+    let build = Info::new(vec![in alloc; version]?);
+    root.add("build", "What runs", None, &build)?;
+    let workers = Metric::Own(ConstGauge::new(4));
+    root.register("workers", "Workers that serve", None, workers)
 }
 
 // What the program counts of a request.
@@ -52,7 +74,7 @@ fn serve<H: Wait + Clone + Drop>(
 // The document.
 fn scrape<H: Wait + Copy + Send + Sync + Drop>(
     alloc: Global,
-    root: &Root<H>,
+    root: &App<H>,
 ) -> Result<Vec<u8>, EncodeError> {
     let mut document = Vec::new(alloc);
     encode(alloc, &mut document, root.registry())?;
@@ -61,8 +83,11 @@ fn scrape<H: Wait + Copy + Send + Sync + Drop>(
 
 fn main(rt: HostRuntime) -> anyhow::Result<()> {
     let alloc = rt.alloc();
-    let mut root = Root::new(rt, alloc);
+    let namespace = String::from_str(alloc, "app")?;
+    let builder = Registry::builder().with_namespace(namespace)?;
+    let mut root = RootOf::built(builder, rt, alloc);
     let metrics = make_metrics(&mut root)?;
+    add_constants(alloc, &mut root)?;
     serve(alloc, &metrics, Fixed::from_millionths(250_000))?;
     let document = scrape(alloc, &root)?;
     std::io::Write::write_all(&mut rt.stdout(), &document)?;
