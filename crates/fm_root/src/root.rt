@@ -1,8 +1,10 @@
 //! A registry that always reads a history, so that its callers need no clause.
 ghost use Rattle.std.specs.Prelude.{◌≡◌, ◌⊎◌, ◌++◌, ◌∷◌, [], None, Some, Err, Ok, IfOk, IfErr, OnOk, MatchResult, map, string_bytes};
+ghost use Rattle.std.specs.Option.{option_map};
 ghost use Rattle.fm_exposition.specs.Samples.{shown_label};
 ghost use Rattle.fm_registry_calls.specs.declared.RegistryError.TheVariants.{Memory};
-ghost use Rattle.fm_registry.specs.HasHistory.{HasHistory};
+ghost use Rattle.fm_registry.specs.HasHistory.{HasHistory, IsNewRoot};
+ghost use Rattle.fm_registry.specs.View.{seen_labels};
 ghost use Rattle.fm_registry.specs.Calls.{seen_path};
 ghost use Rattle.fm_own.specs.Named.{named_metric};
 ghost use Rattle.fm_root.specs.Roots.{IsUnchanged, AddsOrNot, AddsClone, Enters};
@@ -96,6 +98,7 @@ fn path_below(alloc: Global, path: &Vec<String>, name: &str) -> Result<Vec<Strin
 impl<M: EncodeMetric, H: Wait + Copy + Drop> RootOf<M, H> {
     /// A root with no namespace, no labels and no metrics. It takes no memory.
     pub fn new(wait: H, alloc: Global) -> RootOf<M, H>
+        ensures tree { IsNewRoot None [] result.tree }
         ensures path { result.path ≡ [] }
     {
         RootOf {
@@ -108,6 +111,8 @@ impl<M: EncodeMetric, H: Wait + Copy + Drop> RootOf<M, H> {
 
     /// A root with the namespace and the constant labels of the builder, and no metrics. It takes no memory.
     pub fn built(builder: RegistryBuilder, wait: H, alloc: Global) -> RootOf<M, H>
+        ensures tree { IsNewRoot (option_map string_bytes builder.namespace)
+            (seen_labels builder.const_labels) result.tree }
         ensures path { result.path ≡ [] }
     {
         RootOf {
