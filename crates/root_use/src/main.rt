@@ -9,7 +9,7 @@ use fastmetrics::metrics::gauge::{ConstGauge, Gauge};
 use fastmetrics::metrics::histogram::Histogram;
 use fastmetrics::metrics::info::Info;
 use fastmetrics::raw::{Fixed, MetricError};
-use fastmetrics::registry::{Metric, Registry, RegistryError, Root, RootOf, Unit};
+use fastmetrics::registry::{Metric, Registry, RegistryBuilder, RegistryError, Root, RootOf, Unit};
 use std::alloc::Global;
 use std::sync::Wait;
 
@@ -27,8 +27,10 @@ struct Metrics<H: Wait> {
 
 // Makes each metric and registers it: a line a metric.
 fn make_metrics<H: Wait + Copy + Send + Sync + Drop>(
+    alloc: Global,
     root: &mut App<H>,
 ) -> Result<Metrics<H>, RegistryError> {
+    add_constants(alloc, root)?;
     let connections = root.metric("connections", "Connections opened")?;
     root.enter("http", &[("port", "80")])?;
     let metrics = Metrics {
@@ -39,6 +41,12 @@ fn make_metrics<H: Wait + Copy + Send + Sync + Drop>(
     };
     root.leave();
     Ok(metrics)
+}
+
+// The namespace of the metrics.
+fn names(alloc: Global) -> Result<RegistryBuilder, RegistryError> {
+    let namespace = String::from_str(alloc, "app")?;
+    Registry::builder().with_namespace(namespace)
 }
 
 // Registers what never changes.
@@ -83,11 +91,8 @@ fn scrape<H: Wait + Copy + Send + Sync + Drop>(
 
 fn main(rt: HostRuntime) -> anyhow::Result<()> {
     let alloc = rt.alloc();
-    let namespace = String::from_str(alloc, "app")?;
-    let builder = Registry::builder().with_namespace(namespace)?;
-    let mut root = RootOf::built(builder, rt, alloc);
-    let metrics = make_metrics(&mut root)?;
-    add_constants(alloc, &mut root)?;
+    let mut root = RootOf::built(names(alloc)?, rt, alloc);
+    let metrics = make_metrics(alloc, &mut root)?;
     serve(alloc, &metrics, Fixed::from_millionths(250_000))?;
     let document = scrape(alloc, &root)?;
     std::io::Write::write_all(&mut rt.stdout(), &document)?;
