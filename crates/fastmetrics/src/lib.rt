@@ -119,5 +119,5 @@ pub mod registry {
         ListedMetric, MetricType, Registry, RegistryBuilder, RegistryCall, RegistryError,
         RegistrySubsystemBuilder, Subsystem, Unit,
     };
-    pub use fm_root::{Kind, Metric, Never, Root, RootOf};
+    pub use fm_root::{Kind, Metric, Root, RootOf};
 }

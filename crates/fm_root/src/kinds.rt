@@ -20,11 +20,12 @@ pub use number::Number;
 use std::sync::Wait;
 use std::time::Duration;
 
-/// A metric of one of the library's usual kinds, or of the type `X`, which is the program's own.
+/// A metric of one of the library's usual kinds, or of the type `X`, which is the program's own. A program
+/// that has none leaves `X` out.
 ///
 /// It declares and offers what the metric in it does.
 #[derive(Drop)]
-pub enum Metric<H: Wait, X = Never> {
+pub enum Metric<H: Wait, X = Number> {
     /// A counter or a gauge.
     Number(Number),
     /// A histogram.
@@ -241,25 +242,5 @@ impl<H: Wait, X> Kind<Metric<H, X>> for TextFamily<GaugeHistogram<H>, H> {
 
     fn into_metric(self) -> Metric<H, X> {
         Metric::ByTexts(ByTexts::GaugeHistograms(self))
-    }
-}
-
-/// No metric: the own kind of a program that has none.
-#[derive(Drop)]
-pub enum Never {}
-
-impl EncodeMetric for Never {
-    ghost offers = { λ _ _ _. ⊥ };
-
-    fn encode(&self, _encoder: &mut MetricEncoder) -> Result<(), EncodeError> {
-        match *self {}
-    }
-
-    fn metric_type(&self) -> MetricType {
-        match *self {}
-    }
-
-    fn timestamp(&self) -> Option<Duration> {
-        match *self {}
     }
 }

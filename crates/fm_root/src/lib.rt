@@ -4,5 +4,5 @@
 pub mod kinds;
 pub mod root;
 
-pub use kinds::{Kind, Metric, Never};
+pub use kinds::{ByTexts, Kind, Metric, Number};
 pub use root::{Root, RootOf};

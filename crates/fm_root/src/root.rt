@@ -10,7 +10,7 @@ ghost use Rattle.fm_own.specs.Named.{named_metric};
 ghost use Rattle.fm_root.specs.Roots.{IsUnchanged, AddsOrNot, AddsClone, Enters};
 ghost use Rattle.fm_root.specs.inside.Requests.{Registering, Asking};
 
-use crate::kinds::{Kind, Metric, Never};
+use crate::kinds::{Kind, Metric, Number};
 use fm_encoder::EncodeMetric;
 use fm_raw::{TryDefault, Unit};
 use fm_registry::{Registry, RegistryBuilder, RegistryCall, RegistryError};
@@ -20,7 +20,7 @@ use std::marker::Model;
 use std::sync::Wait;
 
 /// A registry of the library's usual metrics and of those of the type `X`, which is the program's own.
-pub type Root<H, X = Never> = RootOf<Metric<H, X>, H>;
+pub type Root<H, X = Number> = RootOf<Metric<H, X>, H>;
 
 /// A registry whose metrics are values of the type `M`, with the subsystem in which it registers: at first the root itself.
 ///
