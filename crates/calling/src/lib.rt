@@ -9,4 +9,5 @@ pub mod globals;
 pub mod histograms;
 pub mod infos;
 pub mod registries;
+pub mod roots;
 pub mod states;

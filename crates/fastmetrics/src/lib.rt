@@ -119,5 +119,5 @@ pub mod registry {
         ListedMetric, MetricType, Registry, RegistryBuilder, RegistryCall, RegistryError,
         RegistrySubsystemBuilder, Subsystem, Unit,
     };
-    pub use fm_root::{Kind, Metric, Root, RootOf};
+    pub use fm_root::{ByTexts, Constant, Metric, Number, OneOf, Root};
 }

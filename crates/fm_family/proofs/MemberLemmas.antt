@@ -81,38 +81,38 @@ last_value [] k m = refl
 last_value (e ∷ es) k m = last_value es k m
 
 -- if a metric is there
-pub gets_there : {L M A : Type 0} (eq : L → L → Bool) (promises : Result M MetricError → Type 0) (labels : L) (old new : List (L × M)) (tells : A → M → Type 0) (a : A) (m : M)
-    → lookup (eq labels) old ≡ Some m → new ≡ old → tells a m → GetsOrAdds eq promises labels old new tells (Ok a)
-gets_there eq promises labels old new tells a m there same told = rw there (same, told)
+pub gets_there : {L M A : Type 0} (is_clone : L → L → Type 0) (eq : L → L → Bool) (promises : Result M MetricError → Type 0) (labels : L) (old new : List (L × M)) (tells : A → M → Type 0) (a : A) (m : M)
+    → lookup (eq labels) old ≡ Some m → new ≡ old → tells a m → GetsOrAdds is_clone eq promises labels old new tells (Ok a)
+gets_there is_clone eq promises labels old new tells a m there same told = rw there (same, told)
 
 -- if none is there, and one was added
-pub gets_added : {L M A : Type 0} (eq : L → L → Bool) (promises : Result M MetricError → Type 0) (labels k : L) (old new : List (L × M)) (tells : A → M → Type 0) (a : A) (m : M)
-    → lookup (eq labels) old ≡ None → eq labels k ≡ true → promises (Ok m) → new ≡ old ++ (k, m) ∷ [] → tells a m → GetsOrAdds eq promises labels old new tells (Ok a)
-gets_added eq promises labels k old new tells a m gone same kept added told = rw gone (k, m, same, kept, added, told)
+pub gets_added : {L M A : Type 0} (is_clone : L → L → Type 0) (eq : L → L → Bool) (promises : Result M MetricError → Type 0) (labels k : L) (old new : List (L × M)) (tells : A → M → Type 0) (a : A) (m : M)
+    → lookup (eq labels) old ≡ None → is_clone labels k → eq labels k ≡ true → promises (Ok m) → new ≡ old ++ (k, m) ∷ [] → tells a m → GetsOrAdds is_clone eq promises labels old new tells (Ok a)
+gets_added is_clone eq promises labels k old new tells a m gone cloned same kept added told = rw gone (k, m, cloned, same, kept, added, told)
 
 -- the same look-up, in another form
-pub gets_told : {L M A B : Type 0} (eq : L → L → Bool) (promises : Result M MetricError → Type 0) (labels : L) (old new : List (L × M)) (tells : A → M → Type 0) (says : B → M → Type 0) (a : A) (b : B)
-    → ((m : M) → tells a m → says b m) → GetsOrAdds eq promises labels old new tells (Ok a) → GetsOrAdds eq promises labels old new says (Ok b)
-gets_told {L} {M} eq promises labels old new tells says a b from h = by (lookup (eq labels) old) h
+pub gets_told : {L M A B : Type 0} (is_clone : L → L → Type 0) (eq : L → L → Bool) (promises : Result M MetricError → Type 0) (labels : L) (old new : List (L × M)) (tells : A → M → Type 0) (says : B → M → Type 0) (a : A) (b : B)
+    → ((m : M) → tells a m → says b m) → GetsOrAdds is_clone eq promises labels old new tells (Ok a) → GetsOrAdds is_clone eq promises labels old new says (Ok b)
+gets_told {L} {M} is_clone eq promises labels old new tells says a b from h = by (lookup (eq labels) old) h
   where
-    by : (o : Option M) → MatchOption o ((k : L) × (m : M) × (eq labels k ≡ true) × promises (Ok m) × (new ≡ old ++ (k, m) ∷ []) × tells a m) (λ m. (new ≡ old) × tells a m)
-        → MatchOption o ((k : L) × (m : M) × (eq labels k ≡ true) × promises (Ok m) × (new ≡ old ++ (k, m) ∷ []) × says b m) (λ m. (new ≡ old) × says b m)
-    by None h = (h.0, h.1, h.2, h.3, h.4, from h.1 h.5)
+    by : (o : Option M) → MatchOption o ((k : L) × (m : M) × is_clone labels k × (eq labels k ≡ true) × promises (Ok m) × (new ≡ old ++ (k, m) ∷ []) × tells a m) (λ m. (new ≡ old) × tells a m)
+        → MatchOption o ((k : L) × (m : M) × is_clone labels k × (eq labels k ≡ true) × promises (Ok m) × (new ≡ old ++ (k, m) ∷ []) × says b m) (λ m. (new ≡ old) × says b m)
+    by None h = (h.0, h.1, h.2, h.3, h.4, h.5, from h.1 h.6)
     by (Some m) h = (h.0, from m h.1)
 
 -- a refusal of a look-up whose result is of another kind
-pub gets_refused : {L M A B : Type 0} (eq : L → L → Bool) (promises : Result M MetricError → Type 0) (labels : L) (old new : List (L × M)) (tells : A → M → Type 0) (says : B → M → Type 0) (e : MetricError)
-    → GetsOrAdds {A = A} eq promises labels old new tells (Err e) → GetsOrAdds {A = B} eq promises labels old new says (Err e)
-gets_refused eq promises labels old new tells says e h = h
+pub gets_refused : {L M A B : Type 0} (is_clone : L → L → Type 0) (eq : L → L → Bool) (promises : Result M MetricError → Type 0) (labels : L) (old new : List (L × M)) (tells : A → M → Type 0) (says : B → M → Type 0) (e : MetricError)
+    → GetsOrAdds {A = A} is_clone eq promises labels old new tells (Err e) → GetsOrAdds {A = B} is_clone eq promises labels old new says (Err e)
+gets_refused is_clone eq promises labels old new tells says e h = h
 
 -- the index of the last pair has its metric
 pub holds_last : {L M : Type 0} (old new : List (L × M)) (k : L) (m : M) (place : ℕ) → place ≡ length old → new ≡ old ++ (k, m) ∷ [] → HoldsMetric new place m
 holds_last old new k m place at added = rw (at, added) (last_value old k m)
 
 -- only a label set that is absent is refused
-pub refused_absent : {L M A : Type 0} (eq : L → L → Bool) (promises : Result M MetricError → Type 0) (labels : L) (old new : List (L × M)) (tells : A → M → Type 0) (e : MetricError)
-    → GetsOrAdds {A = A} eq promises labels old new tells (Err e) → IsSome (lookup (eq labels) old) → ⊥
-refused_absent {L} {M} eq promises labels old new tells e h = by (lookup (eq labels) old) h
+pub refused_absent : {L M A : Type 0} (is_clone : L → L → Type 0) (eq : L → L → Bool) (promises : Result M MetricError → Type 0) (labels : L) (old new : List (L × M)) (tells : A → M → Type 0) (e : MetricError)
+    → GetsOrAdds {A = A} is_clone eq promises labels old new tells (Err e) → IsSome (lookup (eq labels) old) → ⊥
+refused_absent {L} {M} is_clone eq promises labels old new tells e h = by (lookup (eq labels) old) h
   where
     by : (o : Option M) → MatchOption o ((new ≡ old) × ((e ≡ Memory) ⊎ promises (Err e))) (λ m. (new ≡ old) × ⊥) → IsSome o → ⊥
     by None h some = true≢false (sym some)

@@ -17,6 +17,6 @@ module _ (L M S H : RattleType) (set : set.Ghosts L.Denot) (key : HashMembers L.
   core_row = the_row L M S H set (record { eq = key.eq }) (record { hash_input = key.hash_input }) build hash
 
   -- it is as `GetsOrAdds` says
-  abbrev pub ends_with_member : MutBor (FamilyCore L.Denot M.Denot S.Denot H.Denot) → L.Denot → (Result M.Denot MetricError → Type 0) → Result (Bor M.Denot) MetricError → Fml
-  ends_with_member core labels promises answer = follows_so core_row core_row core.ghost_name none (λ _ _. ⊤)
-      (λ n. GetsOrAdds key.eq promises labels core.now.members.entries n.members.entries ShowsMetric answer)
+  abbrev pub ends_with_member : MutBor (FamilyCore L.Denot M.Denot S.Denot H.Denot) → L.Denot → (L.Denot → L.Denot → Type 0) → (Result M.Denot MetricError → Type 0) → Result (Bor M.Denot) MetricError → Fml
+  ends_with_member core labels is_clone promises answer = follows_so core_row core_row core.ghost_name none (λ _ _. ⊤)
+      (λ n. GetsOrAdds is_clone key.eq promises labels core.now.members.entries n.members.entries ShowsMetric answer)

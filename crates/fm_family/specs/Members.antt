@@ -14,12 +14,12 @@ abbrev pub ClonesEqual : {L : Type 0} → (L → L → Type 0) → (L → L → 
 ClonesEqual {L} is_clone eq = (x y : L) → is_clone x y → eq x y ≡ true
 
 -- a look-up of a label set, which adds a pair if it is absent: for a metric that exists the result is as `tells` says,
--- and the list stays; else a pair with a metric that the factory promises was added at the end and is the result, or
--- the list is as it was, and the error is `Memory` or one that the factory promises
-abbrev pub GetsOrAdds : {L M A : Type 0} → (L → L → Bool) → (Result M MetricError → Type 0) → L → List (L × M) → List (L × M) → (A → M → Type 0) → Result A MetricError → Type 0
-GetsOrAdds {L} {M} eq promises labels old new tells answer = MatchOption (lookup (eq labels) old)
+-- and the list stays; else a pair of a clone of the label set, which equals it, and a metric that the factory promises was added
+-- at the end and is the result, or the list is as it was, and the error is `Memory` or one that the factory promises
+abbrev pub GetsOrAdds : {L M A : Type 0} → (L → L → Type 0) → (L → L → Bool) → (Result M MetricError → Type 0) → L → List (L × M) → List (L × M) → (A → M → Type 0) → Result A MetricError → Type 0
+GetsOrAdds {L} {M} is_clone eq promises labels old new tells answer = MatchOption (lookup (eq labels) old)
     (MatchResult answer
-    (λ a. (k : L) × (m : M) × (eq labels k ≡ true) × promises (Ok m) × (new ≡ old ++ (k, m) ∷ []) × tells a m)
+    (λ a. (k : L) × (m : M) × is_clone labels k × (eq labels k ≡ true) × promises (Ok m) × (new ≡ old ++ (k, m) ∷ []) × tells a m)
     (λ e. (new ≡ old) × ((e ≡ Memory) ⊎ promises (Err e))))
     (λ m. (new ≡ old) × IsOkAnd answer (λ a. tells a m))
 

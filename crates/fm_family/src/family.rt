@@ -29,10 +29,21 @@ struct Shared<LS: EncodeLabelSet + Eq + Hash, M, MF, S: BuildHasher> {
 /// A call waits while another thread makes a metric, and a call that makes a metric waits for all others. Neither the
 /// factory nor a closure that borrows a metric may call the same family: it would wait for ever. For the hasher `S` see
 /// `FamilyCore`.
-#[derive(Drop)]
 pub struct Family<LS: EncodeLabelSet + Eq + Hash, M, MF, S: BuildHasher, H: Wait> {
     shared: Arc<Shared<LS, M, MF, S>, Global>,
     wait: H,
+}
+
+impl<
+    LS: EncodeLabelSet + Eq + Hash + Drop,
+    M: Drop,
+    MF: Drop,
+    S: BuildHasher + Drop,
+    H: Wait + Drop,
+> Drop for Family<LS, M, MF, S, H> {
+    fn drop(self) {
+        let Family { shared: _, wait: _ } = self;
+    }
 }
 
 impl<

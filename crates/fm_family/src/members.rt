@@ -92,7 +92,7 @@ impl<LS: EncodeLabelSet + Clone + Eq + Hash + Drop, M: Drop, S: BuildHasher> Fam
     ) -> Result<usize, MetricError>
         requires ready { get LS.eq self.old.members labels.now ≡ None → MF.is_ready factory.now }
         requires clones { ClonesEqual LS.is_clone LS.eq }
-        ensures gets { GetsOrAdds LS.eq (MF.promises factory.now)
+        ensures gets { GetsOrAdds LS.is_clone LS.eq (MF.promises factory.now)
             labels.now self.old.members.entries
             self.new.members.entries (HoldsMetric self.new.members.entries) result }
         ensures within { IfOk result (λ i. i < length self.new.members.entries) }
@@ -108,7 +108,8 @@ impl<LS: EncodeLabelSet + Clone + Eq + Hash + Drop, M: Drop, S: BuildHasher> Fam
         Ok(place)
     }
 
-    /// The metric of these labels. If there is none, the factory makes one, which is added as the last.
+    /// The metric of these labels. If there is none, the factory makes one, which is added as the last, under a clone of the
+    /// labels.
     ///
     /// The factory is called only if there is none. Its error is returned; if memory runs out, the error is `Memory`.
     /// At an error the metrics stay as they were. A clone of a label set must equal it.
@@ -122,7 +123,7 @@ impl<LS: EncodeLabelSet + Clone + Eq + Hash + Drop, M: Drop, S: BuildHasher> Fam
         ensures* gets { sem 𝓛
             (ends_with_member LS.row M.row S.row S.Hasher.row LS.EncodeLabelSet LS.Hash
             S.BuildHasher S.Hasher.Hasher self.entry
-            labels.now (MF.promises factory.now) result) }
+            labels.now LS.is_clone (MF.promises factory.now) result) }
         ensures there { IsSome (get LS.eq self.old.members labels.now) → IsOk result }
     {
         match self.place_or_new(labels, factory) {

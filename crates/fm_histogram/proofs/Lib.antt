@@ -5,3 +5,4 @@ pub mod EmptyLemmas
 pub mod BoundLemmas
 pub mod ShownLemmas
 pub mod TakenLemmas
+pub mod SumLemmas

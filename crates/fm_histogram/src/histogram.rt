@@ -3,10 +3,10 @@ ghost use Rattle.std.specs.Prelude.{◌≡◌, [], ◌∷◌, true, Some, None, 
 ghost use Rattle.std.specs.Option.{option_map};
 ghost use Rattle.std.specs.Iterator.{IsFinite};
 ghost use Rattle.std.specs.Arc.{arc_value};
-ghost use Rattle.std.specs.Fn.{FnOnceReturnsAt};
+ghost use Rattle.std.specs.Fn.{FnOnceTakesAt, FnOnceReturnsAt};
 ghost use Rattle.fm_raw.specs.declared.error.MetricError.TheVariants.{Memory, CountFull};
 ghost use Rattle.fm_encoder.specs.Points.{millis};
-ghost use Rattle.fm_histogram.specs.Histogram.{Histogram as Counted, CountsTaken, IsHistogram, takes};
+ghost use Rattle.fm_histogram.specs.Histogram.{Histogram as Counted, CountsTaken, IsHistogram, takes, is_taken, takes_all};
 ghost use Rattle.fm_bucket.specs.Bounds.{default_bounds};
 ghost use Rattle.fm_histogram.specs.Shown.{alone};
 ghost use Rattle.fm_histogram.specs.Shared.{histogram_created};
@@ -33,10 +33,15 @@ struct Locked<S: Sign> {
 ///
 /// A call that observes, reads or encodes waits while another thread has the lock. Making one, cloning and encoding take
 /// memory.
-#[derive(Drop)]
 pub struct HistogramOf<S: Sign, H: Wait> {
     locked: Arc<Locked<S>, Global>,
     wait: H,
+}
+
+impl<S: Sign, H: Wait + Drop> Drop for HistogramOf<S, H> {
+    fn drop(self) {
+        let HistogramOf { locked: _, wait: _ } = self;
+    }
 }
 
 /// How many observed values lie in each bucket, how many there are, and their sum, which its clones share under a lock.
@@ -114,14 +119,17 @@ impl<H: Wait + Drop> Histogram<H> {
 }
 
 impl<H: Wait> Histogram<H> {
-    /// Calls `f` with what was counted so far, under the lock, and returns its result. The lock is a `Mutex`, with which `observe`
-    /// is fastest: the calls of one histogram run one after another. `f` must not use the same histogram: it would wait for ever.
+    /// Calls `f` with what was counted so far, under the lock, and returns its result. The snapshot has fewer than 2^64 values,
+    /// and no value or bound of it is negative. The lock is a `Mutex`, with which `observe` is fastest: the calls of one
+    /// histogram run one after another. `f` must not use the same histogram: it would wait for ever.
     pub fn with_snapshot<R, F: FnOnce(&HistogramSnapshot) -> R>(&self, f: F) -> R
-        requires { F.IsAlwaysCallable f }
-        ensures { (snapshot : _) × FnOnceReturnsAt F.FnOnce f snapshot result }
+        requires { (snapshot : _) → CountsTaken is_taken snapshot → FnOnceTakesAt F.FnOnce f snapshot }
+        ensures { (snapshot : _) × CountsTaken is_taken snapshot × FnOnceReturnsAt F.FnOnce f snapshot result }
     {
-        let snapshot = self.locked.snapshot.lock(&self.wait);
-        f(&snapshot)
+        let guard = self.locked.snapshot.lock(&self.wait);
+        let snapshot: &HistogramSnapshot = &guard;
+        snapshot.counts_taken();
+        f(snapshot)
     }
 
     /// When the histogram was created, since the Unix epoch, if it is known.
@@ -133,13 +141,15 @@ impl<H: Wait> Histogram<H> {
 }
 
 impl<H: Wait> GaugeHistogram<H> {
-    /// Calls `f` with what was counted so far, as a histogram does.
+    /// Calls `f` with what was counted so far, as a histogram does: fewer than 2^64 values, which may be negative.
     pub fn with_snapshot<R, F: FnOnce(&GaugeHistogramSnapshot) -> R>(&self, f: F) -> R
-        requires { F.IsAlwaysCallable f }
-        ensures { (snapshot : _) × FnOnceReturnsAt F.FnOnce f snapshot result }
+        requires { (snapshot : _) → CountsTaken takes_all snapshot → FnOnceTakesAt F.FnOnce f snapshot }
+        ensures { (snapshot : _) × CountsTaken takes_all snapshot × FnOnceReturnsAt F.FnOnce f snapshot result }
     {
-        let snapshot = self.locked.snapshot.lock(&self.wait);
-        f(&snapshot)
+        let guard = self.locked.snapshot.lock(&self.wait);
+        let snapshot: &GaugeHistogramSnapshot = &guard;
+        snapshot.counts_taken();
+        f(snapshot)
     }
 }
 

@@ -1,10 +1,10 @@
 //! Snapshots of histograms, and of gauge histograms.
-ghost use Rattle.std.specs.Prelude.{◌≡◌, ℤ, ◌+◌, ◌^◌, ◌≤◌, ◌↔◌, List, [], ◌∷◌, ◌++◌, true, Err, IfOk, IfErr, OnOk, OnErr, ◌⊎◌, ◌≢◌, if◌then◌else◌};
+ghost use Rattle.std.specs.Prelude.{◌≡◌, ℤ, ◌+◌, ◌^◌, ◌<◌, ◌≤◌, ◌↔◌, List, [], ◌∷◌, ◌++◌, true, false, Err, IfOk, IfErr, OnOk, OnErr, ◌⊎◌, ◌≢◌, if◌then◌else◌};
 ghost use Rattle.std.specs.Option.{option_map};
 ghost use Rattle.std.specs.Iterator.{IsFinite, Drains};
 ghost use Rattle.fm_raw.specs.declared.error.MetricError.TheVariants.{Memory, CountFull, UnequalBounds};
 ghost use Rattle.fm_bucket.specs.Bounds.{default_bounds};
-ghost use Rattle.fm_encoder.specs.Points.{millis};
+ghost use Rattle.fm_encoder.specs.Points.{millis, values_in};
 ghost use Rattle.fm_encoder.specs.Hands.{HandsPoints};
 ghost use Rattle.fm_histogram.specs.Histogram.{IsHistogram, CountsTaken, IsBoundsOf, takes, upper_bounds, merged};
 
@@ -119,6 +119,7 @@ impl<S: Sign> SnapshotOf<S> {
         ensures only_full { IfErr result (λ e. e ≡ CountFull) }
         ensures count { OnOk result
             (self.new.count ≡ self.old.count + (if takes S.NEGATIVE value then 1 else 0)) }
+        ensures ignored { takes S.NEGATIVE value ≡ false → self.new ≡ self.old }
         ensures kept { OnErr result (self.new ≡ self.old) }
     {
         if !S::NEGATIVE && value < Fixed::ZERO {
@@ -148,9 +149,12 @@ impl<S: Sign> SnapshotOf<S> {
 }
 
 impl HistogramSnapshot {
-    /// How many values were counted.
+    /// How many values were counted: as many as the buckets have together. They are fewer than 2^64, so an encoder doesn't
+    /// refuse the snapshot as `BucketOverflow`.
     pub fn count(&self) -> u64
-        ensures { result ≡ self.now.count }
+        ensures count { result ≡ self.now.count }
+        ensures all { values_in self.now.buckets ≡ self.now.count }
+        ensures few { self.now.count < 2 ^ 64 }
     {
         self.counts.count()
     }
@@ -164,9 +168,12 @@ impl HistogramSnapshot {
 }
 
 impl GaugeHistogramSnapshot {
-    /// How many values there are.
+    /// How many values there are: as many as the buckets have together. They are fewer than 2^64, so an encoder doesn't
+    /// refuse the snapshot as `BucketOverflow`.
     pub fn gcount(&self) -> u64
-        ensures { result ≡ self.now.count }
+        ensures count { result ≡ self.now.count }
+        ensures all { values_in self.now.buckets ≡ self.now.count }
+        ensures few { self.now.count < 2 ^ 64 }
     {
         self.counts.count()
     }

@@ -1,5 +1,5 @@
 -- How contracts see a root: its tree, and the subsystem in which it registers.
-use Rattle.std.specs.Prelude.{◌≡◌, ◌⊎◌, ◌++◌, ◌∷◌, [], Option, Result, Err, OnOk, OnErr}
+use Rattle.std.specs.Prelude.{◌≡◌, ◌⊎◌, ◌++◌, ◌∷◌, [], Option, Result, Ok, Err, OnOk, OnErr, MatchResult}
 use Rattle.fm_grammar.specs.declared.MetricType.{MetricType}
 use Rattle.fm_raw.specs.declared.metadata.Unit as unit
 use Rattle.fm_registry_calls.specs.Texts.{Text, Path, Labels}
@@ -34,11 +34,20 @@ module _ {M : Type 0} where
   abbrev pub AddsOrNot : (MetricType → Type 0) → (MetricType → Registration M) → RootState M → RootState M → Result (Unit {0}) RegistryError → Type 0
   AddsOrNot Types asked old new result = ((result ≡ Err Memory) × (new ≡ old)) ⊎ Adds Types asked old new result
 
-  -- a clone of a metric was registered
-  pub record AddsClone {T : Type 0} (IsClone : T → Type 0) (Types : M → MetricType → Type 0) (asked : T → MetricType → Registration M) (metric : T → M) (old new : RootState M) (result : Result (Unit {0}) RegistryError) : Type 0 where
+  -- a clone of a metric was registered, as the metric that it converts to
+  pub record AddsClone {T : Type 0} (IsClone : T → Type 0) (Converts : T → M → Type 0) (Types : M → MetricType → Type 0) (asked : M → MetricType → Registration M) (old new : RootState M) (result : Result (Unit {0}) RegistryError) : Type 0 where
     pub clone : T
     pub is_clone : IsClone clone
-    pub adds : AddsOrNot (Types (metric clone)) (asked clone) old new result
+    pub metric : M
+    pub converts : Converts clone metric
+    pub adds : AddsOrNot (Types metric) (asked metric) old new result
+
+  -- A metric was made that is as `Begins` says, a clone of it was registered, and the metric is the result. At an error a clone was
+  -- refused with this error, or there was no memory; the root is as it was.
+  abbrev pub Makes : {T : Type 0} → (T → Type 0) → (T → T → Type 0) → (T → M → Type 0) → (M → MetricType → Type 0) → (M → MetricType → Registration M) → RootState M → RootState M → Result T RegistryError → Type 0
+  Makes {T} Begins IsClone Converts Types asked old new result = MatchResult result
+      (λ made. Begins made × AddsClone (IsClone made) Converts Types asked old new (Ok tt))
+      (λ e. IsUnchanged e old new ⊎ ((made : T) × AddsClone (IsClone made) Converts Types asked old new (Err e)))
 
   -- The root goes on in the subsystem with this name, which is made with these labels if it isn't there; the result is that of the
   -- history of the tree. At `Err` the root is as it was.

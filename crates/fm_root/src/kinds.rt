@@ -2,21 +2,29 @@
 ghost use Rattle.std.specs.Prelude.{◌≡◌};
 ghost use Rattle.fm_root.specs.declared.kinds.number.Number.TheVariants.{Counter, FixedCounter, Gauge, FixedGauge};
 ghost use Rattle.fm_root.specs.declared.kinds.by_texts.ByTexts.TheVariants.{Counters, FixedCounters, Gauges, FixedGauges, Histograms, GaugeHistograms};
-ghost use Rattle.fm_root.specs.declared.kinds.Metric.TheVariants.{Number, Histogram, GaugeHistogram, Info, ByTexts, Own};
+ghost use Rattle.fm_root.specs.declared.kinds.constant.Constant.TheVariants as constant;
+ghost use Rattle.fm_root.specs.declared.kinds.Metric.TheVariants.{Number, Histogram, GaugeHistogram, ByTexts, Constant, Own};
 
 mod by_texts;
+mod constant;
 mod number;
+mod one_of;
 
 pub use by_texts::ByTexts;
+pub use constant::Constant;
+use fm_constant_metrics::counter::ConstCounter;
+use fm_constant_metrics::gauge::ConstGauge;
 use fm_constant_metrics::info::Info;
+use fm_constant_metrics::unknown::Unknown;
 use fm_encode_error::EncodeError;
 use fm_encoder::{EncodeMetric, MetricEncoder};
-use fm_histogram::{GaugeHistogram, Histogram};
+use fm_histogram::{GaugeHistogram, GaugeHistogramSnapshot, Histogram, HistogramSnapshot};
 use fm_own::TextFamily;
 use fm_raw::{Fixed, MetricType};
 use fm_shared_metrics::counter::Counter;
 use fm_shared_metrics::gauge::Gauge;
 pub use number::Number;
+pub use one_of::OneOf;
 use std::sync::Wait;
 use std::time::Duration;
 
@@ -24,7 +32,6 @@ use std::time::Duration;
 /// that has none leaves `X` out.
 ///
 /// It declares and offers what the metric in it does.
-#[derive(Drop)]
 pub enum Metric<H: Wait, X = Number> {
     /// A counter or a gauge.
     Number(Number),
@@ -32,12 +39,25 @@ pub enum Metric<H: Wait, X = Number> {
     Histogram(Histogram<H>),
     /// A gauge histogram.
     GaugeHistogram(GaugeHistogram<H>),
-    /// An info.
-    Info(Info<Vec<(String, String)>>),
     /// A family by texts.
     ByTexts(ByTexts<H>),
+    /// A metric that never changes.
+    Constant(Constant),
     /// A metric of the program's own.
     Own(X),
+}
+
+impl<H: Wait + Drop, X: Drop> Drop for Metric<H, X> {
+    fn drop(self) {
+        match self {
+            Metric::Number(_) => (),
+            Metric::Histogram(_) => (),
+            Metric::GaugeHistogram(_) => (),
+            Metric::ByTexts(_) => (),
+            Metric::Constant(_) => (),
+            Metric::Own(_) => (),
+        }
+    }
 }
 
 impl<H: Wait + Clone + Send + Sync + Drop, X: EncodeMetric> EncodeMetric for Metric<H, X> {
@@ -45,8 +65,8 @@ impl<H: Wait + Clone + Send + Sync + Drop, X: EncodeMetric> EncodeMetric for Met
       | Number x ↦ ⟦<Number as EncodeMetric>⟧.types x t
       | Histogram x ↦ ⟦<Histogram<H> as EncodeMetric>⟧.types x t
       | GaugeHistogram x ↦ ⟦<GaugeHistogram<H> as EncodeMetric>⟧.types x t
-      | Info x ↦ ⟦<Info<Vec<(String, String)>> as EncodeMetric>⟧.types x t
       | ByTexts x ↦ ⟦<ByTexts<H> as EncodeMetric>⟧.types x t
+      | Constant x ↦ ⟦<Constant as EncodeMetric>⟧.types x t
       | Own x ↦ X.types x t
     ] };
 
@@ -54,8 +74,8 @@ impl<H: Wait + Clone + Send + Sync + Drop, X: EncodeMetric> EncodeMetric for Met
       | Number x ↦ ⟦<Number as EncodeMetric>⟧.may_be_empty x
       | Histogram x ↦ ⟦<Histogram<H> as EncodeMetric>⟧.may_be_empty x
       | GaugeHistogram x ↦ ⟦<GaugeHistogram<H> as EncodeMetric>⟧.may_be_empty x
-      | Info x ↦ ⟦<Info<Vec<(String, String)>> as EncodeMetric>⟧.may_be_empty x
       | ByTexts x ↦ ⟦<ByTexts<H> as EncodeMetric>⟧.may_be_empty x
+      | Constant x ↦ ⟦<Constant as EncodeMetric>⟧.may_be_empty x
       | Own x ↦ X.may_be_empty x
     ] };
 
@@ -63,8 +83,8 @@ impl<H: Wait + Clone + Send + Sync + Drop, X: EncodeMetric> EncodeMetric for Met
       | Number x ↦ ⟦<Number as EncodeMetric>⟧.stamps x s
       | Histogram x ↦ ⟦<Histogram<H> as EncodeMetric>⟧.stamps x s
       | GaugeHistogram x ↦ ⟦<GaugeHistogram<H> as EncodeMetric>⟧.stamps x s
-      | Info x ↦ ⟦<Info<Vec<(String, String)>> as EncodeMetric>⟧.stamps x s
       | ByTexts x ↦ ⟦<ByTexts<H> as EncodeMetric>⟧.stamps x s
+      | Constant x ↦ ⟦<Constant as EncodeMetric>⟧.stamps x s
       | Own x ↦ X.stamps x s
     ] };
 
@@ -72,8 +92,8 @@ impl<H: Wait + Clone + Send + Sync + Drop, X: EncodeMetric> EncodeMetric for Met
       | Number x ↦ ⟦<Number as EncodeMetric>⟧.offers x s ms
       | Histogram x ↦ ⟦<Histogram<H> as EncodeMetric>⟧.offers x s ms
       | GaugeHistogram x ↦ ⟦<GaugeHistogram<H> as EncodeMetric>⟧.offers x s ms
-      | Info x ↦ ⟦<Info<Vec<(String, String)>> as EncodeMetric>⟧.offers x s ms
       | ByTexts x ↦ ⟦<ByTexts<H> as EncodeMetric>⟧.offers x s ms
+      | Constant x ↦ ⟦<Constant as EncodeMetric>⟧.offers x s ms
       | Own x ↦ X.offers x s ms
     ] };
 
@@ -81,8 +101,8 @@ impl<H: Wait + Clone + Send + Sync + Drop, X: EncodeMetric> EncodeMetric for Met
       | Number x ↦ ⟦<Number as EncodeMetric>⟧.may_fault x
       | Histogram x ↦ ⟦<Histogram<H> as EncodeMetric>⟧.may_fault x
       | GaugeHistogram x ↦ ⟦<GaugeHistogram<H> as EncodeMetric>⟧.may_fault x
-      | Info x ↦ ⟦<Info<Vec<(String, String)>> as EncodeMetric>⟧.may_fault x
       | ByTexts x ↦ ⟦<ByTexts<H> as EncodeMetric>⟧.may_fault x
+      | Constant x ↦ ⟦<Constant as EncodeMetric>⟧.may_fault x
       | Own x ↦ X.may_fault x
     ] };
 
@@ -91,8 +111,8 @@ impl<H: Wait + Clone + Send + Sync + Drop, X: EncodeMetric> EncodeMetric for Met
             Metric::Number(metric) => metric.encode(encoder),
             Metric::Histogram(metric) => metric.encode(encoder),
             Metric::GaugeHistogram(metric) => metric.encode(encoder),
-            Metric::Info(metric) => metric.encode(encoder),
             Metric::ByTexts(metric) => metric.encode(encoder),
+            Metric::Constant(metric) => metric.encode(encoder),
             Metric::Own(metric) => metric.encode(encoder),
         }
     }
@@ -102,8 +122,8 @@ impl<H: Wait + Clone + Send + Sync + Drop, X: EncodeMetric> EncodeMetric for Met
             Metric::Number(metric) => metric.metric_type(),
             Metric::Histogram(metric) => metric.metric_type(),
             Metric::GaugeHistogram(metric) => metric.metric_type(),
-            Metric::Info(metric) => metric.metric_type(),
             Metric::ByTexts(metric) => metric.metric_type(),
+            Metric::Constant(metric) => metric.metric_type(),
             Metric::Own(metric) => metric.metric_type(),
         }
     }
@@ -113,8 +133,8 @@ impl<H: Wait + Clone + Send + Sync + Drop, X: EncodeMetric> EncodeMetric for Met
             Metric::Number(metric) => metric.timestamp(),
             Metric::Histogram(metric) => metric.timestamp(),
             Metric::GaugeHistogram(metric) => metric.timestamp(),
-            Metric::Info(metric) => metric.timestamp(),
             Metric::ByTexts(metric) => metric.timestamp(),
+            Metric::Constant(metric) => metric.timestamp(),
             Metric::Own(metric) => metric.timestamp(),
         }
     }
@@ -124,123 +144,177 @@ impl<H: Wait + Clone + Send + Sync + Drop, X: EncodeMetric> EncodeMetric for Met
             Metric::Number(metric) => metric.is_empty(),
             Metric::Histogram(metric) => metric.is_empty(),
             Metric::GaugeHistogram(metric) => metric.is_empty(),
-            Metric::Info(metric) => metric.is_empty(),
             Metric::ByTexts(metric) => metric.is_empty(),
+            Metric::Constant(metric) => metric.is_empty(),
             Metric::Own(metric) => metric.is_empty(),
         }
     }
 }
 
-/// A value that a metric of the type `M` can be made of.
-pub trait Kind<M>: Sized {
-    /// The metric that it makes.
-    ghost metric: { Self → M };
+impl<H: Wait, X> From<Counter<u64>> for Metric<H, X> {
+    ghost from_gives = { λ x metric. metric ≡ Number (Counter x) };
 
-    /// The metric.
-    fn into_metric(self) -> M
-        ensures { result ≡ metric self };
-}
-
-impl<H: Wait, X> Kind<Metric<H, X>> for Counter<u64> {
-    ghost metric = { λ x. Number (Counter x) };
-
-    fn into_metric(self) -> Metric<H, X> {
-        Metric::Number(Number::Counter(self))
+    fn from(value: Counter<u64>) -> Metric<H, X> {
+        Metric::Number(Number::Counter(value))
     }
 }
 
-impl<H: Wait, X> Kind<Metric<H, X>> for Counter<Fixed> {
-    ghost metric = { λ x. Number (FixedCounter x) };
+impl<H: Wait, X> From<Counter<Fixed>> for Metric<H, X> {
+    ghost from_gives = { λ x metric. metric ≡ Number (FixedCounter x) };
 
-    fn into_metric(self) -> Metric<H, X> {
-        Metric::Number(Number::FixedCounter(self))
+    fn from(value: Counter<Fixed>) -> Metric<H, X> {
+        Metric::Number(Number::FixedCounter(value))
     }
 }
 
-impl<H: Wait, X> Kind<Metric<H, X>> for Gauge<i64> {
-    ghost metric = { λ x. Number (Gauge x) };
+impl<H: Wait, X> From<Gauge<i64>> for Metric<H, X> {
+    ghost from_gives = { λ x metric. metric ≡ Number (Gauge x) };
 
-    fn into_metric(self) -> Metric<H, X> {
-        Metric::Number(Number::Gauge(self))
+    fn from(value: Gauge<i64>) -> Metric<H, X> {
+        Metric::Number(Number::Gauge(value))
     }
 }
 
-impl<H: Wait, X> Kind<Metric<H, X>> for Gauge<Fixed> {
-    ghost metric = { λ x. Number (FixedGauge x) };
+impl<H: Wait, X> From<Gauge<Fixed>> for Metric<H, X> {
+    ghost from_gives = { λ x metric. metric ≡ Number (FixedGauge x) };
 
-    fn into_metric(self) -> Metric<H, X> {
-        Metric::Number(Number::FixedGauge(self))
+    fn from(value: Gauge<Fixed>) -> Metric<H, X> {
+        Metric::Number(Number::FixedGauge(value))
     }
 }
 
-impl<H: Wait, X> Kind<Metric<H, X>> for Histogram<H> {
-    ghost metric = { Histogram };
+impl<H: Wait, X> From<Histogram<H>> for Metric<H, X> {
+    ghost from_gives = { λ x metric. metric ≡ Histogram x };
 
-    fn into_metric(self) -> Metric<H, X> {
-        Metric::Histogram(self)
+    fn from(value: Histogram<H>) -> Metric<H, X> {
+        Metric::Histogram(value)
     }
 }
 
-impl<H: Wait, X> Kind<Metric<H, X>> for GaugeHistogram<H> {
-    ghost metric = { GaugeHistogram };
+impl<H: Wait, X> From<GaugeHistogram<H>> for Metric<H, X> {
+    ghost from_gives = { λ x metric. metric ≡ GaugeHistogram x };
 
-    fn into_metric(self) -> Metric<H, X> {
-        Metric::GaugeHistogram(self)
+    fn from(value: GaugeHistogram<H>) -> Metric<H, X> {
+        Metric::GaugeHistogram(value)
     }
 }
 
-impl<H: Wait, X> Kind<Metric<H, X>> for Info<Vec<(String, String)>> {
-    ghost metric = { Info };
+impl<H: Wait, X> From<TextFamily<Counter<u64>, H>> for Metric<H, X> {
+    ghost from_gives = { λ x metric. metric ≡ ByTexts (Counters x) };
 
-    fn into_metric(self) -> Metric<H, X> {
-        Metric::Info(self)
+    fn from(value: TextFamily<Counter<u64>, H>) -> Metric<H, X> {
+        Metric::ByTexts(ByTexts::Counters(value))
     }
 }
 
-impl<H: Wait, X> Kind<Metric<H, X>> for TextFamily<Counter<u64>, H> {
-    ghost metric = { λ x. ByTexts (Counters x) };
+impl<H: Wait, X> From<TextFamily<Counter<Fixed>, H>> for Metric<H, X> {
+    ghost from_gives = { λ x metric. metric ≡ ByTexts (FixedCounters x) };
 
-    fn into_metric(self) -> Metric<H, X> {
-        Metric::ByTexts(ByTexts::Counters(self))
+    fn from(value: TextFamily<Counter<Fixed>, H>) -> Metric<H, X> {
+        Metric::ByTexts(ByTexts::FixedCounters(value))
     }
 }
 
-impl<H: Wait, X> Kind<Metric<H, X>> for TextFamily<Counter<Fixed>, H> {
-    ghost metric = { λ x. ByTexts (FixedCounters x) };
+impl<H: Wait, X> From<TextFamily<Gauge<i64>, H>> for Metric<H, X> {
+    ghost from_gives = { λ x metric. metric ≡ ByTexts (Gauges x) };
 
-    fn into_metric(self) -> Metric<H, X> {
-        Metric::ByTexts(ByTexts::FixedCounters(self))
+    fn from(value: TextFamily<Gauge<i64>, H>) -> Metric<H, X> {
+        Metric::ByTexts(ByTexts::Gauges(value))
     }
 }
 
-impl<H: Wait, X> Kind<Metric<H, X>> for TextFamily<Gauge<i64>, H> {
-    ghost metric = { λ x. ByTexts (Gauges x) };
+impl<H: Wait, X> From<TextFamily<Gauge<Fixed>, H>> for Metric<H, X> {
+    ghost from_gives = { λ x metric. metric ≡ ByTexts (FixedGauges x) };
 
-    fn into_metric(self) -> Metric<H, X> {
-        Metric::ByTexts(ByTexts::Gauges(self))
+    fn from(value: TextFamily<Gauge<Fixed>, H>) -> Metric<H, X> {
+        Metric::ByTexts(ByTexts::FixedGauges(value))
     }
 }
 
-impl<H: Wait, X> Kind<Metric<H, X>> for TextFamily<Gauge<Fixed>, H> {
-    ghost metric = { λ x. ByTexts (FixedGauges x) };
+impl<H: Wait, X> From<TextFamily<Histogram<H>, H>> for Metric<H, X> {
+    ghost from_gives = { λ x metric. metric ≡ ByTexts (Histograms x) };
 
-    fn into_metric(self) -> Metric<H, X> {
-        Metric::ByTexts(ByTexts::FixedGauges(self))
+    fn from(value: TextFamily<Histogram<H>, H>) -> Metric<H, X> {
+        Metric::ByTexts(ByTexts::Histograms(value))
     }
 }
 
-impl<H: Wait, X> Kind<Metric<H, X>> for TextFamily<Histogram<H>, H> {
-    ghost metric = { λ x. ByTexts (Histograms x) };
+impl<H: Wait, X> From<TextFamily<GaugeHistogram<H>, H>> for Metric<H, X> {
+    ghost from_gives = { λ x metric. metric ≡ ByTexts (GaugeHistograms x) };
 
-    fn into_metric(self) -> Metric<H, X> {
-        Metric::ByTexts(ByTexts::Histograms(self))
+    fn from(value: TextFamily<GaugeHistogram<H>, H>) -> Metric<H, X> {
+        Metric::ByTexts(ByTexts::GaugeHistograms(value))
     }
 }
 
-impl<H: Wait, X> Kind<Metric<H, X>> for TextFamily<GaugeHistogram<H>, H> {
-    ghost metric = { λ x. ByTexts (GaugeHistograms x) };
+impl<H: Wait, X> From<Info<Vec<(String, String)>>> for Metric<H, X> {
+    ghost from_gives = { λ x metric. metric ≡ Constant (constant.Info x) };
 
-    fn into_metric(self) -> Metric<H, X> {
-        Metric::ByTexts(ByTexts::GaugeHistograms(self))
+    fn from(value: Info<Vec<(String, String)>>) -> Metric<H, X> {
+        Metric::Constant(Constant::Info(value))
+    }
+}
+
+impl<H: Wait, X> From<ConstCounter<u64>> for Metric<H, X> {
+    ghost from_gives = { λ x metric. metric ≡ Constant (constant.Counter x) };
+
+    fn from(value: ConstCounter<u64>) -> Metric<H, X> {
+        Metric::Constant(Constant::Counter(value))
+    }
+}
+
+impl<H: Wait, X> From<ConstCounter<Fixed>> for Metric<H, X> {
+    ghost from_gives = { λ x metric. metric ≡ Constant (constant.FixedCounter x) };
+
+    fn from(value: ConstCounter<Fixed>) -> Metric<H, X> {
+        Metric::Constant(Constant::FixedCounter(value))
+    }
+}
+
+impl<H: Wait, X> From<ConstGauge<i64>> for Metric<H, X> {
+    ghost from_gives = { λ x metric. metric ≡ Constant (constant.Gauge x) };
+
+    fn from(value: ConstGauge<i64>) -> Metric<H, X> {
+        Metric::Constant(Constant::Gauge(value))
+    }
+}
+
+impl<H: Wait, X> From<ConstGauge<Fixed>> for Metric<H, X> {
+    ghost from_gives = { λ x metric. metric ≡ Constant (constant.FixedGauge x) };
+
+    fn from(value: ConstGauge<Fixed>) -> Metric<H, X> {
+        Metric::Constant(Constant::FixedGauge(value))
+    }
+}
+
+impl<H: Wait, X> From<Unknown<i64>> for Metric<H, X> {
+    ghost from_gives = { λ x metric. metric ≡ Constant (constant.Unknown x) };
+
+    fn from(value: Unknown<i64>) -> Metric<H, X> {
+        Metric::Constant(Constant::Unknown(value))
+    }
+}
+
+impl<H: Wait, X> From<Unknown<Fixed>> for Metric<H, X> {
+    ghost from_gives = { λ x metric. metric ≡ Constant (constant.FixedUnknown x) };
+
+    fn from(value: Unknown<Fixed>) -> Metric<H, X> {
+        Metric::Constant(Constant::FixedUnknown(value))
+    }
+}
+
+impl<H: Wait, X> From<HistogramSnapshot> for Metric<H, X> {
+    ghost from_gives = { λ x metric. metric ≡ Constant (constant.Histogram x) };
+
+    fn from(value: HistogramSnapshot) -> Metric<H, X> {
+        Metric::Constant(Constant::Histogram(value))
+    }
+}
+
+impl<H: Wait, X> From<GaugeHistogramSnapshot> for Metric<H, X> {
+    ghost from_gives = { λ x metric. metric ≡ Constant (constant.GaugeHistogram x) };
+
+    fn from(value: GaugeHistogramSnapshot) -> Metric<H, X> {
+        Metric::Constant(Constant::GaugeHistogram(value))
     }
 }

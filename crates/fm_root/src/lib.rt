@@ -1,8 +1,9 @@
 //! Registries for programs: their metrics are values of one type and need no box, and a program writes no clause.
 #![tactic(auto)]
 
+mod at;
 pub mod kinds;
 pub mod root;
 
-pub use kinds::{ByTexts, Kind, Metric, Number};
-pub use root::{Root, RootOf};
+pub use kinds::{ByTexts, Constant, Metric, Number, OneOf};
+pub use root::Root;

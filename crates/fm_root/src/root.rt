@@ -1,134 +1,81 @@
 //! A registry that always reads a history, so that its callers need no clause.
-ghost use Rattle.std.specs.Prelude.{◌≡◌, ◌⊎◌, ◌++◌, ◌∷◌, [], None, Some, Err, Ok, IfOk, IfErr, OnOk, MatchResult, map, string_bytes};
+ghost use Rattle.std.specs.Prelude.{◌≡◌, ◌⊎◌, [], None, Some, Err, OnOk, IfOk, IfErr, map, string_bytes};
 ghost use Rattle.std.specs.Option.{option_map};
+ghost use Rattle.std.specs.Io.KnownBytes.{Keeps};
 ghost use Rattle.fm_exposition.specs.Samples.{shown_label};
+ghost use Rattle.fm_exposition.specs.Written.{IsWritersFault};
+ghost use Rattle.fm_encode_error.specs.declared.EncodeError.{EncodeError};
 ghost use Rattle.fm_registry_calls.specs.declared.RegistryError.TheVariants.{Memory};
-ghost use Rattle.fm_registry.specs.HasHistory.{HasHistory, IsNewRoot};
+ghost use Rattle.fm_registry_calls.specs.Listing.{order};
+ghost use Rattle.fm_registry_calls.specs.Tree.{Shows};
+ghost use Rattle.fm_registry.specs.HasHistory.{IsNewRoot};
 ghost use Rattle.fm_registry.specs.View.{seen_labels};
-ghost use Rattle.fm_registry.specs.Calls.{seen_path};
+ghost use Rattle.fm_core.specs.Admits.{Admits, Fault};
+ghost use Rattle.fm_core.specs.Encoded.{WritesAdmitted, BeginsAdmitted};
 ghost use Rattle.fm_own.specs.Named.{named_metric};
-ghost use Rattle.fm_root.specs.Roots.{IsUnchanged, AddsOrNot, AddsClone, Enters};
-ghost use Rattle.fm_root.specs.inside.Requests.{Registering, Asking};
+ghost use Rattle.fm_root.specs.declared.kinds.Metric.TheVariants.{Own};
+ghost use Rattle.fm_root.specs.Roots.{AddsOrNot, AddsClone, Makes, Enters};
 
-use crate::kinds::{Kind, Metric, Number};
+mod families;
+mod metrics;
+
+use crate::at::RegistryAt;
+use crate::kinds::{Metric, Number};
+use fm_core::format::text::{EncodeError, Exposition, collect, encode};
 use fm_encoder::EncodeMetric;
 use fm_raw::{TryDefault, Unit};
-use fm_registry::{Registry, RegistryBuilder, RegistryCall, RegistryError};
-use fm_writer::owned_labels;
-use std::alloc::{AllocError, Global};
-use std::marker::Model;
+use fm_registry::{RegistryBuilder, RegistryError};
+use std::alloc::Global;
+use std::io::Write;
 use std::sync::Wait;
 
-/// A registry of the library's usual metrics and of those of the type `X`, which is the program's own.
-pub type Root<H, X = Number> = RootOf<Metric<H, X>, H>;
-
-/// A registry whose metrics are values of the type `M`, with the subsystem in which it registers: at first the root itself.
+/// A registry of the library's usual metrics and of those of the type `X`, which is the program's own, with the subsystem in which
+/// it registers: at first the root itself.
 ///
 /// Its type says that it reads a history of accepted calls. So any function may make one, register in it, return it or keep it under
-/// a lock, and no clause and no box is needed. `wait` is what its metrics wait by.
-#[derive(Drop)]
-pub struct RootOf<M, H> {
-    registry: Registry<M>,
-    path: Vec<String>,
-    alloc: Global,
+/// a lock, and no clause and no box is needed. Its metrics wait by the handle that it is made with.
+pub struct Root<H: Wait, X = Number> {
+    at: RegistryAt<Metric<H, X>>,
     wait: H,
 }
 
-impl<M, H> Model for RootOf<M, H> {
-    ghost use Rattle.std.specs.Prelude.{map, string_bytes};
-    ghost use Rattle.fm_registry.specs.HasHistory.{HasHistory};
-    ghost use Rattle.fm_root.specs.Roots.{RootState};
-    ghost use Rattle.fm_root.specs.inside.RootCode.{root_code};
-
-    ghost Value = { RootState M };
-
-    ghost coded = { root_code M.code };
-
-    ghost view = { λ r. record { tree = r.registry; path = map string_bytes r.path.items } };
-
-    ghost invariant = { λ r. HasHistory r.registry };
+impl<H: Wait + Drop, X: Drop> Drop for Root<H, X> {
+    fn drop(self) {
+        let Root { at: _, wait: _ } = self;
+    }
 }
 
-// A call that registers a metric at this path.
-fn registering<M: Drop>(
-    alloc: Global,
-    path: &Vec<String>,
-    name: &str,
-    help: &str,
-    unit: Option<Unit>,
-    metric: M,
-) -> Result<RegistryCall<M>, AllocError>
-    ensures { IfOk result (Registering (seen_path path.now.items) name.now help.now unit metric) }
-{
-    Ok(RegistryCall::Register {
-        path: path.clone()?,
-        name: String::from_str(alloc, name)?,
-        help: String::from_str(alloc, help)?,
-        unit,
-        metric,
-    })
-}
-
-// A call that asks for a subsystem at this path.
-fn asking<M: Drop>(
-    alloc: Global,
-    path: &Vec<String>,
-    name: &str,
-    labels: &[(&str, &str)],
-) -> Result<RegistryCall<M>, AllocError>
-    ensures { IfOk result (Asking (seen_path path.now.items) name.now (map shown_label labels.now)) }
-{
-    Ok(RegistryCall::Subsystem {
-        path: path.clone()?,
-        name: String::from_str(alloc, name)?,
-        labels: owned_labels(alloc, labels)?,
-    })
-}
-
-// The path with a name at its end.
-fn path_below(alloc: Global, path: &Vec<String>, name: &str) -> Result<Vec<String>, AllocError>
-    ensures { IfOk result
-        (λ below. seen_path below.items ≡ seen_path path.now.items ++ name.now ∷ []) }
-{
-    let mut below = path.clone()?;
-    below.push(String::from_str(alloc, name)?)?;
-    Ok(below)
-}
-
-impl<M: EncodeMetric, H: Wait + Copy + Drop> RootOf<M, H> {
-    /// A root with no namespace, no labels and no metrics. It takes no memory.
-    pub fn new(wait: H, alloc: Global) -> RootOf<M, H>
-        ensures tree { IsNewRoot None [] result.tree }
-        ensures path { result.path ≡ [] }
+impl<H: Wait + Copy + Send + Sync + Drop> Root<H> {
+    /// A root for the library's usual metrics, with no namespace, no labels and no metrics. It takes no memory.
+    pub fn new(wait: H, alloc: Global) -> Root<H>
+        ensures tree { IsNewRoot None [] result.at.tree }
+        ensures path { result.at.path ≡ [] }
     {
-        RootOf {
-            registry: Registry::default(),
-            path: Vec::new(alloc),
-            alloc,
-            wait,
-        }
+        let at = RegistryAt::new(alloc);
+        Root { at, wait }
     }
 
-    /// A root with the namespace and the constant labels of the builder, and no metrics. It takes no memory.
-    pub fn built(builder: RegistryBuilder, wait: H, alloc: Global) -> RootOf<M, H>
+    /// A root for the library's usual metrics, with the namespace and the constant labels of the builder, and no metrics. It takes no
+    /// memory.
+    pub fn built(builder: RegistryBuilder, wait: H, alloc: Global) -> Root<H>
         ensures tree { IsNewRoot (option_map string_bytes builder.namespace)
-            (seen_labels builder.const_labels) result.tree }
-        ensures path { result.path ≡ [] }
+            (seen_labels builder.const_labels) result.at.tree }
+        ensures path { result.at.path ≡ [] }
     {
-        RootOf {
-            registry: builder.build_root(),
-            path: Vec::new(alloc),
-            alloc,
-            wait,
-        }
+        Root::with_own(builder, wait, alloc)
     }
+}
 
-    /// The registry, for `collect` and `encode`.
-    pub fn registry(&self) -> &Registry<M>
-        ensures shown { result.now ≡ self.now.tree }
-        ensures sound { HasHistory result.now }
+impl<H: Wait + Copy + Send + Sync + Drop, X: EncodeMetric> Root<H, X> {
+    /// A root also for metrics of the program's own, with the namespace and the constant labels of the builder, and no metrics. It
+    /// takes no memory.
+    pub fn with_own(builder: RegistryBuilder, wait: H, alloc: Global) -> Root<H, X>
+        ensures tree { IsNewRoot (option_map string_bytes builder.namespace)
+            (seen_labels builder.const_labels) result.at.tree }
+        ensures path { result.at.path ≡ [] }
     {
-        &self.registry
+        let at = RegistryAt::built(builder, alloc);
+        Root { at, wait }
     }
 
     /// Goes on in the subsystem with this name below the current one. If it isn't there, it is made, with these labels besides those
@@ -136,21 +83,17 @@ impl<M: EncodeMetric, H: Wait + Copy + Drop> RootOf<M, H> {
     ///
     /// Fails as a subsystem builder does, or with `Memory`; then the root stays as it was.
     pub fn enter(&mut self, name: &str, labels: &[(&str, &str)]) -> Result<(), RegistryError>
-        ensures { ((result ≡ Err Memory) × (self.new ≡ self.old))
-            ⊎ Enters name.now (map shown_label labels.now) self.old self.new result }
+        ensures enters { ((result ≡ Err Memory) × (self.new.at ≡ self.old.at))
+            ⊎ Enters name.now (map shown_label labels.now) self.old.at self.new.at result }
     {
-        let call = asking(self.alloc, &self.path, name, labels)?;
-        let below = path_below(self.alloc, &self.path, name)?;
-        self.registry.run_call(self.alloc, call)?;
-        self.path = below;
-        Ok(())
+        self.at.enter(name, labels)
     }
 
     /// Goes back to the root itself. It takes no memory.
     pub fn leave(&mut self)
-        ensures { self.new ≡ record self.old { path = [] } }
+        ensures { self.new.at ≡ record self.old.at { path = [] } }
     {
-        self.path = Vec::new(self.alloc);
+        self.at.leave();
     }
 
     /// Registers a metric in the current subsystem, with or without a unit. It has the errors of `Registry::register_metric`, in the
@@ -161,89 +104,105 @@ impl<M: EncodeMetric, H: Wait + Copy + Drop> RootOf<M, H> {
         name: &str,
         help: &str,
         unit: Option<Unit>,
-        metric: M,
+        metric: Metric<H, X>,
     ) -> Result<(), RegistryError>
-        ensures { AddsOrNot (M.types metric) (named_metric name.now help.now unit metric)
-            self.old self.new result }
+        ensures { AddsOrNot (⟦<Metric<H, X> as EncodeMetric>⟧.types metric)
+            (named_metric name.now help.now unit metric) self.old.at
+            self.new.at result }
     {
-        let call = registering(self.alloc, &self.path, name, help, unit, metric)?;
-        self.registry.run_call(self.alloc, call)
+        self.at.register(name, help, unit, metric)
     }
 
-    /// Registers a clone of a metric in the current subsystem, with or without a unit, as `register` does.
-    pub fn add<T: Kind<M> + Clone>(
+    /// Registers a clone of a metric of the program's own in the current subsystem, with or without a unit. It has the errors of
+    /// `register`.
+    pub fn add_own<T: Into<X> + Clone>(
         &mut self,
         name: &str,
         help: &str,
         unit: Option<Unit>,
         metric: &T,
     ) -> Result<(), RegistryError>
-        ensures { ((result ≡ Err Memory) × (self.new ≡ self.old))
-            ⊎ AddsClone (T.is_clone metric.now) M.types
-            (λ clone. named_metric name.now help.now unit (T.metric clone)) T.metric
-            self.old self.new result }
+        ensures { ((result ≡ Err Memory) × (self.new.at ≡ self.old.at))
+            ⊎ AddsClone (T.is_clone metric.now)
+            (λ x own. (kept : X) × T.converts x kept × (own ≡ Own kept))
+            ⟦<Metric<H, X> as EncodeMetric>⟧.types
+            (named_metric name.now help.now unit) self.old.at
+            self.new.at
+            result }
     {
-        let metric = metric.clone()?;
-        self.register(name, help, unit, metric.into_metric())
-    }
-
-    /// Makes a metric by `try_default`, registers a clone of it in the current subsystem, and returns it. It has the errors of
-    /// `register`.
-    pub fn metric<T: TryDefault<H> + Kind<M> + Clone + Drop>(
-        &mut self,
-        name: &str,
-        help: &str,
-    ) -> Result<T, RegistryError>
-        ensures made { MatchResult result
-            (λ made. T.is_default made × AddsClone (T.is_clone made) M.types
-            (λ clone. named_metric name.now help.now None (T.metric clone)) T.metric
-            self.old self.new (Ok tt))
-            (λ e. IsUnchanged e self.old self.new ⊎ ((made : T) × AddsClone (T.is_clone made) M.types
-            (λ clone. named_metric name.now help.now None (T.metric clone)) T.metric
-            self.old self.new (Err e))) }
-    {
-        self.made(name, help, None)
-    }
-
-    /// Like `metric`, with a unit.
-    pub fn metric_with_unit<T: TryDefault<H> + Kind<M> + Clone + Drop>(
-        &mut self,
-        name: &str,
-        help: &str,
-        unit: Unit,
-    ) -> Result<T, RegistryError>
-        ensures made { MatchResult result
-            (λ made. T.is_default made × AddsClone (T.is_clone made) M.types
-            (λ clone. named_metric name.now help.now (Some unit) (T.metric clone)) T.metric
-            self.old self.new (Ok tt))
-            (λ e. IsUnchanged e self.old self.new ⊎ ((made : T) × AddsClone (T.is_clone made) M.types
-            (λ clone. named_metric name.now help.now (Some unit) (T.metric clone)) T.metric
-            self.old self.new (Err e))) }
-    {
-        self.made(name, help, Some(unit))
-    }
-
-    // Makes a metric, registers a clone of it, and returns it.
-    fn made<T: TryDefault<H> + Kind<M> + Clone + Drop>(
-        &mut self,
-        name: &str,
-        help: &str,
-        unit: Option<Unit>,
-    ) -> Result<T, RegistryError>
-        ensures { MatchResult result
-            (λ made. T.is_default made × AddsClone (T.is_clone made) M.types
-            (λ clone. named_metric name.now help.now unit (T.metric clone)) T.metric
-            self.old self.new (Ok tt))
-            (λ e. IsUnchanged e self.old self.new ⊎ ((made : T) × AddsClone (T.is_clone made) M.types
-            (λ clone. named_metric name.now help.now unit (T.metric clone)) T.metric
-            self.old self.new (Err e))) }
-    {
-        let Ok(metric) = T::try_default(self.wait, self.alloc) else {
+        let Ok(clone) = metric.clone() else {
             return Err(RegistryError::Memory);
         };
-        match self.add(name, help, unit, &metric) {
+        self.at
+            .register(name, help, unit, Metric::Own(clone.into()))
+    }
+
+    /// Makes a metric of the program's own by `try_default`, registers a clone of it in the current subsystem, and returns it. It has
+    /// the errors of `register`, and fails with `Memory` if the metric can't be made.
+    pub fn own<T: TryDefault<H> + Into<X> + Clone + Drop>(
+        &mut self,
+        name: &str,
+        help: &str,
+    ) -> Result<T, RegistryError>
+        ensures { Makes T.is_default T.is_clone
+            (λ x own. (kept : X) × T.converts x kept × (own ≡ Own kept))
+            ⟦<Metric<H, X> as EncodeMetric>⟧.types
+            (named_metric name.now help.now None) self.old.at
+            self.new.at
+            result }
+    {
+        let Ok(metric) = T::try_default(self.wait, self.at.alloc()) else {
+            return Err(RegistryError::Memory);
+        };
+        match self.add_own(name, help, None, &metric) {
             Ok(()) => Ok(metric),
             Err(error) => Err(error),
         }
+    }
+
+    /// The exposition of the registry: what `collect` returns for it, with its errors.
+    pub fn collect(&self) -> Result<Exposition, EncodeError>
+        ensures admitted { IfOk result (λ e. (b : _) → Shows self.now.at.tree b
+            → Admits (λ m. ⟦<Metric<H, X> as EncodeMetric>⟧.offers m)
+            (λ m. ⟦<Metric<H, X> as EncodeMetric>⟧.stamps m)
+            (λ m. ⟦<Metric<H, X> as EncodeMetric>⟧.may_be_empty m)
+            (order b) e) }
+        ensures fault { IfErr result (λ k. (k ≡ EncodeError.Memory)
+            ⊎ ((b : _) → Shows self.now.at.tree b
+            → Fault k (λ m. ⟦<Metric<H, X> as EncodeMetric>⟧.offers m)
+            (λ m. ⟦<Metric<H, X> as EncodeMetric>⟧.stamps m)
+            (λ m. ⟦<Metric<H, X> as EncodeMetric>⟧.may_fault m)
+            (order b))) }
+        ensures not_writing { IfErr result (λ k. ¬ (IsWritersFault k)) }
+    {
+        collect(self.at.alloc(), self.at.registry())
+    }
+
+    /// Writes the document of the registry, as `encode` does for it, with its errors.
+    pub fn encode<W: Write>(&self, writer: &mut W) -> Result<(), EncodeError>
+        ensures document { OnOk result (WritesAdmitted
+            (λ e. (b : _) → Shows self.now.at.tree b
+            → Admits (λ m. ⟦<Metric<H, X> as EncodeMetric>⟧.offers m)
+            (λ m. ⟦<Metric<H, X> as EncodeMetric>⟧.stamps m)
+            (λ m. ⟦<Metric<H, X> as EncodeMetric>⟧.may_be_empty m)
+            (order b) e)
+            (W.contents writer.old) (W.contents writer.new)) }
+        ensures refused { IfErr result (λ k. ¬ (IsWritersFault k)
+            → Keeps (W.contents writer.old) (W.contents writer.new)
+            × ((k ≡ EncodeError.Memory)
+            ⊎ ((b : _) → Shows self.now.at.tree b
+            → Fault k (λ m. ⟦<Metric<H, X> as EncodeMetric>⟧.offers m)
+            (λ m. ⟦<Metric<H, X> as EncodeMetric>⟧.stamps m)
+            (λ m. ⟦<Metric<H, X> as EncodeMetric>⟧.may_fault m)
+            (order b)))) }
+        ensures stopped { IfErr result (λ k. IsWritersFault k → BeginsAdmitted
+            (λ e. (b : _) → Shows self.now.at.tree b
+            → Admits (λ m. ⟦<Metric<H, X> as EncodeMetric>⟧.offers m)
+            (λ m. ⟦<Metric<H, X> as EncodeMetric>⟧.stamps m)
+            (λ m. ⟦<Metric<H, X> as EncodeMetric>⟧.may_be_empty m)
+            (order b) e)
+            (W.contents writer.old) (W.contents writer.new)) }
+    {
+        encode(self.at.alloc(), writer, self.at.registry())
     }
 }

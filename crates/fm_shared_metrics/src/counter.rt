@@ -28,9 +28,14 @@ struct Count<N: CounterValue> {
 ///
 /// `N` is `u32`, `u64`, `usize` or `Fixed`. Each change is one atomic step. No call waits, and only making a counter
 /// and cloning it take memory.
-#[derive(Drop)]
 pub struct Counter<N: CounterValue = u64> {
     count: Arc<Count<N>, Global>,
+}
+
+impl<N: CounterValue> Drop for Counter<N> {
+    fn drop(self) {
+        let Counter { count: _ } = self;
+    }
 }
 
 impl<N: CounterValue> Counter<N> {

@@ -18,9 +18,14 @@ use std::time::Duration;
 ///
 /// `N` is `i32`, `i64`, `isize`, `u32`, `u64` or `Fixed`. Each change is one atomic step, and wraps at the ends of the
 /// type. No call waits, and only making a gauge and cloning it take memory.
-#[derive(Drop)]
 pub struct Gauge<N: GaugeValue = i64> {
     value: Arc<N::Atomic, Global>,
+}
+
+impl<N: GaugeValue> Drop for Gauge<N> {
+    fn drop(self) {
+        let Gauge { value: _ } = self;
+    }
 }
 
 impl<N: GaugeValue> Gauge<N> {

@@ -93,10 +93,15 @@ impl<T: StateSetValue> Rule for PlaceOf<T> {
 }
 
 /// A state that its clones share. An atomic contains its index: a change is one store, a reading one load.
-#[derive(Drop)]
 pub struct StateSet<T: StateSetValue> {
     place: Arc<AtomicIn<PlaceOf<T>>, Global>,
     alloc: Global,
+}
+
+impl<T: StateSetValue> Drop for StateSet<T> {
+    fn drop(self) {
+        let StateSet { place: _, alloc: _ } = self;
+    }
 }
 
 // Reads the current state. It is a trait so that methods of other traits can call it.

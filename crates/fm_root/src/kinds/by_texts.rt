@@ -14,7 +14,6 @@ use std::time::Duration;
 /// A family by texts.
 ///
 /// It declares and offers what the metric in it does.
-#[derive(Drop)]
 pub enum ByTexts<H: Wait> {
     /// Counters of whole numbers.
     Counters(TextFamily<Counter<u64>, H>),
@@ -28,6 +27,19 @@ pub enum ByTexts<H: Wait> {
     Histograms(TextFamily<Histogram<H>, H>),
     /// Gauge histograms.
     GaugeHistograms(TextFamily<GaugeHistogram<H>, H>),
+}
+
+impl<H: Wait + Drop> Drop for ByTexts<H> {
+    fn drop(self) {
+        match self {
+            ByTexts::Counters(_) => (),
+            ByTexts::FixedCounters(_) => (),
+            ByTexts::Gauges(_) => (),
+            ByTexts::FixedGauges(_) => (),
+            ByTexts::Histograms(_) => (),
+            ByTexts::GaugeHistograms(_) => (),
+        }
+    }
 }
 
 impl<H: Wait + Clone + Send + Sync + Drop> EncodeMetric for ByTexts<H> {

@@ -11,7 +11,6 @@ use std::time::Duration;
 /// A counter or a gauge.
 ///
 /// It declares and offers what the metric in it does.
-#[derive(Drop)]
 pub enum Number {
     /// A counter of whole numbers.
     Counter(Counter<u64>),
@@ -21,6 +20,17 @@ pub enum Number {
     Gauge(Gauge<i64>),
     /// A gauge of millionths.
     FixedGauge(Gauge<Fixed>),
+}
+
+impl Drop for Number {
+    fn drop(self) {
+        match self {
+            Number::Counter(_) => (),
+            Number::FixedCounter(_) => (),
+            Number::Gauge(_) => (),
+            Number::FixedGauge(_) => (),
+        }
+    }
 }
 
 impl EncodeMetric for Number {

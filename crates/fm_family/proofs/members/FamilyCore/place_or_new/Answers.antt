@@ -16,8 +16,8 @@ returns-clause-gets g c =
     let eq = g.LS.PartialEq.eq in let old = c.args.self.now.members in let labels = c.args.labels.now in let key = c.in_ok-key.key in let metric = c.in_ok-metric.metric in
     let same : eq labels key ≡ true = c.requires.clones labels key c.in_ok-key.ensures.cases in
     let gone : get eq old labels ≡ None = none_from_flags c.place_of.result _ c.place_of.ensures.found c.in_default.is in
-    gets_added eq (g.MF.MetricFactory.promises c.args.factory.now) labels key old.entries c.add.new.self.entries (HoldsMetric c.add.new.self.entries) c.len-place.result metric
-    gone same c.in_ok-metric.ensures c.in_ok-add.ensures.added (holds_last old.entries c.add.new.self.entries key metric c.len-place.result c.len-place.ensures.count c.in_ok-add.ensures.added)
+    gets_added g.LS.Clone.is_clone eq (g.MF.MetricFactory.promises c.args.factory.now) labels key old.entries c.add.new.self.entries (HoldsMetric c.add.new.self.entries) c.len-place.result metric
+    gone c.in_ok-key.ensures.cases same c.in_ok-metric.ensures c.in_ok-add.ensures.added (holds_last old.entries c.add.new.self.entries key metric c.len-place.result c.len-place.ensures.count c.in_ok-add.ensures.added)
 
 pub returns-clause-within : goal.returns-clause-within
 returns-clause-within g c =

@@ -1,6 +1,6 @@
 use Rattle.std.proofs.Common.{inr}
 use Rattle.fm_root.proofs.RootLemmas.{added}
-use Rattle.fm_root.proofs.root.RootOf.register.Goals as goal
+use Rattle.fm_root.proofs.at.RegistryAt.register.Goals as goal
 
 pub returns : goal.returns
 returns g c = rw (← c.self.view_is)

@@ -2,7 +2,7 @@ use Rattle.std.proofs.Common.{◌++◌, ◌∷◌, [], ap, ◌∙◌}
 use Rattle.std.specs.String.{string_bytes}
 use Rattle.fm_registry.specs.Calls.{seen_path}
 use Rattle.fm_root.proofs.RootLemmas.{path-cloned, path-pushed}
-use Rattle.fm_root.proofs.root.path_below.Goals as goal
+use Rattle.fm_root.proofs.at.path_below.Goals as goal
 
 pub returns : goal.returns
 returns c =

@@ -1,6 +1,6 @@
 use Rattle.std.proofs.Common.{inr}
 use Rattle.fm_root.proofs.RootLemmas.{entered}
-use Rattle.fm_root.proofs.root.RootOf.enter.Goals as goal
+use Rattle.fm_root.proofs.at.RegistryAt.enter.Goals as goal
 
 pub invariant_of-self-2 : goal.invariant_of-self-2
 invariant_of-self-2 g c = c.run_call.ensures.sound c.self.invariant

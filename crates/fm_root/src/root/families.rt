@@ -1,0 +1,217 @@
+//! Families by texts that a root makes and registers, a line each.
+ghost use Rattle.std.specs.Prelude.{◌≡◌, None, Some};
+ghost use Rattle.fm_own.specs.Named.{named_metric};
+ghost use Rattle.fm_root.specs.Roots.{Makes};
+ghost use Rattle.fm_root.specs.declared.kinds.by_texts.ByTexts.TheVariants.{Counters, FixedCounters, Gauges, FixedGauges, Histograms, GaugeHistograms};
+ghost use Rattle.fm_root.specs.declared.kinds.Metric.TheVariants.{ByTexts};
+
+use super::Root;
+use crate::kinds::Metric;
+use fm_encoder::EncodeMetric;
+use fm_histogram::{GaugeHistogram, Histogram};
+use fm_own::TextFamily;
+use fm_raw::{Fixed, TryDefault, Unit};
+use fm_registry::RegistryError;
+use fm_shared_metrics::counter::Counter;
+use fm_shared_metrics::gauge::Gauge;
+use std::sync::Wait;
+
+impl<H: Wait + Copy + Send + Sync + Drop, X: EncodeMetric> Root<H, X> {
+    /// Makes a family by texts of counters of whole numbers, registers a clone of it in the current subsystem, and returns it. It has the errors of `register`.
+    pub fn counters(
+        &mut self,
+        name: &str,
+        help: &str,
+    ) -> Result<TextFamily<Counter<u64>, H>, RegistryError>
+        ensures { Makes ⟦<TextFamily<Counter<u64>, H> as TryDefault<H>>⟧.is_default ⟦<TextFamily<Counter<u64>, H> as Clone>⟧.is_clone
+            (λ x metric. metric ≡ ByTexts (Counters x))
+            ⟦<Metric<H, X> as EncodeMetric>⟧.types
+            (named_metric name.now help.now None) self.old.at
+            self.new.at
+            result }
+    {
+        self.at.make(self.wait, name, help, None)
+    }
+
+    /// Like `counters`, with a unit.
+    pub fn counters_with_unit(
+        &mut self,
+        name: &str,
+        help: &str,
+        unit: Unit,
+    ) -> Result<TextFamily<Counter<u64>, H>, RegistryError>
+        ensures { Makes ⟦<TextFamily<Counter<u64>, H> as TryDefault<H>>⟧.is_default ⟦<TextFamily<Counter<u64>, H> as Clone>⟧.is_clone
+            (λ x metric. metric ≡ ByTexts (Counters x))
+            ⟦<Metric<H, X> as EncodeMetric>⟧.types
+            (named_metric name.now help.now (Some unit)) self.old.at
+            self.new.at
+            result }
+    {
+        self.at.make(self.wait, name, help, Some(unit))
+    }
+
+    /// Makes a family by texts of counters of millionths, registers a clone of it in the current subsystem, and returns it. It has the errors of `register`.
+    pub fn fixed_counters(
+        &mut self,
+        name: &str,
+        help: &str,
+    ) -> Result<TextFamily<Counter<Fixed>, H>, RegistryError>
+        ensures { Makes ⟦<TextFamily<Counter<Fixed>, H> as TryDefault<H>>⟧.is_default ⟦<TextFamily<Counter<Fixed>, H> as Clone>⟧.is_clone
+            (λ x metric. metric ≡ ByTexts (FixedCounters x))
+            ⟦<Metric<H, X> as EncodeMetric>⟧.types
+            (named_metric name.now help.now None) self.old.at
+            self.new.at
+            result }
+    {
+        self.at.make(self.wait, name, help, None)
+    }
+
+    /// Like `fixed_counters`, with a unit.
+    pub fn fixed_counters_with_unit(
+        &mut self,
+        name: &str,
+        help: &str,
+        unit: Unit,
+    ) -> Result<TextFamily<Counter<Fixed>, H>, RegistryError>
+        ensures { Makes ⟦<TextFamily<Counter<Fixed>, H> as TryDefault<H>>⟧.is_default ⟦<TextFamily<Counter<Fixed>, H> as Clone>⟧.is_clone
+            (λ x metric. metric ≡ ByTexts (FixedCounters x))
+            ⟦<Metric<H, X> as EncodeMetric>⟧.types
+            (named_metric name.now help.now (Some unit)) self.old.at
+            self.new.at
+            result }
+    {
+        self.at.make(self.wait, name, help, Some(unit))
+    }
+
+    /// Makes a family by texts of gauges of whole numbers, registers a clone of it in the current subsystem, and returns it. It has the errors of `register`.
+    pub fn gauges(
+        &mut self,
+        name: &str,
+        help: &str,
+    ) -> Result<TextFamily<Gauge<i64>, H>, RegistryError>
+        ensures { Makes ⟦<TextFamily<Gauge<i64>, H> as TryDefault<H>>⟧.is_default ⟦<TextFamily<Gauge<i64>, H> as Clone>⟧.is_clone
+            (λ x metric. metric ≡ ByTexts (Gauges x))
+            ⟦<Metric<H, X> as EncodeMetric>⟧.types
+            (named_metric name.now help.now None) self.old.at
+            self.new.at
+            result }
+    {
+        self.at.make(self.wait, name, help, None)
+    }
+
+    /// Like `gauges`, with a unit.
+    pub fn gauges_with_unit(
+        &mut self,
+        name: &str,
+        help: &str,
+        unit: Unit,
+    ) -> Result<TextFamily<Gauge<i64>, H>, RegistryError>
+        ensures { Makes ⟦<TextFamily<Gauge<i64>, H> as TryDefault<H>>⟧.is_default ⟦<TextFamily<Gauge<i64>, H> as Clone>⟧.is_clone
+            (λ x metric. metric ≡ ByTexts (Gauges x))
+            ⟦<Metric<H, X> as EncodeMetric>⟧.types
+            (named_metric name.now help.now (Some unit)) self.old.at
+            self.new.at
+            result }
+    {
+        self.at.make(self.wait, name, help, Some(unit))
+    }
+
+    /// Makes a family by texts of gauges of millionths, registers a clone of it in the current subsystem, and returns it. It has the errors of `register`.
+    pub fn fixed_gauges(
+        &mut self,
+        name: &str,
+        help: &str,
+    ) -> Result<TextFamily<Gauge<Fixed>, H>, RegistryError>
+        ensures { Makes ⟦<TextFamily<Gauge<Fixed>, H> as TryDefault<H>>⟧.is_default ⟦<TextFamily<Gauge<Fixed>, H> as Clone>⟧.is_clone
+            (λ x metric. metric ≡ ByTexts (FixedGauges x))
+            ⟦<Metric<H, X> as EncodeMetric>⟧.types
+            (named_metric name.now help.now None) self.old.at
+            self.new.at
+            result }
+    {
+        self.at.make(self.wait, name, help, None)
+    }
+
+    /// Like `fixed_gauges`, with a unit.
+    pub fn fixed_gauges_with_unit(
+        &mut self,
+        name: &str,
+        help: &str,
+        unit: Unit,
+    ) -> Result<TextFamily<Gauge<Fixed>, H>, RegistryError>
+        ensures { Makes ⟦<TextFamily<Gauge<Fixed>, H> as TryDefault<H>>⟧.is_default ⟦<TextFamily<Gauge<Fixed>, H> as Clone>⟧.is_clone
+            (λ x metric. metric ≡ ByTexts (FixedGauges x))
+            ⟦<Metric<H, X> as EncodeMetric>⟧.types
+            (named_metric name.now help.now (Some unit)) self.old.at
+            self.new.at
+            result }
+    {
+        self.at.make(self.wait, name, help, Some(unit))
+    }
+
+    /// Makes a family by texts of histograms with the default bounds, registers a clone of it in the current subsystem, and returns it. It has the errors of `register`.
+    pub fn histograms(
+        &mut self,
+        name: &str,
+        help: &str,
+    ) -> Result<TextFamily<Histogram<H>, H>, RegistryError>
+        ensures { Makes ⟦<TextFamily<Histogram<H>, H> as TryDefault<H>>⟧.is_default ⟦<TextFamily<Histogram<H>, H> as Clone>⟧.is_clone
+            (λ x metric. metric ≡ ByTexts (Histograms x))
+            ⟦<Metric<H, X> as EncodeMetric>⟧.types
+            (named_metric name.now help.now None) self.old.at
+            self.new.at
+            result }
+    {
+        self.at.make(self.wait, name, help, None)
+    }
+
+    /// Like `histograms`, with a unit.
+    pub fn histograms_with_unit(
+        &mut self,
+        name: &str,
+        help: &str,
+        unit: Unit,
+    ) -> Result<TextFamily<Histogram<H>, H>, RegistryError>
+        ensures { Makes ⟦<TextFamily<Histogram<H>, H> as TryDefault<H>>⟧.is_default ⟦<TextFamily<Histogram<H>, H> as Clone>⟧.is_clone
+            (λ x metric. metric ≡ ByTexts (Histograms x))
+            ⟦<Metric<H, X> as EncodeMetric>⟧.types
+            (named_metric name.now help.now (Some unit)) self.old.at
+            self.new.at
+            result }
+    {
+        self.at.make(self.wait, name, help, Some(unit))
+    }
+
+    /// Makes a family by texts of gauge histograms with the default bounds, registers a clone of it in the current subsystem, and returns it. It has the errors of `register`.
+    pub fn gauge_histograms(
+        &mut self,
+        name: &str,
+        help: &str,
+    ) -> Result<TextFamily<GaugeHistogram<H>, H>, RegistryError>
+        ensures { Makes ⟦<TextFamily<GaugeHistogram<H>, H> as TryDefault<H>>⟧.is_default ⟦<TextFamily<GaugeHistogram<H>, H> as Clone>⟧.is_clone
+            (λ x metric. metric ≡ ByTexts (GaugeHistograms x))
+            ⟦<Metric<H, X> as EncodeMetric>⟧.types
+            (named_metric name.now help.now None) self.old.at
+            self.new.at
+            result }
+    {
+        self.at.make(self.wait, name, help, None)
+    }
+
+    /// Like `gauge_histograms`, with a unit.
+    pub fn gauge_histograms_with_unit(
+        &mut self,
+        name: &str,
+        help: &str,
+        unit: Unit,
+    ) -> Result<TextFamily<GaugeHistogram<H>, H>, RegistryError>
+        ensures { Makes ⟦<TextFamily<GaugeHistogram<H>, H> as TryDefault<H>>⟧.is_default ⟦<TextFamily<GaugeHistogram<H>, H> as Clone>⟧.is_clone
+            (λ x metric. metric ≡ ByTexts (GaugeHistograms x))
+            ⟦<Metric<H, X> as EncodeMetric>⟧.types
+            (named_metric name.now help.now (Some unit)) self.old.at
+            self.new.at
+            result }
+    {
+        self.at.make(self.wait, name, help, Some(unit))
+    }
+}
