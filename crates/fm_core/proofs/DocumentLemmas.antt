@@ -45,7 +45,7 @@ still_text name old new text samples was is =
 -- what an encoder makes of a metric whose family it has begun
 pub family_added : (Offers : Option ℕ → List Member → Type 0) (Stamps : Option ℕ → Type 0) (MayBeEmpty MayFault : Type 0) (heading : Heading) (stamp : Option ℕ) (old begun new : GatheredMembers) (visited made : Result (Unit {0}) EncodeError)
     → IsListable heading → HasLines old → Stamps stamp
-    → begun ≡ record { context = context_at (listed_name heading) heading.registration.metric_type heading.labels stamp; output = with_lines old.output (heading_rows heading); refused = old.refused }
+    → begun ≡ record { context = context_at (listed_name heading) heading.registration.metric_type heading.labels stamp; output = with_lines old.output (heading_rows heading); refused = None }
     → HandsMembers (Offers begun.context.setting.time) MayFault begun new visited
     → MatchResult made (λ _. (new.refused ≡ None) × (visited ≡ Ok tt)) (λ k. (new.refused ≡ Some k) ⊎ ((e : EncodeError) × (new.refused ≡ None) × (visited ≡ Err e) × (k ≡ own_refusal e)))
     → MatchResult made (λ _. HasLines new × AddsRows Offers Stamps MayBeEmpty heading (text_in old.output) (text_in new.output)) (λ k. (k ≡ Memory) ⊎ FaultUnder Offers Stamps k MayFault heading)
@@ -53,7 +53,7 @@ family_added Offers Stamps MayBeEmpty MayFault heading stamp old begun new visit
     let text = text_in old.output in
     let headed = OutputText (text ++ heading_rows heading) in
     let same : begun ≡ record { context = context_at (listed_name heading) heading.registration.metric_type heading.labels stamp; output = headed; refused = None } =
-    is ∙ (λ i. record { context = context_at (listed_name heading) heading.registration.metric_type heading.labels stamp; output = with_lines (lines.text i) (heading_rows heading); refused = lines.accepting i }) in
+    is ∙ (λ i. record { context = context_at (listed_name heading) heading.registration.metric_type heading.labels stamp; output = with_lines (lines.text i) (heading_rows heading); refused = None }) in
     added made ends (offered_made Offers Stamps MayFault (listed_name heading) heading.registration.metric_type heading.labels stamp headed (λ _. new.context.setting.name) (λ _. new.output) begun new visited made same stamped hands (ended made ends))
   where
     headed_output : Output

@@ -1,5 +1,5 @@
 // The text of a registry's document, which is rendered while its metrics are visited.
-ghost use Rattle.std.specs.Prelude.{◌≡◌, ◌⊎◌, ◌++◌, codes, MatchResult, IfOk, IfErr, IfSome, OnOk};
+ghost use Rattle.std.specs.Prelude.{◌≡◌, ◌⊎◌, ◌++◌, None, codes, MatchResult, IfOk, IfErr, IfSome, OnOk};
 ghost use Rattle.std.specs.Option.{option_copied};
 ghost use Rattle.fm_grammar.specs.Exposition.{Exposition};
 ghost use Rattle.fm_grammar.specs.Reading.{IsExposition};
@@ -41,13 +41,14 @@ fn begin_family(
     requires heading { IsListable
         (heading_in (option_copied namespace) (labels_of constants.now) metadata.now) }
     requires time { IfSome time AreMillis }
+    requires accepting { encoder.old.refused ≡ None }
     ensures begun { let heading =
         heading_in (option_copied namespace.entry) (labels_of constants.now) metadata.now in
         OnOk result (encoder.new ≡ record {
           context = context_at (listed_name heading)
               heading.registration.metric_type heading.labels time;
           output = with_lines encoder.old.output (heading_rows heading);
-          refused = encoder.old.refused;
+          refused = None;
         }) }
     ensures memory { IfErr result (λ k. k ≡ EncodeError.Memory) }
 {
@@ -153,7 +154,9 @@ pub(crate) fn document_lines<M: EncodeMetric>(
         → Fault k (λ m. M.offers m) (λ m. M.stamps m) (λ m. M.may_fault m) (order b))) }
     ensures not_writing { IfErr result (λ k. ¬ (IsWritersFault k)) }
 {
-    let list = registry.listing(alloc)?;
+    let Ok(list) = registry.listing(alloc) else {
+        return Err(EncodeError::Memory);
+    };
     let mut encoder = MetricEncoder::for_lines(alloc)?;
     let mut name = String::new(alloc);
     for listed in &list {

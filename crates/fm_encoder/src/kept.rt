@@ -1,6 +1,7 @@
 //! Labels that are read once and kept, so that each later reading copies them.
-ghost use Rattle.std.specs.Prelude.{◌≡◌, [], IfOk, IfSome};
+ghost use Rattle.std.specs.Prelude.{◌≡◌, [], IfOk, IfErr, IfSome};
 ghost use Rattle.fm_grammar.specs.declared.MetricType.{MetricType};
+ghost use Rattle.fm_encode_error.specs.declared.EncodeError.{EncodeError};
 ghost use Rattle.fm_encoder.specs.Kept.{Keeps};
 ghost use Rattle.fm_encoder.specs.Labels.{LabelsClean, all_written};
 
@@ -9,7 +10,7 @@ use crate::label_set::EncodeLabelSet;
 use fm_encode_error::EncodeError;
 use fm_grammar::MetricType;
 use fm_writer::LabelText;
-use std::alloc::{AllocError, Global};
+use std::alloc::Global;
 use std::marker::Model;
 
 // The labels of a label set, if they are valid in a summary without constant labels.
@@ -41,12 +42,13 @@ impl Model for KeptLabels {
 impl KeptLabels {
     /// The labels of this label set, or `None` if they are not valid in each family: a name is invalid, two labels have the same
     /// name, one has a name that some type reserves (`le`, `quantile`), a label is malformed, or the label set returns an error of
-    /// its own. Fails if memory runs out, or if the label set returns `Memory`.
+    /// its own. Fails with `Memory` if memory runs out, or if the label set returns `Memory`.
     pub fn read<LS: EncodeLabelSet>(
         alloc: Global,
         labels: &LS,
-    ) -> Result<Option<KeptLabels>, AllocError>
-        ensures { IfOk result (λ read. IfSome read (Keeps (LS.labels labels.now))) }
+    ) -> Result<Option<KeptLabels>, EncodeError>
+        ensures read { IfOk result (λ read. IfSome read (Keeps (LS.labels labels.now))) }
+        ensures memory { IfErr result (λ e. e ≡ EncodeError.Memory) }
     {
         match summary_labels(alloc, labels) {
             Ok(labels) => {
@@ -55,7 +57,7 @@ impl KeptLabels {
                 }
                 Ok(Some(KeptLabels { labels }))
             }
-            Err(EncodeError::Memory) => Err(AllocError),
+            Err(EncodeError::Memory) => Err(EncodeError::Memory),
             Err(_) => Ok(None),
         }
     }

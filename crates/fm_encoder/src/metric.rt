@@ -1,5 +1,5 @@
 //! Metrics: what offers members, and the encoder that puts a family's samples into a sink.
-ghost use Rattle.std.specs.Prelude.{◌≡◌, ℕ, List, [], ◌∷◌, ◌⊎◌, MatchOption, Option, None, IsTrue, IfSome, OnOk, IfOk, IfErr, Ok, map, string_bytes};
+ghost use Rattle.std.specs.Prelude.{◌≡◌, ℕ, List, [], ◌∷◌, ◌⊎◌, MatchOption, Option, None, Some, IsTrue, IfSome, OnOk, IfOk, IfErr, Ok, Err, map, string_bytes};
 ghost use Rattle.std.specs.Option.{option_map, option_map_or, option_copied};
 ghost use Rattle.fm_grammar.specs.declared.MetricType.{MetricType};
 ghost use Rattle.fm_grammar.specs.Names.{IsSnakeCase};
@@ -11,7 +11,7 @@ ghost use Rattle.fm_writer.specs.Output.{AreShared, OutputText, with_lines};
 ghost use Rattle.fm_encoder.specs.Points.{Member, UnknownPoint, GaugePoint, CounterPoint, StateSetPoint, InfoPoint, HistogramPoint, GaugeHistogramPoint, SummaryPoint, millis};
 ghost use Rattle.fm_encoder.specs.Buckets.{slots_of, MaySlotsFault};
 ghost use Rattle.fm_encoder.specs.States.{state_of};
-ghost use Rattle.fm_encoder.specs.Gathered.{IsOutcome};
+ghost use Rattle.fm_encoder.specs.Gathered.{IsOutcome, result_of};
 ghost use Rattle.fm_encoder.specs.Kept.{Keeps};
 ghost use Rattle.fm_encoder.specs.Hands.{HandsMembers, MembersOf};
 ghost use Rattle.fm_encoder.specs.Takes.{TakesMembers};
@@ -170,7 +170,8 @@ impl MetricEncoder {
 
     /// Goes on to the family with this printed name, this type and these constant labels, and appends the lines that come before
     /// its samples. The timestamp, in milliseconds, is written on each sample. `name` is swapped with the name of the family
-    /// before. Fails with `Memory` if memory runs out; then the text may end in a part of these lines. It is for the collector.
+    /// before. Fails with `Memory` if memory runs out; then that is the encoder's refusal, and the text may end in a part of these
+    /// lines. An encoder that has refused something stays as it is, and returns that refusal. It is for the collector.
     pub fn begin_family(
         &mut self,
         alloc: Global,
@@ -196,15 +197,22 @@ impl MetricEncoder {
             unit = option_copied unit.entry;
             samples = [];
           }));
-          refused = self.old.refused;
+          refused = None;
         }) }
-        ensures memory { IfErr result (λ e. e ≡ EncodeError.Memory) }
+        ensures kept { (k : EncodeError) → self.old.refused ≡ Some k
+            → (self.new ≡ self.old) × (name.new ≡ name.old) × (result ≡ Err k) }
+        ensures answered { result ≡ result_of self.new.refused }
+        ensures memory { IfErr result
+            (λ e. (e ≡ EncodeError.Memory) ⊎ (self.old.refused ≡ Some e)) }
     {
-        self.constants.begin(alloc, metric_type, constants)?;
-        Ok(
-            self.points
-                .begin_family(name, metric_type, help, unit, time)?,
-        )
+        if let Some(error) = self.points.refusal() {
+            return Err(error);
+        }
+        if let Err(error) = self.constants.begin(alloc, metric_type, constants) {
+            return self.points.refuse(error);
+        }
+        self.points
+            .begin_family(name, metric_type, help, unit, time)
     }
 
     /// Takes a member: its labels, which are read once, and its point. Errors, in this order: those of the point's type, of the

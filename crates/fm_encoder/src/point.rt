@@ -1,5 +1,5 @@
 //! Points: what emits them, and the encoder that puts their samples into a sink.
-ghost use Rattle.std.specs.Prelude.{◌≡◌, ◌++◌, List, [], None, Some, OnOk, IfSome, string_bytes};
+ghost use Rattle.std.specs.Prelude.{◌≡◌, ◌++◌, List, [], None, Some, Err, OnOk, IfErr, IfSome, string_bytes};
 ghost use Rattle.std.specs.Option.{option_map, option_copied};
 ghost use Rattle.fm_grammar.specs.Names.{IsSnakeCase};
 ghost use Rattle.fm_grammar.specs.declared.MetricType.{MetricType};
@@ -11,7 +11,7 @@ ghost use Rattle.fm_writer.specs.Output.{AreShared, with_lines};
 ghost use Rattle.fm_encoder.specs.Points.{Point};
 ghost use Rattle.fm_encoder.specs.Labels.{handed_again};
 ghost use Rattle.fm_encoder.specs.inside.FreeLabels.{AreFree};
-ghost use Rattle.fm_encoder.specs.Gathered.{IsOutcome};
+ghost use Rattle.fm_encoder.specs.Gathered.{IsOutcome, result_of};
 ghost use Rattle.fm_encoder.specs.Takes.{Takes};
 ghost use Rattle.fm_encoder.specs.Hands.{HandsPoints};
 ghost use Rattle.fm_encoder.specs.Kept.{Keeps};
@@ -27,7 +27,7 @@ use fm_encode_error::EncodeError;
 use fm_exposition::{Exemplar, Value};
 use fm_grammar::{MetricType, SampleKind};
 use fm_writer::{GrowingText, LabelText, Sink};
-use std::alloc::{AllocError, Global};
+use std::alloc::Global;
 use std::marker::Model;
 use std::mem;
 
@@ -127,7 +127,7 @@ impl PointEncoder {
     }
 
     // Goes on to a family of this name, type and timestamp, and appends the lines that come before its samples. The name is swapped with
-    // that of the family before. If memory runs out, the text may end in a part of these lines.
+    // that of the family before. If memory runs out, that is refused, and the text may end in a part of these lines.
     pub(crate) fn begin_family(
         &mut self,
         name: &mut String,
@@ -135,12 +135,12 @@ impl PointEncoder {
         help: &str,
         unit: Option<&str>,
         time: Option<u128>,
-    ) -> Result<(), AllocError>
+    ) -> Result<(), EncodeError>
+        requires accepting { self.old.refused ≡ None }
         requires name { IsSnakeCase (string_bytes name.old) }
         requires time { IfSome time AreMillis }
         ensures setting { self.new.setting
             ≡ record { name = string_bytes name.old; metric_type = metric_type; time = time } }
-        ensures refused { self.new.refused ≡ self.old.refused }
         ensures output { OnOk result
             (self.new.output ≡ with_lines self.old.output (head_rows (record {
               name = string_bytes name.old;
@@ -149,6 +149,8 @@ impl PointEncoder {
               unit = option_copied unit.entry;
               samples = [];
             }))) }
+        ensures answered { result ≡ result_of self.new.refused }
+        ensures memory { IfErr result (λ e. e ≡ EncodeError.Memory) }
     {
         mem::swap(&mut self.name, name);
         self.metric_type = metric_type;
@@ -156,8 +158,13 @@ impl PointEncoder {
         self.labels.begin(metric_type);
         self.sink.unshare();
         self.deferred = None;
-        self.sink
+        match self
+            .sink
             .append_heads(self.name.as_str(), metric_type, help, unit)
+        {
+            Ok(()) => Ok(()),
+            Err(_) => self.refused.refuse(EncodeError::Memory),
+        }
     }
 
     // Tests a point's type, and then whether the common labels were refused. The next sample begins the point.
@@ -243,6 +250,22 @@ impl PointEncoder {
             Ok(()) => Ok(()),
             Err(error) => self.refused.refuse(error),
         }
+    }
+
+    // The first refusal, if there is one.
+    pub(crate) fn refusal(&self) -> Option<EncodeError>
+        ensures { result ≡ self.now.refused }
+    {
+        self.refused.error
+    }
+
+    // Keeps a refusal, which is the first, and returns it.
+    pub(crate) fn refuse(&mut self, error: EncodeError) -> Result<(), EncodeError>
+        requires accepting { self.old.refused ≡ None }
+        ensures kept { self.new ≡ record self.old { refused = Some error } }
+        ensures returned { result ≡ Err error }
+    {
+        self.refused.refuse(error)
     }
 
     // The first refusal, after the visited source returned `visited`.

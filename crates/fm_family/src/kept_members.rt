@@ -100,7 +100,9 @@ impl<LS: EncodeLabelSet + Eq + Hash + Drop, M: Drop, S: BuildHasher> KeptMembers
         ensures different { IsUnique LS.eq self.new }
     {
         let count = self.members.len();
-        let kept = KeptLabels::read(self.alloc, &labels)?;
+        let Ok(kept) = KeptLabels::read(self.alloc, &labels) else {
+            return Err(AllocError);
+        };
         self.labels.push(kept)?;
         match self.members.insert(labels, metric) {
             Ok(_) => Ok(()),

@@ -11,6 +11,7 @@ use crate::listing::{ListedMetric, list_metrics};
 use crate::names::Tailed;
 pub use builder::RegistryBuilder;
 use fm_encoder::EncodeMetric;
+use fm_registry_calls::RegistryError;
 use indexmap::IndexMap;
 pub use run::RegistryCall;
 use std::alloc::{AllocError, Global};
@@ -88,12 +89,13 @@ impl<M> Debug for Registry<M> {
 }
 
 impl<M> Registry<M> {
-    ghost use Rattle.std.specs.Prelude.{◌≡◌, ◌++◌, [], OnOk, IfOk};
+    ghost use Rattle.std.specs.Prelude.{◌≡◌, ◌++◌, [], OnOk, IfOk, IfErr};
     ghost use Rattle.std.specs.Option.{option_map};
     ghost use Rattle.fm_exposition.specs.Samples.{labels_of};
     ghost use Rattle.fm_registry_calls.specs.History.{namespace_at, labels_at};
     ghost use Rattle.fm_registry_calls.specs.Tree.{Shows};
     ghost use Rattle.fm_registry_calls.specs.Listing.{own_metrics, listed_tree, order};
+    ghost use Rattle.fm_registry_calls.specs.declared.RegistryError.{RegistryError};
     ghost use Rattle.fm_registry.specs.HasHistory.{HasHistory};
     ghost use Rattle.fm_registry.specs.Seen.{seen_list};
 
@@ -145,12 +147,13 @@ impl<M> Registry<M> {
 
     /// The metrics in the order of the exposition, each with its registry's namespace and labels: first those of this
     /// registry in order of registration, then those of each subsystem in order of creation. For collectors. It
-    /// allocates the list only.
-    pub fn listing(&self, alloc: Global) -> Result<Vec<ListedMetric<'_, M>>, AllocError>
+    /// allocates the list only. Fails with `Memory` if memory runs out.
+    pub fn listing(&self, alloc: Global) -> Result<Vec<ListedMetric<'_, M>>, RegistryError>
         ensures tree { IfOk result (λ list. seen_list list.items ≡ listed_tree self.now) }
         ensures history { IfOk result
             (λ list. HasHistory self.now → (b : _) → Shows self.now b
             → seen_list list.items ≡ order b) }
+        ensures memory { IfErr result (λ e. e ≡ RegistryError.Memory) }
     {
         let mut list = Vec::new(alloc);
         self.list_into(&mut list)?;

@@ -98,7 +98,9 @@ pub fn collect<M: EncodeMetric>(
         → Fault k (λ m. M.offers m) (λ m. M.stamps m) (λ m. M.may_fault m) (order b))) }
     ensures not_writing { IfErr result (λ k. ¬ (IsWritersFault k)) }
 {
-    let list = registry.listing(alloc)?;
+    let Ok(list) = registry.listing(alloc) else {
+        return Err(EncodeError::Memory);
+    };
     let mut encoder = MetricFamilyEncoder::new(alloc);
     for listed in &list {
         encode_listed(&mut encoder, listed)?;

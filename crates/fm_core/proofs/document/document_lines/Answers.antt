@@ -16,7 +16,7 @@ use Rattle.fm_core.proofs.document.document_lines.Goals as goal
 pub add_listed-requires-clause-listable : goal.add_listed-requires-clause-listable
 add_listed-requires-clause-listable g c = λ κs lives.
     let within : c.loop-listed.listed-index < length c.deref-listed-items.result.now = omega arith in
-    let whole = ap seen_list c.deref-listed-items.ensures.value ∙ c.in_ok-list.ensures.tree in
+    let whole = ap seen_list c.deref-listed-items.ensures.value ∙ c.in-Ok.ensures.tree in
     IsListable-at c.deref-listed-items.result.now c.loop-listed.listed-index c.listed-item.result within c.listed-item.is
     (subst (λ (ls : List (Listed _)). AllByRecursion IsListable ls) (sym whole) (listed_tree-fits c.args.registry.now c.requires.history c.requires.reads))
 
@@ -37,7 +37,7 @@ loop-listed-preserved g c =
       lines = added.0;
       text = IsTextOf-next _ _ _ c.deref-listed-items.result.now c.loop-listed.listed-index c.listed-item.result (text_in c.loop-listed.encoder.output) (text_in c.add_listed.new.encoder.output)
           within c.listed-item.is
-          (names_differ c.args.registry.now c.requires.history (seen_list c.deref-listed-items.result.now) c.requires.reads (ap seen_list c.deref-listed-items.ensures.value ∙ c.in_ok-list.ensures.history c.requires c.requires.history c.requires.reads.shows))
+          (names_differ c.args.registry.now c.requires.history (seen_list c.deref-listed-items.result.now) c.requires.reads (ap seen_list c.deref-listed-items.ensures.value ∙ c.in-Ok.ensures.history c.requires c.requires.history c.requires.reads.shows))
           c.loop-listed.invariant.text added.1;
     }
 
@@ -49,7 +49,7 @@ returns-in_err-add_listed-clause-fault g c =
     let k = c.in_err-add_listed.field-0.0 in
     rw (exit.1, exit.2) (elim refusal [
       | inl memory ↦ inl memory
-      | inr fault ↦ inr (λ b shows. subst (λ ls. Fault k (λ m. g.M.EncodeMetric.offers m) (λ m. g.M.EncodeMetric.stamps m) (λ m. g.M.EncodeMetric.may_fault m) ls) (ap seen_list c.deref-listed-items.ensures.value ∙ c.in_ok-list.ensures.history c.requires b shows)
+      | inr fault ↦ inr (λ b shows. subst (λ ls. Fault k (λ m. g.M.EncodeMetric.offers m) (λ m. g.M.EncodeMetric.stamps m) (λ m. g.M.EncodeMetric.may_fault m) ls) (ap seen_list c.deref-listed-items.ensures.value ∙ c.in-Ok.ensures.history c.requires b shows)
           (Fault-at k (λ m. g.M.EncodeMetric.offers m) (λ m. g.M.EncodeMetric.stamps m) (λ m. g.M.EncodeMetric.may_fault m) c.deref-listed-items.result.now c.loop-listed.listed-index c.listed-item.result within c.listed-item.is fault))
     ])
 
@@ -65,7 +65,7 @@ returns-clause-text g c =
     let whole = take_all c.loop-listed.listed-index c.deref-listed-items.result.now c.loop-listed-test.false in
     let text = rw whole at c.loop-listed.invariant.text in (
       text.exposition,
-      (λ b shows. subst (λ ls. Admits (λ m. g.M.EncodeMetric.offers m) (λ m. g.M.EncodeMetric.stamps m) (λ m. g.M.EncodeMetric.may_be_empty m) ls text.exposition) (ap seen_list c.deref-listed-items.ensures.value ∙ c.in_ok-list.ensures.history c.requires b shows)
+      (λ b shows. subst (λ ls. Admits (λ m. g.M.EncodeMetric.offers m) (λ m. g.M.EncodeMetric.stamps m) (λ m. g.M.EncodeMetric.may_be_empty m) ls text.exposition) (ap seen_list c.deref-listed-items.ensures.value ∙ c.in-Ok.ensures.history c.requires b shows)
           text.admitted),
       text.is_exposition,
       c.in_ok-ended_lines.ensures ∙ ap (λ (t : Text). t ++ codes "# EOF\n") text.rows,

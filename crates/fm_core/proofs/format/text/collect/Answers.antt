@@ -11,7 +11,7 @@ use Rattle.fm_core.proofs.format.text.collect.Goals as goal
 pub encode_listed-requires-clause-listable : goal.encode_listed-requires-clause-listable
 encode_listed-requires-clause-listable g c = λ κs lives.
     let within : c.loop-listed.listed-index < length c.deref-listed-items.result.now = omega arith in
-    let whole = ap seen_list c.deref-listed-items.ensures.value ∙ c.in_ok-list.ensures.tree in
+    let whole = ap seen_list c.deref-listed-items.ensures.value ∙ c.in-Ok.ensures.tree in
     IsListable-at c.deref-listed-items.result.now c.loop-listed.listed-index c.listed-item.result within c.listed-item.is
     (subst (λ (ls : List (Listed _)). AllByRecursion IsListable ls) (sym whole) (listed_tree-fits c.args.registry.now c.requires.history c.requires.reads))
 
@@ -19,7 +19,7 @@ pub encode_listed-requires-clause-new_name : goal.encode_listed-requires-clause-
 encode_listed-requires-clause-new_name g c = λ κs lives.
     let within : c.loop-listed.listed-index < length c.deref-listed-items.result.now = omega arith in
     next_new _ _ _ c.deref-listed-items.result.now c.loop-listed.listed-index c.listed-item.result c.loop-listed.encoder.families within c.listed-item.is
-    (names_differ c.args.registry.now c.requires.history (seen_list c.deref-listed-items.result.now) c.requires.reads (ap seen_list c.deref-listed-items.ensures.value ∙ c.in_ok-list.ensures.history c.requires c.requires.history c.requires.reads.shows))
+    (names_differ c.args.registry.now c.requires.history (seen_list c.deref-listed-items.result.now) c.requires.reads (ap seen_list c.deref-listed-items.ensures.value ∙ c.in-Ok.ensures.history c.requires c.requires.history c.requires.reads.shows))
     c.loop-listed.invariant.admitted
 
 pub loop-listed-preserved : goal.loop-listed-preserved
@@ -34,18 +34,18 @@ loop-listed-preserved g c =
 pub returns-in_err-encode_listed-clause-fault : goal.returns-in_err-encode_listed-clause-fault
 returns-in_err-encode_listed-clause-fault g c =
     let within : c.loop-listed.listed-index < length c.deref-listed-items.result.now = omega arith in
-    let exit = err_from_is_err_and c.from_residual-in_err-encode_listed.result c.from_residual-in_err-encode_listed.ensures.1 in
+    let exit = err_from_is_err_and c.from_residual.result c.from_residual.ensures.1 in
     let refusal = rw c.in_err-encode_listed.was at c.encode_listed.ensures.err in
     let k = c.in_err-encode_listed.field-0.0 in
     rw (exit.1, exit.2) (elim refusal [
       | inl memory ↦ inl memory
-      | inr fault ↦ inr (λ b shows. subst (λ ls. Fault k (λ m. g.M.EncodeMetric.offers m) (λ m. g.M.EncodeMetric.stamps m) (λ m. g.M.EncodeMetric.may_fault m) ls) (ap seen_list c.deref-listed-items.ensures.value ∙ c.in_ok-list.ensures.history c.requires b shows)
+      | inr fault ↦ inr (λ b shows. subst (λ ls. Fault k (λ m. g.M.EncodeMetric.offers m) (λ m. g.M.EncodeMetric.stamps m) (λ m. g.M.EncodeMetric.may_fault m) ls) (ap seen_list c.deref-listed-items.ensures.value ∙ c.in-Ok.ensures.history c.requires b shows)
           (Fault-at k (λ m. g.M.EncodeMetric.offers m) (λ m. g.M.EncodeMetric.stamps m) (λ m. g.M.EncodeMetric.may_fault m) c.deref-listed-items.result.now c.loop-listed.listed-index c.listed-item.result within c.listed-item.is fault))
     ])
 
 pub returns-in_err-encode_listed-clause-not_writing : goal.returns-in_err-encode_listed-clause-not_writing
 returns-in_err-encode_listed-clause-not_writing g c =
-    let exit = err_from_is_err_and c.from_residual-in_err-encode_listed.result c.from_residual-in_err-encode_listed.ensures.1 in
+    let exit = err_from_is_err_and c.from_residual.result c.from_residual.ensures.1 in
     let refusal = rw c.in_err-encode_listed.was at c.encode_listed.ensures.err in
     let k = c.in_err-encode_listed.field-0.0 in
     rw (exit.1, exit.2) (refusal-not_writing k (λ m. g.M.EncodeMetric.offers m) (λ m. g.M.EncodeMetric.stamps m) (λ m. g.M.EncodeMetric.may_fault m) (seen_listed c.listed-item.result) refusal)
