@@ -1,6 +1,6 @@
 //! What the server counts: a field and a line for each metric.
 
-use fastmetrics::encoder::StaticStr;
+use fastmetrics::encoder::{EncodeMetric, StaticStr};
 use fastmetrics::metrics::counter::{ConstCounter, Counter};
 use fastmetrics::metrics::family::{PairFamily, TextFamily};
 use fastmetrics::metrics::gauge::Gauge;
@@ -48,12 +48,12 @@ pub struct Metrics<H: Wait> {
 /// Those of the subsystem that serves requests.
 #[derive(Drop)]
 pub struct Http<H: Wait> {
-    pub requests: TextFamily<Counter, H>,
-    pub routes: Routes<H>,
+    pub sent: Counter,
     pub in_flight: Gauge,
     pub latency: Histogram<H>,
-    pub sent: Counter,
     pub sizes: GaugeHistogram<H>,
+    pub requests: TextFamily<Counter, H>,
+    pub routes: Routes<H>,
 }
 
 /// Those of the subsystem that runs jobs.
@@ -61,9 +61,9 @@ pub struct Http<H: Wait> {
 pub struct Pool<H: Wait> {
     pub jobs: Counter,
     pub busy: Gauge,
-    pub waits: TextFamily<Histogram<H>, H>,
     pub load: Gauge<Fixed>,
     pub time: Counter<Fixed>,
+    pub waits: TextFamily<Histogram<H>, H>,
 }
 
 /// A root whose metrics are printed after `shop_`.
@@ -77,8 +77,8 @@ pub fn new_root<H: Wait + Copy + Send + Sync + Drop>(
 }
 
 /// Makes each metric, registers it, and keeps it.
-pub fn make<H: Wait + Copy + Send + Sync + Drop>(
-    root: &mut Registered<H>,
+pub fn make<H: Wait + Copy + Send + Sync + Drop, X: EncodeMetric + From<Routes<H>>>(
+    root: &mut Root<H, X>,
     alloc: Global,
 ) -> Result<Metrics<H>, RegistryError> {
     add_constants(root, alloc)?;
@@ -91,8 +91,8 @@ pub fn make<H: Wait + Copy + Send + Sync + Drop>(
 }
 
 // Registers what never changes.
-fn add_constants<H: Wait + Copy + Send + Sync + Drop>(
-    root: &mut Registered<H>,
+fn add_constants<H: Wait + Copy + Send + Sync + Drop, X: EncodeMetric>(
+    root: &mut Root<H, X>,
     alloc: Global,
 ) -> Result<(), RegistryError> {
     let version = String::from_str(alloc, "version")?;
@@ -103,32 +103,32 @@ fn add_constants<H: Wait + Copy + Send + Sync + Drop>(
     root.register("starts", "Starts of the server", None, starts)
 }
 
-fn make_http<H: Wait + Copy + Send + Sync + Drop>(
-    root: &mut Registered<H>,
+fn make_http<H: Wait + Copy + Send + Sync + Drop, X: EncodeMetric + From<Routes<H>>>(
+    root: &mut Root<H, X>,
 ) -> Result<Http<H>, RegistryError> {
     root.enter("http", &[("protocol", "1.1")])?;
     let http = Http {
-        requests: root.counters("requests", "Requests by method")?,
-        routes: root.own("routes", "Requests by port and status")?,
+        sent: root.counter_with_unit("sent", "What was sent", Unit::Bytes)?,
         in_flight: root.gauge("in_flight", "Requests that are served now")?,
         latency: root.histogram_with_unit("latency", "Time to serve", Unit::Seconds)?,
-        sent: root.counter_with_unit("sent", "What was sent", Unit::Bytes)?,
         sizes: root.gauge_histogram("sizes", "Sizes of what waits")?,
+        requests: root.counters("requests", "Requests by method")?,
+        routes: root.own("routes", "Requests by port and status")?,
     };
     root.leave();
     Ok(http)
 }
 
-fn make_pool<H: Wait + Copy + Send + Sync + Drop>(
-    root: &mut Registered<H>,
+fn make_pool<H: Wait + Copy + Send + Sync + Drop, X: EncodeMetric>(
+    root: &mut Root<H, X>,
 ) -> Result<Pool<H>, RegistryError> {
     root.enter("pool", &[])?;
     let pool = Pool {
         jobs: root.counter("jobs", "Jobs that were done")?,
         busy: root.gauge("busy", "Workers that have a job")?,
-        waits: root.histograms("waits", "Waits by queue")?,
         load: root.fixed_gauge("load", "How busy the pool is")?,
         time: root.fixed_counter_with_unit("time", "Time of all jobs", Unit::Seconds)?,
+        waits: root.histograms("waits", "Waits by queue")?,
     };
     root.leave();
     Ok(pool)

@@ -1,0 +1,12 @@
+//! Tests of roots: each call that makes a metric, metrics of a program's own, subsystems, and what is refused.
+#![tactic(auto)]
+
+#[cfg(test)]
+mod families;
+#[cfg(test)]
+mod own;
+#[cfg(test)]
+mod single;
+#[cfg(test)]
+mod subsystems;
+pub mod support;
