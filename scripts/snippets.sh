@@ -1,5 +1,6 @@
 #!/usr/bin/env bash
-# Compares each piece of code in README.md and docs/ with the file that it is cut from. The fenced block after a line
+# Compares each piece of code in README.md and docs/ with the file that it is cut from, and fails at a line of more than 130
+# columns. The fenced block after a line
 # `<!-- cut: FILE -->` is that file, whole; after a line `<!-- cut: FILE | FIRST | LAST -->` it is the part from the line that begins
 # with FIRST to the next one that ends with LAST, without the indentation of its first line. Fails where they differ, where a file
 # has no such part, and where a block of code names no file. With --write it puts the files' text there.
@@ -50,4 +51,8 @@ for document in README.md docs/*.md; do
     fi
     rm -f "$fresh"
 done
+if LC_ALL=C.UTF-8 grep -nE '^.{131,}' README.md docs/*.md >&2; then
+    echo "a line of a document has at most 130 columns" >&2
+    differing=1
+fi
 exit "$differing"

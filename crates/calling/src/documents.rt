@@ -17,8 +17,8 @@ pub fn body(alloc: Global, registry: &Registry) -> Result<Vec<u8>, EncodeError>
     Ok(body)
 }
 
-/// The same in two steps: `collect` visits the metrics, and the exposition may be looked at before it is written. Without a family
-/// there is no body.
+/// The same in two steps: `collect` visits the metrics, and the exposition may be looked at before it is written. Without a
+/// family there is no body.
 pub fn body_of_any(alloc: Global, registry: &Registry) -> Result<Option<Vec<u8>>, EncodeError>
     requires { HasHistory registry.now }
 {

@@ -11,3 +11,4 @@ pub mod infos;
 pub mod registries;
 pub mod roots;
 pub mod states;
+pub mod threads;

@@ -53,60 +53,6 @@ f_gcount{m=\"GET\"} 1\n\
 f_gsum{m=\"GET\"} 2.0\n\
 # EOF\n";
 
-const FAMILIES_IN_BYTES: &str = "# TYPE a_bytes counter\n\
-# HELP a_bytes H\n\
-# UNIT a_bytes bytes\n\
-a_bytes_total{m=\"GET\"} 1\n\
-# TYPE b_bytes counter\n\
-# HELP b_bytes H\n\
-# UNIT b_bytes bytes\n\
-b_bytes_total{m=\"GET\"} 1.0\n\
-# TYPE c_bytes gauge\n\
-# HELP c_bytes H\n\
-# UNIT c_bytes bytes\n\
-c_bytes{m=\"GET\"} -1\n\
-# TYPE d_bytes gauge\n\
-# HELP d_bytes H\n\
-# UNIT d_bytes bytes\n\
-d_bytes{m=\"GET\"} -1.0\n\
-# EOF\n";
-
-const HISTOGRAMS_IN_BYTES: &str = "# TYPE e_bytes histogram\n\
-# HELP e_bytes H\n\
-# UNIT e_bytes bytes\n\
-e_bytes_bucket{m=\"GET\",le=\"0.005\"} 0\n\
-e_bytes_bucket{m=\"GET\",le=\"0.01\"} 0\n\
-e_bytes_bucket{m=\"GET\",le=\"0.025\"} 0\n\
-e_bytes_bucket{m=\"GET\",le=\"0.05\"} 0\n\
-e_bytes_bucket{m=\"GET\",le=\"0.1\"} 0\n\
-e_bytes_bucket{m=\"GET\",le=\"0.25\"} 0\n\
-e_bytes_bucket{m=\"GET\",le=\"0.5\"} 0\n\
-e_bytes_bucket{m=\"GET\",le=\"1.0\"} 0\n\
-e_bytes_bucket{m=\"GET\",le=\"2.5\"} 1\n\
-e_bytes_bucket{m=\"GET\",le=\"5.0\"} 1\n\
-e_bytes_bucket{m=\"GET\",le=\"10.0\"} 1\n\
-e_bytes_bucket{m=\"GET\",le=\"+Inf\"} 1\n\
-e_bytes_count{m=\"GET\"} 1\n\
-e_bytes_sum{m=\"GET\"} 2.0\n\
-# TYPE f_bytes gaugehistogram\n\
-# HELP f_bytes H\n\
-# UNIT f_bytes bytes\n\
-f_bytes_bucket{m=\"GET\",le=\"0.005\"} 0\n\
-f_bytes_bucket{m=\"GET\",le=\"0.01\"} 0\n\
-f_bytes_bucket{m=\"GET\",le=\"0.025\"} 0\n\
-f_bytes_bucket{m=\"GET\",le=\"0.05\"} 0\n\
-f_bytes_bucket{m=\"GET\",le=\"0.1\"} 0\n\
-f_bytes_bucket{m=\"GET\",le=\"0.25\"} 0\n\
-f_bytes_bucket{m=\"GET\",le=\"0.5\"} 0\n\
-f_bytes_bucket{m=\"GET\",le=\"1.0\"} 0\n\
-f_bytes_bucket{m=\"GET\",le=\"2.5\"} 1\n\
-f_bytes_bucket{m=\"GET\",le=\"5.0\"} 1\n\
-f_bytes_bucket{m=\"GET\",le=\"10.0\"} 1\n\
-f_bytes_bucket{m=\"GET\",le=\"+Inf\"} 1\n\
-f_bytes_gcount{m=\"GET\"} 1\n\
-f_bytes_gsum{m=\"GET\"} 2.0\n\
-# EOF\n";
-
 #[test]
 fn families(rt: HostRuntime) -> Result<(), Fail> {
     let alloc = rt.alloc();
@@ -140,53 +86,13 @@ fn families_of_histograms(rt: HostRuntime) -> Result<(), Fail> {
 }
 
 #[test]
-fn families_in_bytes(rt: HostRuntime) -> Result<(), Fail> {
-    let alloc = rt.alloc();
-    let get = [("m", "GET")];
-    let mut root = Root::new(rt, alloc);
-    with_texts(
-        alloc,
-        &root.counters_with_unit("a", "H", Unit::Bytes)?,
-        &get,
-        |it| it.inc(),
-    )?;
-    with_texts(
-        alloc,
-        &root.fixed_counters_with_unit("b", "H", Unit::Bytes)?,
-        &get,
-        |it| it.inc(),
-    )?;
-    with_texts(
-        alloc,
-        &root.gauges_with_unit("c", "H", Unit::Bytes)?,
-        &get,
-        |it| it.dec(),
-    )?;
-    with_texts(
-        alloc,
-        &root.fixed_gauges_with_unit("d", "H", Unit::Bytes)?,
-        &get,
-        |it| it.dec(),
-    )?;
-    expect_root(alloc, &root, FAMILIES_IN_BYTES)
-}
-
-#[test]
-fn families_of_histograms_in_bytes(rt: HostRuntime) -> Result<(), Fail> {
-    let alloc = rt.alloc();
-    let get = [("m", "GET")];
-    let mut root = Root::new(rt, alloc);
-    with_texts(
-        alloc,
-        &root.histograms_with_unit("e", "H", Unit::Bytes)?,
-        &get,
-        |it| it.observe(two()),
-    )??;
-    with_texts(
-        alloc,
-        &root.gauge_histograms_with_unit("f", "H", Unit::Bytes)?,
-        &get,
-        |it| it.observe(two()),
-    )??;
-    expect_root(alloc, &root, HISTOGRAMS_IN_BYTES)
+fn families_with_units(rt: HostRuntime) -> Result<(), Fail> {
+    let mut root = Root::new(rt, rt.alloc());
+    root.counters_with_unit("a", "H", Unit::Bytes)?;
+    root.fixed_counters_with_unit("b", "H", Unit::Bytes)?;
+    root.gauges_with_unit("c", "H", Unit::Bytes)?;
+    root.fixed_gauges_with_unit("d", "H", Unit::Bytes)?;
+    root.histograms_with_unit("e", "H", Unit::Bytes)?;
+    root.gauge_histograms_with_unit("f", "H", Unit::Bytes)?;
+    expect_root(rt.alloc(), &root, "# EOF\n")
 }

@@ -1,0 +1,61 @@
+//! The same metrics in a root and, boxed, in a registry: both documents are the same.
+
+use crate::support::{expect_root, two};
+use fastmetrics::encoder::EncodeMetric;
+use fastmetrics::metrics::counter::ConstCounter;
+use fastmetrics::metrics::family::{TextFamily, with_texts};
+use fastmetrics::metrics::gauge::Gauge;
+use fastmetrics::metrics::gauge_histogram::GaugeHistogram;
+use fastmetrics::raw::TryDefault;
+use fastmetrics::registry::{Metric, Registry, RegistryCall, Root};
+use fm_test_support::support::document_of;
+use std::alloc::Global;
+use std::sync::Wait;
+use std::test::Fail;
+
+// A metric of each variant but the program's own, with its name.
+fn kinds<H: Wait + Copy + Send + Sync + Drop>(
+    wait: H,
+    alloc: Global,
+) -> Result<Vec<(&'static str, Metric<H>)>, Fail> {
+    let levels = GaugeHistogram::try_default(wait, alloc)?;
+    levels.observe(two())?;
+    let members: TextFamily<Gauge, H> = TryDefault::try_default(wait, alloc)?;
+    with_texts(alloc, &members, &[("m", "GET")], |it| it.inc())?;
+    let number = Gauge::<i64>::new(alloc, 5)?;
+    let constant = ConstCounter::<u64>::new(7);
+    Ok(vec![in alloc;
+        ("levels", Metric::from(levels)),
+        ("members", Metric::from(members)),
+        ("number", Metric::from(number)),
+        ("constant", Metric::from(constant)),
+    ]?)
+}
+
+// A call that registers a metric under this name.
+fn registering<M: Drop>(alloc: Global, name: &str, metric: M) -> Result<RegistryCall<M>, Fail> {
+    Ok(RegistryCall::Register {
+        path: Vec::new(alloc),
+        name: String::from_str(alloc, name)?,
+        help: String::from_str(alloc, "H")?,
+        unit: None,
+        metric,
+    })
+}
+
+#[test]
+fn boxed_and_unboxed(rt: HostRuntime) -> Result<(), Fail> {
+    let alloc = rt.alloc();
+    let mut root = Root::new(rt, alloc);
+    for (name, metric) in kinds(rt, alloc)? {
+        root.register(name, "H", None, metric)?;
+    }
+    let mut calls: Vec<RegistryCall> = Vec::new(alloc);
+    for (name, metric) in kinds(rt, alloc)? {
+        let metric: Box<dyn EncodeMetric> = Box::new(alloc, metric)?;
+        calls.push(registering(alloc, name, metric)?)?;
+    }
+    let mut registry = Registry::default();
+    registry.run(alloc, calls)?;
+    expect_root(alloc, &root, document_of(alloc, &registry)?.as_str())
+}
