@@ -24,12 +24,12 @@ fn kinds<H: Wait + Copy + Send + Sync + Drop>(
     with_texts(alloc, &members, &[("m", "GET")], |it| it.inc())?;
     let number = Gauge::<i64>::new(alloc, 5)?;
     let constant = ConstCounter::<u64>::new(7);
-    Ok(vec![in alloc;
-        ("levels", Metric::from(levels)),
-        ("members", Metric::from(members)),
-        ("number", Metric::from(number)),
-        ("constant", Metric::from(constant)),
-    ]?)
+    let mut list = Vec::new(alloc);
+    list.push(("levels", Metric::from(levels)))?;
+    list.push(("members", Metric::from(members)))?;
+    list.push(("number", Metric::from(number)))?;
+    list.push(("constant", Metric::from(constant)))?;
+    Ok(list)
 }
 
 // A call that registers a metric under this name.
