@@ -39,14 +39,16 @@ def part(name):
     made = "".join(
         f'        {field}: root.{kind}("{name}_{field}", "{field} of {name}")?,\n' for field, kind in kind_of
     )
+    head, end = f"fn make_{name}<H: Wait + Copy + Send + Sync + Drop>(", f") -> Result<{name.title()}, RegistryError> {{"
+    whole = f"{head}root: &mut Root<H>{end}"
+    # As `rt fmt` breaks lines.
+    signature = whole if len(whole) <= 100 else f"{head}\n    root: &mut Root<H>,\n{end}"
     return f"""
 #[derive(Drop)]
 struct {name.title()} {{
 {struct}}}
 
-fn make_{name}<H: Wait + Copy + Send + Sync + Drop>(
-    root: &mut Root<H>,
-) -> Result<{name.title()}, RegistryError> {{
+{signature}
     Ok({name.title()} {{
 {made}    }})
 }}

@@ -1,5 +1,5 @@
-//! A server's metrics: fifteen of all kinds in two subsystems, two workers that count, and a scrape in memory. It has no clause and
-//! no proof.
+//! A server's metrics: fifteen of eleven kinds, most in two subsystems, two workers that count, and a scrape in memory. It has no
+//! clause and no proof.
 #![tactic(auto)]
 
 mod metrics;
