@@ -3,7 +3,9 @@ ghost use Rattle.fastmetrics.specs.HasHistory.{HasHistory};
 
 use fastmetrics::encoder::EncodeMetric;
 use fastmetrics::raw::Unit;
-use fastmetrics::registry::{Registry, RegistryBuilder, RegistryCall, RegistryError};
+use fastmetrics::registry::{
+    Registry, RegistryBuilder, RegistryCall, RegistryError, add_at, add_subsystem_at,
+};
 use std::alloc::{AllocError, Global};
 
 // One owned label.
@@ -40,18 +42,25 @@ pub fn register_in_seconds(
         .register_with_unit(alloc, name, help, Unit::Seconds, metric)
 }
 
-/// Makes the subsystem `mysql` with a label of its own, if it is not there.
-pub fn make_engine(alloc: Global, registry: &mut Registry) -> Result<(), RegistryError>
+/// Registers a metric two subsystems below the registry, of which the first has a label of its own. Both are made if they are not
+/// there. It needs no proof.
+pub fn register_queries(
+    alloc: Global,
+    registry: &mut Registry,
+    metric: Box<dyn EncodeMetric>,
+) -> Result<(), RegistryError>
     requires { HasHistory registry.old }
     ensures { HasHistory registry.new }
 {
-    let name = String::from_str(alloc, "mysql")?;
-    let labels = one_label(alloc, "engine", "innodb")?;
-    registry
-        .subsystem_builder(alloc, name)?
-        .with_const_labels(labels)?
-        .build()?;
-    Ok(())
+    add_subsystem_at(alloc, registry, &[], "mysql", &[("engine", "innodb")])?;
+    add_at(
+        alloc,
+        registry,
+        &["mysql", "pool"],
+        "queries",
+        "Queries",
+        metric,
+    )
 }
 
 /// Makes two calls in turn, a subsystem and a metric in it, and returns the first refusal. It needs no proof, even if the path

@@ -71,3 +71,5 @@ pub use Rattle.fm_histogram.specs.Shared
 pub use Rattle.fm_observe.specs.Pieces
 pub use Rattle.fm_family.specs.Members
 pub use Rattle.fm_family.specs.MemberLends
+pub use Rattle.fm_root.specs.Paths
+pub use Rattle.fm_root.specs.Roots

@@ -119,5 +119,5 @@ pub mod registry {
         ListedMetric, MetricType, Registry, RegistryBuilder, RegistryCall, RegistryError,
         RegistrySubsystemBuilder, Subsystem, Unit,
     };
-    pub use fm_root::{ByTexts, Constant, Metric, Number, OneOf, Root};
+    pub use fm_root::{ByTexts, Constant, Metric, Number, OneOf, Root, add_at, add_subsystem_at};
 }

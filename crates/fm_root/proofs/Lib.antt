@@ -1,1 +1,2 @@
+mod PathLemmas
 mod RootLemmas

@@ -1,22 +1,21 @@
 -- What a call that was made of texts does.
-use Rattle.std.proofs.Common.{◌≡◌, ◌++◌, ◌∷◌, [], List, Option, Result, Ok, Err, OnOk, OnErr, refl, ap, subst, ◌∙◌, String, Global}
+use Rattle.std.proofs.Common.{◌≡◌, ◌++◌, ◌∷◌, [], List, Option, Result, Ok, OnOk, refl, ap, subst, ◌∙◌, String, Global}
 use Rattle.std.specs.List.{AllZip}
 use Rattle.std.specs.String.{string_bytes}
 use Rattle.fm_grammar.specs.declared.MetricType.{MetricType}
 use Rattle.fm_raw.specs.declared.metadata.Unit as unit
 use Rattle.fm_exposition.specs.Samples.{labels_of}
 use Rattle.fm_registry_calls.specs.Texts.{Text, Path, Labels}
-use Rattle.fm_registry_calls.specs.History.{History, Call, Register, Subsystem}
+use Rattle.fm_registry_calls.specs.History.{History, Register, Subsystem}
 use Rattle.fm_registry_calls.specs.Answer.{IsAnswered, refusal_of, answer, after}
 use Rattle.fm_registry_calls.specs.Running.{IsReply}
 use Rattle.fm_registry_calls.specs.Tree.{Tree, Reads}
 use Rattle.fm_registry_calls.specs.declared.RegistryError.{RegistryError}
 use Rattle.fm_registry.specs.Calls.{seen_path, RunsCall}
 use Rattle.fm_registry.specs.HasHistory.{Grows}
-use Rattle.fm_registry.specs.Registers.{RegistersAt}
 use Rattle.fm_registry.specs.declared.registry.run.RegistryCall.{RegistryCall}
 use Rattle.fm_own.specs.Named.{named_metric}
-use Rattle.fm_root.specs.Roots.{RootState, Adds, Enters}
+use Rattle.fm_root.specs.Roots.{Adds, Enters}
 use Rattle.fm_root.specs.inside.Requests.{Registering, Asking}
 
 -- clones of names are the same path
@@ -56,7 +55,7 @@ module _ {M : Type 0} (Types : M → MetricType → Type 0) where
         path = refl;
       }
 
-  asked : (path : Path) (name : Text) (labels : Labels) (call : RegistryCall M) (old new : Tree M) (r : Result (Unit {0}) RegistryError)
+  pub asked : (path : Path) (name : Text) (labels : Labels) (call : RegistryCall M) (old new : Tree M) (r : Result (Unit {0}) RegistryError)
       → Asking path name labels call → RunsCall Types call old new r
       → ((b : History M) → Reads old b → IsReply (refusal_of r) b (Subsystem path name labels)) × OnOk r ((b : History M) → Reads old b → Reads new (after b (Subsystem path name labels)))
   asked path name labels call old new r made ran =
@@ -77,11 +76,3 @@ module _ {M : Type 0} (Types : M → MetricType → Type 0) where
   entered path below name labels call old new made ran grows is_below =
       let got = asked path name labels call old new (Ok tt) made ran in
       record { reply = got.0; ok = (is_below, got.1); err = tt; grows = grows }
-
-  -- and one that is refused
-  pub not_entered : (path : Path) (name : Text) (labels : Labels) (call : RegistryCall M) (old new : Tree M) (e : RegistryError)
-      → Asking path name labels call → RunsCall Types call old new (Err e) → Grows old new
-      → Enters name labels (record { tree = old; path = path }) (record { tree = new; path = path }) (Err e)
-  not_entered path name labels call old new e made ran grows =
-      let got = asked path name labels call old new (Err e) made ran in
-      record { reply = got.0; ok = tt; err = ap (λ t. record { tree = t; path = path }) ran.err; grows = grows }

@@ -1,7 +1,6 @@
 -- How contracts see a root: its tree, and the subsystem in which it registers.
-use Rattle.std.specs.Prelude.{◌≡◌, ◌⊎◌, ◌++◌, ◌∷◌, [], Option, Result, Ok, Err, OnOk, OnErr, MatchResult}
+use Rattle.std.specs.Prelude.{◌≡◌, ◌⊎◌, ◌++◌, ◌∷◌, [], Result, Ok, Err, OnOk, OnErr, MatchResult}
 use Rattle.fm_grammar.specs.declared.MetricType.{MetricType}
-use Rattle.fm_raw.specs.declared.metadata.Unit as unit
 use Rattle.fm_registry_calls.specs.Texts.{Text, Path, Labels}
 use Rattle.fm_registry_calls.specs.Registration.{Registration}
 use Rattle.fm_registry_calls.specs.declared.RegistryError.{RegistryError}

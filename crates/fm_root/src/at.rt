@@ -43,8 +43,8 @@ impl<M> Model for RegistryAt<M> {
     ghost invariant = { λ r. HasHistory r.registry };
 }
 
-// A call that registers a metric at this path.
-fn registering<M: Drop>(
+/// A call that registers a metric at this path.
+pub(crate) fn registering<M: Drop>(
     alloc: Global,
     path: &Vec<String>,
     name: &str,
@@ -63,8 +63,8 @@ fn registering<M: Drop>(
     })
 }
 
-// A call that asks for a subsystem at this path.
-fn asking<M: Drop>(
+/// A call that asks for a subsystem at this path.
+pub(crate) fn asking<M: Drop>(
     alloc: Global,
     path: &Vec<String>,
     name: &str,

@@ -3,7 +3,9 @@
 
 mod at;
 pub mod kinds;
+mod paths;
 pub mod root;
 
 pub use kinds::{ByTexts, Constant, Metric, Number, OneOf};
+pub use paths::{add_at, add_subsystem_at};
 pub use root::Root;

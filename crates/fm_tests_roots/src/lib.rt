@@ -8,6 +8,8 @@ mod families;
 #[cfg(test)]
 mod own;
 #[cfg(test)]
+mod paths;
+#[cfg(test)]
 mod refused;
 #[cfg(test)]
 mod single;

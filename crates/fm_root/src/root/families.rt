@@ -17,7 +17,8 @@ use fm_shared_metrics::gauge::Gauge;
 use std::sync::Wait;
 
 impl<H: Wait + Copy + Send + Sync + Drop, X: EncodeMetric> Root<H, X> {
-    /// Makes a family by texts of counters of whole numbers, registers a clone of it in the current subsystem, and returns it. It has the errors of `register`.
+    /// Makes a family by texts of counters of whole numbers, registers a clone of it in the current subsystem, and returns it.
+    /// It has the errors of `register`.
     pub fn counters(
         &mut self,
         name: &str,
@@ -50,7 +51,8 @@ impl<H: Wait + Copy + Send + Sync + Drop, X: EncodeMetric> Root<H, X> {
         self.at.make(self.wait, name, help, Some(unit))
     }
 
-    /// Makes a family by texts of counters of millionths, registers a clone of it in the current subsystem, and returns it. It has the errors of `register`.
+    /// Makes a family by texts of counters of millionths, registers a clone of it in the current subsystem, and returns it. It
+    /// has the errors of `register`.
     pub fn fixed_counters(
         &mut self,
         name: &str,
@@ -83,7 +85,8 @@ impl<H: Wait + Copy + Send + Sync + Drop, X: EncodeMetric> Root<H, X> {
         self.at.make(self.wait, name, help, Some(unit))
     }
 
-    /// Makes a family by texts of gauges of whole numbers, registers a clone of it in the current subsystem, and returns it. It has the errors of `register`.
+    /// Makes a family by texts of gauges of whole numbers, registers a clone of it in the current subsystem, and returns it. It
+    /// has the errors of `register`.
     pub fn gauges(
         &mut self,
         name: &str,
@@ -116,7 +119,8 @@ impl<H: Wait + Copy + Send + Sync + Drop, X: EncodeMetric> Root<H, X> {
         self.at.make(self.wait, name, help, Some(unit))
     }
 
-    /// Makes a family by texts of gauges of millionths, registers a clone of it in the current subsystem, and returns it. It has the errors of `register`.
+    /// Makes a family by texts of gauges of millionths, registers a clone of it in the current subsystem, and returns it. It
+    /// has the errors of `register`.
     pub fn fixed_gauges(
         &mut self,
         name: &str,
@@ -149,7 +153,8 @@ impl<H: Wait + Copy + Send + Sync + Drop, X: EncodeMetric> Root<H, X> {
         self.at.make(self.wait, name, help, Some(unit))
     }
 
-    /// Makes a family by texts of histograms with the default bounds, registers a clone of it in the current subsystem, and returns it. It has the errors of `register`.
+    /// Makes a family by texts of histograms with the default bounds, registers a clone of it in the current subsystem, and
+    /// returns it. It has the errors of `register`.
     pub fn histograms(
         &mut self,
         name: &str,
@@ -182,7 +187,8 @@ impl<H: Wait + Copy + Send + Sync + Drop, X: EncodeMetric> Root<H, X> {
         self.at.make(self.wait, name, help, Some(unit))
     }
 
-    /// Makes a family by texts of gauge histograms with the default bounds, registers a clone of it in the current subsystem, and returns it. It has the errors of `register`.
+    /// Makes a family by texts of gauge histograms with the default bounds, registers a clone of it in the current subsystem,
+    /// and returns it. It has the errors of `register`.
     pub fn gauge_histograms(
         &mut self,
         name: &str,

@@ -16,7 +16,8 @@ use fm_shared_metrics::gauge::Gauge;
 use std::sync::Wait;
 
 impl<H: Wait + Copy + Send + Sync + Drop, X: EncodeMetric> Root<H, X> {
-    /// Makes a counter of whole numbers, registers a clone of it in the current subsystem, and returns it. It has the errors of `register`.
+    /// Makes a counter of whole numbers, registers a clone of it in the current subsystem, and returns it. It has the errors of
+    /// `register`.
     pub fn counter(&mut self, name: &str, help: &str) -> Result<Counter<u64>, RegistryError>
         ensures { Makes ⟦<Counter<u64> as TryDefault<H>>⟧.is_default ⟦<Counter<u64> as Clone>⟧.is_clone
             (λ x metric. metric ≡ Number (number.Counter x))
@@ -45,7 +46,8 @@ impl<H: Wait + Copy + Send + Sync + Drop, X: EncodeMetric> Root<H, X> {
         self.at.make(self.wait, name, help, Some(unit))
     }
 
-    /// Makes a counter of millionths, registers a clone of it in the current subsystem, and returns it. It has the errors of `register`.
+    /// Makes a counter of millionths, registers a clone of it in the current subsystem, and returns it. It has the errors of
+    /// `register`.
     pub fn fixed_counter(&mut self, name: &str, help: &str) -> Result<Counter<Fixed>, RegistryError>
         ensures { Makes ⟦<Counter<Fixed> as TryDefault<H>>⟧.is_default ⟦<Counter<Fixed> as Clone>⟧.is_clone
             (λ x metric. metric ≡ Number (number.FixedCounter x))
@@ -74,7 +76,8 @@ impl<H: Wait + Copy + Send + Sync + Drop, X: EncodeMetric> Root<H, X> {
         self.at.make(self.wait, name, help, Some(unit))
     }
 
-    /// Makes a gauge of whole numbers, registers a clone of it in the current subsystem, and returns it. It has the errors of `register`.
+    /// Makes a gauge of whole numbers, registers a clone of it in the current subsystem, and returns it. It has the errors of
+    /// `register`.
     pub fn gauge(&mut self, name: &str, help: &str) -> Result<Gauge<i64>, RegistryError>
         ensures { Makes ⟦<Gauge<i64> as TryDefault<H>>⟧.is_default ⟦<Gauge<i64> as Clone>⟧.is_clone
             (λ x metric. metric ≡ Number (number.Gauge x))
@@ -103,7 +106,8 @@ impl<H: Wait + Copy + Send + Sync + Drop, X: EncodeMetric> Root<H, X> {
         self.at.make(self.wait, name, help, Some(unit))
     }
 
-    /// Makes a gauge of millionths, registers a clone of it in the current subsystem, and returns it. It has the errors of `register`.
+    /// Makes a gauge of millionths, registers a clone of it in the current subsystem, and returns it. It has the errors of
+    /// `register`.
     pub fn fixed_gauge(&mut self, name: &str, help: &str) -> Result<Gauge<Fixed>, RegistryError>
         ensures { Makes ⟦<Gauge<Fixed> as TryDefault<H>>⟧.is_default ⟦<Gauge<Fixed> as Clone>⟧.is_clone
             (λ x metric. metric ≡ Number (number.FixedGauge x))
@@ -132,7 +136,8 @@ impl<H: Wait + Copy + Send + Sync + Drop, X: EncodeMetric> Root<H, X> {
         self.at.make(self.wait, name, help, Some(unit))
     }
 
-    /// Makes a histogram with the default bounds, registers a clone of it in the current subsystem, and returns it. It has the errors of `register`.
+    /// Makes a histogram with the default bounds, registers a clone of it in the current subsystem, and returns it. It has the
+    /// errors of `register`.
     pub fn histogram(&mut self, name: &str, help: &str) -> Result<Histogram<H>, RegistryError>
         ensures { Makes ⟦<Histogram<H> as TryDefault<H>>⟧.is_default ⟦<Histogram<H> as Clone>⟧.is_clone
             (λ x metric. metric ≡ Histogram x)
@@ -161,7 +166,8 @@ impl<H: Wait + Copy + Send + Sync + Drop, X: EncodeMetric> Root<H, X> {
         self.at.make(self.wait, name, help, Some(unit))
     }
 
-    /// Makes a gauge histogram with the default bounds, registers a clone of it in the current subsystem, and returns it. It has the errors of `register`.
+    /// Makes a gauge histogram with the default bounds, registers a clone of it in the current subsystem, and returns it. It
+    /// has the errors of `register`.
     pub fn gauge_histogram(
         &mut self,
         name: &str,
