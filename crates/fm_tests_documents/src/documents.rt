@@ -6,7 +6,7 @@ use fastmetrics::encoder::EncodeMetric;
 use fastmetrics::metrics::counter::ConstCounter;
 use fastmetrics::metrics::tally::{Book, TallyError};
 use fastmetrics::raw::Unit;
-use fastmetrics::registry::Registry;
+use fastmetrics::registry::{Registry, RegistryError};
 use fm_test_support::support::{expect_document, expect_document_of};
 use fm_test_support::trees::{expect_refused, gauge, register_with};
 use own_metric::{Queue, Waiting};
@@ -89,6 +89,37 @@ fn names_and_helps(rt: HostRuntime) -> Result<(), Fail> {
         expect_counter(alloc, name, help, total, want)?;
     }
     Ok(())
+}
+
+// Registers a metric here with the help `H`, by the call that takes a unit.
+fn register_in(
+    alloc: Global,
+    registry: &mut Registry,
+    name: &str,
+    unit: Unit,
+    metric: Box<dyn EncodeMetric>,
+) -> Result<(), RegistryError>
+    requires { HasHistory registry.old }
+    ensures { HasHistory registry.new }
+{
+    let (Ok(name), Ok(help)) = (String::from_str(alloc, name), String::from_str(alloc, "H")) else {
+        return Err(RegistryError::Memory);
+    };
+    registry.register_with_unit(alloc, name, help, unit, metric)
+}
+
+#[test]
+fn counter_of_bytes(rt: HostRuntime) -> Result<(), Fail> {
+    let alloc = rt.alloc();
+    let counter = counter(alloc, 100)?;
+    let mut registry = Registry::default();
+    register_in(alloc, &mut registry, "my_counter", Unit::Bytes, counter)?;
+    expect_document_of(
+        alloc,
+        &registry,
+        "# TYPE my_counter_bytes counter\n# HELP my_counter_bytes H\n\
+         # UNIT my_counter_bytes bytes\nmy_counter_bytes_total 100\n# EOF\n",
+    )
 }
 
 // A registry with this metric.

@@ -26,6 +26,23 @@ fn full(alloc: Global, value: Fixed) -> Result<HistogramSnapshot, MetricError> {
     Ok(all)
 }
 
+// Whether a full snapshot refuses another for its bounds, though their counts don't fit together either.
+fn bounds_come_first(all: &mut HistogramSnapshot, other: &HistogramSnapshot) -> bool {
+    all.merge(other) == Err(MetricError::UnequalBounds)
+}
+
+#[test]
+fn other_bounds_before_full_counts(rt: HostRuntime) -> Result<(), Fail> {
+    let alloc = rt.alloc();
+    let mut all = full(alloc, whole(1))?;
+    let before = all.clone()?;
+    let mut other = HistogramSnapshot::new(alloc, [].iter().copied())?;
+    other.observe(whole(1))?;
+    assert!(rt; bounds_come_first(&mut all, &other));
+    assert!(rt; are_same(&all, &before));
+    Ok(())
+}
+
 // Whether a full snapshot refuses a value and a merge, and takes a negative value, which it does not count.
 fn counts_no_more(all: &mut HistogramSnapshot, one: &HistogramSnapshot) -> bool {
     all.observe(whole(1)) == Err(MetricError::CountFull)

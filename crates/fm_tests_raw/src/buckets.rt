@@ -112,6 +112,8 @@ fn refused_steps_between(rt: HostRuntime) {
         (1, 26, 4, BucketError::NoWholeFactor),
         (4, 2, 2, BucketError::NoWholeFactor),
         (1, -1, 2, BucketError::NoWholeFactor),
+        (0, 5, 2, BucketError::NonPositiveStart),
+        (-1, 5, 2, BucketError::NonPositiveStart),
         (ONE, 5 * ONE, 3, BucketError::NoWholeFactor),
         (ONE, ONE, 0, BucketError::ZeroCount),
         (0, ONE, 0, BucketError::NonPositiveStart),

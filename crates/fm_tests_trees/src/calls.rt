@@ -6,7 +6,7 @@ use crate::boxed::{calls_at, root, six_calls};
 use fastmetrics::registry::{Registry, RegistryCall, RegistryError};
 use fm_test_support::support::expect_document_of;
 use fm_test_support::trees::{
-    build_below, expect_refused, gauge, have_numbers, refuses, register_below,
+    build_below, expect_refused, gauge, have_numbers, refuses, register_below, subsystem_at,
 };
 use std::alloc::{AllocError, Global};
 use std::test::Fail;
@@ -97,4 +97,22 @@ fn first_missing_name(rt: HostRuntime) -> Result<(), Fail> {
         &registry,
         "# TYPE a_b_up gauge\n# HELP a_b_up H\na_b_up 1\n# EOF\n",
     )
+}
+
+// Calls that make a subsystem at a path that is not there, where its name, its label or both don't fit.
+fn bad_calls_at_no_path(alloc: Global) -> Result<Vec<RegistryCall>, AllocError> {
+    let mut calls = Vec::new(alloc);
+    for (name, label) in [("1a", "1x"), ("1a", "k"), ("b", "1x")] {
+        calls.push(subsystem_at(alloc, &["gone"], name, &[(label, "v")])?)?;
+    }
+    Ok(calls)
+}
+
+#[test]
+fn missing_paths_before_names_and_labels(rt: HostRuntime) -> Result<(), Fail> {
+    let alloc = rt.alloc();
+    let mut registry = Registry::default();
+    let answers = registry.run(alloc, bad_calls_at_no_path(alloc)?)?;
+    assert!(rt; all_refused(&answers, &[(0, 10, "gone"), (1, 10, "gone"), (2, 10, "gone")]));
+    Ok(())
 }

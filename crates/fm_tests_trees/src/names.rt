@@ -85,6 +85,9 @@ fn metrics_and_subsystems(rt: HostRuntime) -> Result<(), Fail> {
         ([Made::Child("a"), Made::Gauge("a_b")], 12, "a_b"),
         ([Made::Gauge("a"), Made::Child("a")], 0, ""),
         ([Made::Gauge("ab"), Made::Child("a")], 0, ""),
+        ([Made::Child("a_c"), Made::Gauge("a_c_D")], 1, "a_c_D"),
+        ([Made::Child("a_c"), Made::Gauge("a_c_")], 1, "a_c_"),
+        ([Made::Child("a_b"), Made::Child("a_b_")], 7, "a_b_"),
     ] {
         expect_second(rt.alloc(), both, number, text)?;
     }
