@@ -4,10 +4,12 @@ ghost use Rattle.fm_registry.specs.HasHistory.{HasHistory};
 use crate::support::{One, UpAndDown, document};
 use fastmetrics::encoder::EncodeMetric;
 use fastmetrics::metrics::gauge::ConstGauge;
+use fastmetrics::raw::MetricType;
 use fastmetrics::registry::{
     GlobalRegistry, Registry, RegistryError, register, register_global, register_metric,
     with_global_registry_mut,
 };
+use fm_test_support::liars::Fickle;
 use fm_test_support::support::expect_text;
 use std::test::Fail;
 
@@ -66,5 +68,19 @@ fn metrics_go_on_after_those_of_others(rt: HostRuntime) -> Result<(), Fail> {
         document(&rt, alloc, &global)?.as_str(),
         "# TYPE g gauge\n# HELP g H\ng 7\n# TYPE up gauge\n# HELP up H\nup 1\n\
          # TYPE down gauge\n# HELP down H\ndown -1\n# TYPE h gauge\n# HELP h H\nh 8\n# EOF\n",
+    )
+}
+
+#[test]
+fn a_type_is_read_once(rt: HostRuntime) -> Result<(), Fail> {
+    let alloc = rt.alloc();
+    let global: GlobalRegistry = GlobalRegistry::new();
+    let (name, help) = (String::from_str(alloc, "g")?, String::from_str(alloc, "H")?);
+    let fickle = Fickle::new(MetricType::Gauge, MetricType::Counter);
+    let metric: Box<dyn EncodeMetric> = Box::new(alloc, fickle)?;
+    register_metric(&rt, alloc, &global, name, help, None, metric)?;
+    expect_text(
+        document(&rt, alloc, &global)?.as_str(),
+        "# TYPE g gauge\n# HELP g H\ng 5\n# EOF\n",
     )
 }
