@@ -12,6 +12,8 @@ mod paths;
 #[cfg(test)]
 mod refused;
 #[cfg(test)]
+mod refused_paths;
+#[cfg(test)]
 mod single;
 #[cfg(test)]
 mod subsystems;
