@@ -1,10 +1,11 @@
 #!/usr/bin/env python3
-"""Prints what the clauses of `text::encode` reach: each file of definitions with its lines, and their sum.
+"""Prints what the clauses of `text::encode` reach: each file of definitions with its lines, and their sum; and then what the metrics of the
+library declare, which these clauses take from them: the ghost members of each impl of an `Encode` trait and of a histogram's sign, and the definitions that only these reach.
 
-    scripts/definitions.py [--names] [--most N]
+    scripts/definitions.py [--names] [--most N] [--most-declared N]
 
 Lines are counted without comments, imports and blank lines, and only those of definitions that are reached. It fails where there are
-more than N (default 600), or where a definition of an `inside` folder is reached.
+more than N (600 and 500 without an argument), or where the clauses of `encode` reach a definition of an `inside` folder.
 """
 import re
 import sys
@@ -178,8 +179,52 @@ def starts():
     return [f for f in found if not f[0].startswith("std.")]
 
 
+IMPL = re.compile(r"^impl[^{;]*?\b(Encode\w+|Sign)\b[^{;]*? for [^{;]*\{$", re.M)
+GHOST = re.compile(r"^    ghost (?!use )[\s\S]*?;$", re.M)
+
+
+def declared():
+    """The lines of ghost members of impls of `Encode` traits, by file, and the definitions that they name."""
+    lines, names = {}, []
+    for path in sorted(TOP.glob("crates/fm_*/src/**/*.rt")):
+        if "/fm_test" in str(path):
+            continue
+        text = path.read_text()
+        for found in IMPL.finditer(text):
+            block = text[found.end() : text.index("\n}\n", found.end())]
+            imports = imports_of_source(text[: found.start()].split("\nimpl")[0]) | imports_of_source(block)
+            for ghost in GHOST.finditer(block):
+                here = [l for l in ghost.group().split("\n") if l.strip() and not l.strip().startswith("//")]
+                lines[path] = lines.get(path, 0) + len(here)
+                names += [imports[w] for w in set(words_of(here)) if w in imports]
+    return lines, [n for n in names if not n[0].startswith("std.")]
+
+
+def print_declared(headline, most):
+    """Prints the second list, and returns whether it is within its limit."""
+    lines, names = declared()
+    print("what the metrics of the library declare:")
+    for path in sorted(lines, key=lambda p: -lines[p]):
+        print(f"{lines[path]:5} {path.relative_to(TOP)}")
+    more = reach(names) - headline
+    files = {name for name, _ in more}
+    inner = sum(len(module(name).definitions[word]) for name, word in more)
+    total = sum(lines.values()) + inner
+    print(f"{inner:5} of {len(more)} definitions more in {len(files)} files")
+    if "--names" in sys.argv:
+        print("      " + " ".join(sorted(f"{name}.{word}" for name, word in more)))
+    print(f"{total:5} lines in all that are declared")
+    if total > most:
+        print(f"more than {most} lines are declared", file=sys.stderr)
+    return total <= most
+
+
+def limit(flag, default):
+    return int(sys.argv[sys.argv.index(flag) + 1]) if flag in sys.argv else default
+
+
 def main():
-    most = int(sys.argv[sys.argv.index("--most") + 1]) if "--most" in sys.argv else 600
+    most = limit("--most", 600)
     found = reach(starts())
     by_file = {}
     for name, word in found:
@@ -200,7 +245,8 @@ def main():
         print(f"reached, and yet inside: {path}", file=sys.stderr)
     if total > most:
         print(f"more than {most} lines", file=sys.stderr)
-    sys.exit(1 if wrong or total > most else 0)
+    is_declared = print_declared(found, limit("--most-declared", 500))
+    sys.exit(1 if wrong or total > most or not is_declared else 0)
 
 
 if __name__ == "__main__":
