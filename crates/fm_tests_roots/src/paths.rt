@@ -61,15 +61,12 @@ fn are_added(
 #[test]
 fn metrics_at_paths(rt: HostRuntime) -> Result<(), Fail> {
     let alloc = rt.alloc();
+    let (a, b, c) = (one(alloc)?, one(alloc)?, one(alloc)?);
     let mut registry = Registry::default();
-    let label = [("port", "80")];
-    assert!(rt; number_of(add_subsystem_at(alloc, &mut registry, &[], "http", &label)) == 0);
-    let rows: [(&[&str], &str, u8); 3] = [
-        (&[], "a", 0),
-        (&["http"], "b", 0),
-        (&["http", "v1"], "c", 0),
-    ];
-    assert!(rt; are_added(alloc, &mut registry, &rows)?);
+    add_subsystem_at(alloc, &mut registry, &[], "http", &[("port", "80")])?;
+    add_at(alloc, &mut registry, &[], "a", "H", a)?;
+    add_at(alloc, &mut registry, &["http"], "b", "H", b)?;
+    add_at(alloc, &mut registry, &["http", "v1"], "c", "H", c)?;
     expect_document_of(alloc, &registry, TREE)
 }
 
