@@ -102,7 +102,10 @@ fn registering_all_of_its_own_decides(rt: HostRuntime) -> Result<(), Fail> {
 fn a_refused_registration_decides(rt: HostRuntime) -> Result<(), Fail> {
     let alloc = rt.alloc();
     let global: GlobalRegistry = GlobalRegistry::new();
-    let (name, help) = (String::from_str(alloc, "no name")?, String::from_str(alloc, "H")?);
+    let (name, help) = (
+        String::from_str(alloc, "no name")?,
+        String::from_str(alloc, "H")?,
+    );
     let metric: Box<dyn EncodeMetric> = Box::new(alloc, ConstGauge::new(7i64))?;
     assert!(rt; register_metric(&rt, alloc, &global, name, help, None, metric).is_err());
     expect_decided(&rt, alloc, &global, "# EOF\n")

@@ -113,6 +113,11 @@ fn missing_paths_before_names_and_labels(rt: HostRuntime) -> Result<(), Fail> {
     let alloc = rt.alloc();
     let mut registry = Registry::default();
     let answers = registry.run(alloc, bad_calls_at_no_path(alloc)?)?;
-    assert!(rt; all_refused(&answers, &[(0, 10, "gone"), (1, 10, "gone"), (2, 10, "gone")]));
+    assert!(rt;
+        all_refused(
+            &answers,
+            &[(0, 10, "gone"), (1, 10, "gone"), (2, 10, "gone")]
+        )
+    );
     Ok(())
 }
