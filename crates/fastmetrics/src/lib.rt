@@ -7,6 +7,7 @@
 //! - [`format`]: `format::text::encode` writes a registry's document, and `format::text::read` reads one back.
 //! - [`encoder`]: what metrics, points and labels of your own implement.
 //! - [`raw`]: numbers, units and metadata.
+//! - [`laws`]: theorems that a program has where it calls them.
 #![tactic(auto)]
 
 pub mod encoder {
@@ -14,10 +15,10 @@ pub mod encoder {
     pub use fm_core::encoder::{
         CounterValueEncoder, EncodeCounterValue, EncodeError, EncodeExemplar, EncodeGaugeValue,
         EncodeLabel, EncodeLabelName, EncodeLabelSet, EncodeLabelValue, EncodeMetric, EncodePoint,
-        EncodeUnknownValue, ExemplarEncoder, GaugeValueEncoder, KeptLabels, LabelEncoder,
-        LabelSetEncoder, LabelSlice, LabelStr, LabeledExemplar, MetricEncoder, MetricFamilyEncoder,
-        PointEncoder, StaticStr, UnknownValueEncoder, exemplar, label, label_set, label_value,
-        metric, point, value,
+        EncodeUnknownValue, ExemplarEncoder, GaugeValueEncoder, LabelEncoder, LabelSetEncoder,
+        LabelSlice, LabelStr, LabeledExemplar, MetricEncoder, MetricFamilyEncoder, PointEncoder,
+        StaticStr, UnknownValueEncoder, exemplar, label, label_set, label_value, metric, point,
+        value,
     };
     pub use fm_own::{LabelValue, encode_labels};
 }
@@ -32,6 +33,18 @@ pub mod format {
         };
         pub use fm_reader::{ReadError, read};
     }
+}
+
+pub mod laws {
+    //! Laws: functions that do nothing and whose contracts are theorems. A function has a theorem where it calls its law.
+    pub use fm_bucket::bound::bounds_are_ordered;
+    pub use fm_encoder::counts_add_up;
+    pub use fm_grammar::unique_readability;
+    pub use fm_histogram::merging_is_lawful;
+    pub use fm_offer_law::clean_is_without_fault;
+    pub use fm_raw::metadata::equal_metadata_hash_alike;
+    pub use fm_raw::numbers_are_ordered;
+    pub use fm_registry_calls::names_are_different;
 }
 
 pub mod metrics {
@@ -74,8 +87,8 @@ pub mod metrics {
         //! Histograms: counts of observed values by bounds.
         pub use fm_bucket::{
             BUCKET_LABEL, Bound, Bucket, BucketError, DEFAULT_BUCKETS, ExponentialBuckets,
-            LinearBuckets, Probe, Steps, default_buckets, exponential_buckets,
-            exponential_buckets_range, find_bucket, linear_buckets,
+            LinearBuckets, Probe, default_buckets, exponential_buckets, exponential_buckets_range,
+            find_bucket, linear_buckets,
         };
         pub use fm_histogram::{Histogram, HistogramSnapshot};
     }
@@ -84,8 +97,8 @@ pub mod metrics {
         //! Gauge histograms: counts of current values by bounds.
         pub use fm_bucket::{
             BUCKET_LABEL, Bound, Bucket, BucketError, DEFAULT_BUCKETS, ExponentialBuckets,
-            LinearBuckets, Probe, Steps, default_buckets, exponential_buckets,
-            exponential_buckets_range, find_bucket, linear_buckets,
+            LinearBuckets, Probe, default_buckets, exponential_buckets, exponential_buckets_range,
+            find_bucket, linear_buckets,
         };
         pub use fm_histogram::{GaugeHistogram, GaugeHistogramSnapshot};
     }
@@ -99,13 +112,22 @@ pub mod metrics {
 pub mod raw {
     //! Numbers, atomic words, units, metadata, the buckets of histograms, and the quantiles of summaries.
     pub use fm_atomic::{Atomic, CounterValue, GaugeValue, UnknownValue, atomic};
-    pub use fm_bucket as bucket;
     pub use fm_bucket::quantile;
     pub use fm_raw::{
         Fixed, FixedBuffer, FixedSum, Metadata, MetricError, MetricType, Number, TryDefault,
         TypedMetric, Unit, error, fixed, is_label_name, is_snake_case, is_unit_text, metadata,
         name, number, types,
     };
+
+    pub mod bucket {
+        //! The buckets of histograms: their bounds, their counts, and the search for the bucket of a value.
+        pub use fm_bucket::{
+            BUCKET_LABEL, Bound, Bucket, BucketError, DEFAULT_BUCKETS, ExponentialBuckets,
+            LinearBuckets, Probe, QUANTILE_LABEL, Quantile, bound, default_buckets, error,
+            exponential, exponential_buckets, exponential_buckets_range, find_bucket, linear,
+            linear_buckets, quantile,
+        };
+    }
 }
 
 pub mod registry {

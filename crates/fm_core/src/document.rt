@@ -20,7 +20,7 @@ ghost use Rattle.fm_core.specs.inside.Documents.{heading_rows, text_in, HasLines
 
 use crate::family::{join_name, text_of};
 use fm_encode_error::EncodeError;
-use fm_encoder::{EncodeMetric, MetricEncoder, whole_millis};
+use fm_encoder::{EncodeMetric, MetricEncoder, collector, whole_millis};
 use fm_exposition::write_text;
 use fm_raw::Metadata;
 use fm_registry::{ListedMetric, Registry};
@@ -54,7 +54,8 @@ fn begin_family(
 {
     let unit = text_of(metadata.unit());
     join_name(name, namespace, metadata.name(), unit)?;
-    encoder.begin_family(
+    collector::begin_family(
+        encoder,
         alloc,
         name,
         metadata.metric_type(),
@@ -93,7 +94,7 @@ fn add_family<M: EncodeMetric>(
     let time = whole_millis(metric.timestamp());
     begin_family(alloc, encoder, name, namespace, constants, metadata, time)?;
     let visited = metric.encode(encoder);
-    encoder.outcome(visited)
+    collector::outcome(encoder, visited)
 }
 
 // Appends the lines of a listed metric's family, unless the metric is empty, or returns the first refusal.
@@ -129,7 +130,7 @@ fn ended_lines(encoder: MetricEncoder) -> Result<Lines, AllocError>
     requires { HasLines encoder }
     ensures { IfOk result (λ lines. lines.text ≡ text_in encoder.output ++ codes "# EOF\n") }
 {
-    let (_, sink) = encoder.into_parts();
+    let (_, sink) = collector::into_parts(encoder);
     match sink.into_lines() {
         Some(mut lines) => {
             lines.append(b"# EOF\n")?;
@@ -157,7 +158,7 @@ pub(crate) fn document_lines<M: EncodeMetric>(
     let Ok(list) = registry.listing(alloc) else {
         return Err(EncodeError::Memory);
     };
-    let mut encoder = MetricEncoder::for_lines(alloc)?;
+    let mut encoder = collector::for_lines(alloc)?;
     let mut name = String::new(alloc);
     for listed in &list {
         add_listed(alloc, &mut encoder, &mut name, listed)?;

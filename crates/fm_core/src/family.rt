@@ -18,7 +18,7 @@ ghost use Rattle.fm_core.specs.Families.{next_heading, FaultUnder, EncodesFamily
 ghost use Rattle.fm_core.specs.inside.Offered.{IsFamilyUnder, Offered};
 
 use fm_encode_error::EncodeError;
-use fm_encoder::{EncodeMetric, FirstRefusal, MetricEncoder, whole_millis};
+use fm_encoder::{EncodeMetric, FirstRefusal, collector, whole_millis};
 use fm_exposition::{Exposition, FamilySamples, SampleStore, make};
 use fm_raw::{Metadata, MetricType, Unit};
 use fm_writer::Sink;
@@ -118,10 +118,10 @@ fn offered_by<M: EncodeMetric>(
         metric_type (labels_of constants.now)) }
 {
     let time = whole_millis(metric.timestamp());
-    let mut encoder = MetricEncoder::new(alloc, name, metric_type, constants, time, sink)?;
+    let mut encoder = collector::for_family(alloc, name, metric_type, constants, time, sink)?;
     let visited = metric.encode(&mut encoder);
-    match encoder.outcome(visited) {
-        Ok(()) => Ok(encoder.into_parts()),
+    match collector::outcome(&encoder, visited) {
+        Ok(()) => Ok(collector::into_parts(encoder)),
         Err(error) => Err(error),
     }
 }

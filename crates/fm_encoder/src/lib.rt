@@ -22,10 +22,17 @@ mod names;
 pub mod point;
 pub mod value;
 
+pub mod collector {
+    //! What the collector and families call, and no metric.
+    pub use crate::kept::KeptLabels;
+    pub use crate::metric::collector::{
+        begin_family, encode_kept, for_family, for_lines, into_parts, outcome,
+    };
+}
+
 pub use exemplar::{EncodeExemplar, ExemplarEncoder, LabeledExemplar, whole_millis};
 pub use first_refusal::FirstRefusal;
 pub use fm_encode_error::EncodeError;
-pub use kept::KeptLabels;
 pub use label::{EncodeLabel, EncodeLabelName, EncodeLabelValue, LabelEncoder, LabelSetEncoder};
 pub use label_set::{EncodeLabelSet, LabelSlice};
 pub use label_value::{LabelStr, StaticStr};

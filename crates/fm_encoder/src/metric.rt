@@ -12,13 +12,11 @@ ghost use Rattle.fm_encoder.specs.Points.{Member, UnknownPoint, GaugePoint, Coun
 ghost use Rattle.fm_encoder.specs.Buckets.{slots_of, MaySlotsFault};
 ghost use Rattle.fm_encoder.specs.States.{state_of};
 ghost use Rattle.fm_encoder.specs.Gathered.{IsOutcome, result_of};
-ghost use Rattle.fm_encoder.specs.Kept.{Keeps};
 ghost use Rattle.fm_encoder.specs.Hands.{HandsMembers, MembersOf};
 ghost use Rattle.fm_encoder.specs.Takes.{TakesMembers};
 
 use crate::constants::ConstantLabels;
 use crate::exemplar::EncodeExemplar;
-use crate::kept::KeptLabels;
 use crate::label_set::EncodeLabelSet;
 use crate::point::{EncodePoint, PointEncoder};
 use crate::value::{EncodeCounterValue, EncodeGaugeValue, EncodeUnknownValue};
@@ -26,10 +24,10 @@ use fm_bucket::{Bucket, Quantile};
 use fm_encode_error::EncodeError;
 use fm_grammar::MetricType;
 use fm_raw::fixed::FixedSum;
-use fm_writer::{Lines, Sink};
-use std::alloc::Global;
 use std::marker::Model;
 use std::time::Duration;
+
+pub(crate) mod collector;
 
 /// A metric, which a registry keeps in a box.
 ///
@@ -126,95 +124,6 @@ impl Model for MetricEncoder {
 }
 
 impl MetricEncoder {
-    /// An encoder for the family with this printed name, this type, these constant labels and this timestamp in milliseconds.
-    /// It puts the samples into this sink, which has no common labels yet. It copies the labels, and fails with `Memory` if
-    /// memory runs out. Only the collector makes encoders.
-    pub fn new(
-        alloc: Global,
-        name: String,
-        metric_type: MetricType,
-        constants: &[(String, String)],
-        time: Option<u128>,
-        sink: Sink,
-    ) -> Result<MetricEncoder, EncodeError>
-        requires name { IsSnakeCase (string_bytes name) }
-        requires time { IfSome time AreMillis }
-        requires shared { AreShared [] sink.shared }
-        ensures made { IfOk result (λ encoder. encoder ≡ record {
-          context = record {
-            setting = record { name = string_bytes name; metric_type = metric_type; time = time };
-            constants = labels_of constants.now;
-          };
-          output = sink.output;
-          refused = None;
-        }) }
-        ensures memory { IfErr result (λ e. e ≡ EncodeError.Memory) }
-    {
-        Ok(MetricEncoder {
-            constants: ConstantLabels::new(alloc, metric_type, constants)?,
-            points: PointEncoder::new(alloc, name, metric_type, time, sink),
-        })
-    }
-
-    /// An encoder that appends the lines of families, each of which begins with `begin_family`. Fails with `Memory` if memory
-    /// runs out. It is for the collector.
-    pub fn for_lines(alloc: Global) -> Result<MetricEncoder, EncodeError>
-        ensures made { IfOk result
-            (λ encoder. (encoder.output ≡ OutputText []) × (encoder.refused ≡ None)) }
-        ensures memory { IfErr result (λ e. e ≡ EncodeError.Memory) }
-    {
-        let name = String::from_str(alloc, "unnamed")?;
-        let sink = Sink::lines(alloc, Lines::new(alloc));
-        MetricEncoder::new(alloc, name, MetricType::Unknown, &[], None, sink)
-    }
-
-    /// Goes on to the family with this printed name, this type and these constant labels, and appends the lines that come before
-    /// its samples. The timestamp, in milliseconds, is written on each sample. `name` is swapped with the name of the family
-    /// before. Fails with `Memory` if memory runs out; then that is the encoder's refusal, and the text may end in a part of these
-    /// lines. An encoder that has refused something stays as it is, and returns that refusal. It is for the collector.
-    pub fn begin_family(
-        &mut self,
-        alloc: Global,
-        name: &mut String,
-        metric_type: MetricType,
-        help: &str,
-        unit: Option<&str>,
-        constants: &[(String, String)],
-        time: Option<u128>,
-    ) -> Result<(), EncodeError>
-        requires name { IsSnakeCase (string_bytes name.old) }
-        requires time { IfSome time AreMillis }
-        ensures begun { OnOk result (self.new ≡ record {
-          context = record {
-            setting =
-                record { name = string_bytes name.old; metric_type = metric_type; time = time };
-            constants = labels_of constants.now;
-          };
-          output = with_lines self.old.output (head_rows (record {
-            name = string_bytes name.old;
-            metric_type = metric_type;
-            help = help.now;
-            unit = option_copied unit.entry;
-            samples = [];
-          }));
-          refused = None;
-        }) }
-        ensures kept { (k : EncodeError) → self.old.refused ≡ Some k
-            → (self.new ≡ self.old) × (name.new ≡ name.old) × (result ≡ Err k) }
-        ensures answered { result ≡ result_of self.new.refused }
-        ensures memory { IfErr result
-            (λ e. (e ≡ EncodeError.Memory) ⊎ (self.old.refused ≡ Some e)) }
-    {
-        if let Some(error) = self.points.refusal() {
-            return Err(error);
-        }
-        if let Err(error) = self.constants.begin(alloc, metric_type, constants) {
-            return self.points.refuse(error);
-        }
-        self.points
-            .begin_family(name, metric_type, help, unit, time)
-    }
-
     /// Takes a member: its labels, which are read once, and its point. Errors, in this order: those of the point's type, of the
     /// labels, and of the point's values. An error of the labels' or the point's own becomes `Memory` or `MetricFault`.
     pub fn encode<LS: EncodeLabelSet, P: EncodePoint>(
@@ -227,26 +136,7 @@ impl MetricEncoder {
             (LS.may_fault labels.now ⊎ P.may_fault point.now)
             self.old self.new result }
     {
-        self.encode_kept(None, labels, point)
-    }
-
-    /// Takes a member as `encode` does. If its labels were kept, and the family has no constant labels, the kept labels are copied
-    /// in place of reading them.
-    pub fn encode_kept<LS: EncodeLabelSet, P: EncodePoint>(
-        &mut self,
-        kept: Option<&KeptLabels>,
-        labels: &LS,
-        point: &P,
-    ) -> Result<(), EncodeError>
-        requires kept { IfSome kept (λ k. Keeps (LS.labels labels.now) k.now) }
-        ensures { TakesMembers
-            (MembersOf (LS.labels labels.now) (P.points point.now))
-            (LS.may_fault labels.now ⊎ P.may_fault point.now)
-            self.old self.new result }
-    {
-        self.points.begin_member(&self.constants, kept, labels)?;
-        let visited = point.encode(&mut self.points);
-        self.points.end_points(visited)
+        collector::encode_kept(self, None, labels, point)
     }
 
     /// Takes the point of an unknown metric without member labels, as `PointEncoder::encode_unknown` does.
@@ -373,20 +263,5 @@ impl MetricEncoder {
         ensures { result ≡ self.now.context.setting.time }
     {
         self.points.time()
-    }
-
-    /// The first refusal, after the metric returned `visited`. It is for the collector.
-    pub fn outcome(&self, visited: Result<(), EncodeError>) -> Result<(), EncodeError>
-        ensures { IsOutcome self.now.refused visited result }
-    {
-        self.points.outcome(visited)
-    }
-
-    /// The name of the last family, and the sink. It is for the collector.
-    pub fn into_parts(self) -> (String, Sink)
-        ensures name { string_bytes result.0 ≡ self.context.setting.name }
-        ensures output { result.1.output ≡ self.output }
-    {
-        self.points.into_parts()
     }
 }

@@ -7,7 +7,8 @@ ghost use Rattle.fm_encoder.specs.Hands.{HandsMembers, OffersOf};
 ghost use Rattle.fm_family.specs.Members.{OffersFirst, MayFault};
 
 use fm_encode_error::EncodeError;
-use fm_encoder::{EncodeLabelSet, EncodePoint, KeptLabels, MetricEncoder};
+use fm_encoder::collector::{self, KeptLabels};
+use fm_encoder::{EncodeLabelSet, EncodePoint, MetricEncoder};
 use indexmap::IndexMap;
 use std::alloc::{AllocError, Global};
 use std::hash::{BuildHasher, Hash};
@@ -133,7 +134,7 @@ impl<LS: EncodeLabelSet + Eq + Hash, M: EncodePoint, S: BuildHasher> KeptMembers
             let Some((labels, metric)) = self.members.get_index(place) else {
                 unreachable!()
             };
-            encoder.encode_kept(self.labels[place].as_ref(), labels, metric)?;
+            collector::encode_kept(encoder, self.labels[place].as_ref(), labels, metric)?;
         }
         Ok(())
     }

@@ -1,5 +1,5 @@
 //! A tally with its lock, and the shares through which workers add to it.
-ghost use Rattle.std.specs.Prelude.{◌≡◌, ◌≢◌, ℕ, ◌+◌, ◌≤◌, ◌↔◌, Err, IfOk, IfErr, OnOk, OnErr, All, vec_len, ◌⊎◌};
+ghost use Rattle.std.specs.Prelude.{◌≡◌, ◌≢◌, ℕ, ◌+◌, ◌^◌, ◌≤◌, ◌↔◌, Err, IfOk, IfErr, OnOk, OnErr, All, vec_len, ◌⊎◌};
 ghost use Rattle.fm_tally.specs.Shares.{Counted, total_of, unused};
 
 use crate::book::Book;
@@ -66,6 +66,7 @@ impl<K: TallyKey> Kept<K> {
         ensures amount { OnOk result (share.new.amount ≡ share.old.amount + v) }
         ensures seen { share.new.seen ≡ share.old.seen }
         ensures kept { OnErr result ((share.new ≡ share.old) × (self.new.book ≡ self.old.book)) }
+        ensures full { OnErr result (2 ^ 64 ≤ self.old.book + v) }
         ensures only_full { IfErr result (λ e. e ≡ TallyError.Full) }
     {
         let Kept { book, account, .. } = self;
@@ -80,6 +81,7 @@ impl<K: TallyKey> Kept<K> {
         ensures own { share.old.amount ≤ result }
         ensures before { share.old.seen ≤ result }
         ensures book { self.old.book ≤ result }
+        ensures greater { (result ≡ self.old.book) ⊎ (result ≡ share.old.seen) }
         ensures seen { share.new.seen ≡ result }
         ensures amount { share.new.amount ≡ share.old.amount }
         ensures kept { self.new.book ≡ self.old.book }

@@ -1,0 +1,149 @@
+//! What the collector and families call, and no metric: encoders are made, told the next family, and taken apart.
+ghost use Rattle.std.specs.Prelude.{◌≡◌, [], ◌⊎◌, None, Some, IfSome, OnOk, IfOk, IfErr, Err, string_bytes};
+ghost use Rattle.std.specs.Option.{option_copied};
+ghost use Rattle.fm_grammar.specs.Names.{IsSnakeCase};
+ghost use Rattle.fm_grammar.specs.WellFormed.{AreMillis};
+ghost use Rattle.fm_encode_error.specs.declared.EncodeError.{EncodeError};
+ghost use Rattle.fm_exposition.specs.Rows.{head_rows};
+ghost use Rattle.fm_exposition.specs.Samples.{labels_of};
+ghost use Rattle.fm_writer.specs.Output.{AreShared, OutputText, with_lines};
+ghost use Rattle.fm_encoder.specs.Gathered.{IsOutcome, result_of};
+ghost use Rattle.fm_encoder.specs.Kept.{Keeps};
+ghost use Rattle.fm_encoder.specs.Hands.{MembersOf};
+ghost use Rattle.fm_encoder.specs.Takes.{TakesMembers};
+
+use crate::constants::ConstantLabels;
+use crate::kept::KeptLabels;
+use crate::label_set::EncodeLabelSet;
+use crate::metric::MetricEncoder;
+use crate::point::{EncodePoint, PointEncoder};
+use fm_encode_error::EncodeError;
+use fm_grammar::MetricType;
+use fm_writer::{Lines, Sink};
+use std::alloc::Global;
+
+/// An encoder for the family with this printed name, this type, these constant labels and this timestamp in milliseconds.
+/// It puts the samples into this sink, which has no common labels yet. It copies the labels, and fails with `Memory` if
+/// memory runs out.
+pub fn for_family(
+    alloc: Global,
+    name: String,
+    metric_type: MetricType,
+    constants: &[(String, String)],
+    time: Option<u128>,
+    sink: Sink,
+) -> Result<MetricEncoder, EncodeError>
+    requires name { IsSnakeCase (string_bytes name) }
+    requires time { IfSome time AreMillis }
+    requires shared { AreShared [] sink.shared }
+    ensures made { IfOk result (λ encoder. encoder ≡ record {
+      context = record {
+        setting = record { name = string_bytes name; metric_type = metric_type; time = time };
+        constants = labels_of constants.now;
+      };
+      output = sink.output;
+      refused = None;
+    }) }
+    ensures memory { IfErr result (λ e. e ≡ EncodeError.Memory) }
+{
+    Ok(MetricEncoder {
+        constants: ConstantLabels::new(alloc, metric_type, constants)?,
+        points: PointEncoder::new(alloc, name, metric_type, time, sink),
+    })
+}
+
+/// An encoder that appends the lines of families, each of which begins with `begin_family`. Fails with `Memory` if memory
+/// runs out.
+pub fn for_lines(alloc: Global) -> Result<MetricEncoder, EncodeError>
+    ensures made { IfOk result
+        (λ encoder. (encoder.output ≡ OutputText []) × (encoder.refused ≡ None)) }
+    ensures memory { IfErr result (λ e. e ≡ EncodeError.Memory) }
+{
+    let name = String::from_str(alloc, "unnamed")?;
+    let sink = Sink::lines(alloc, Lines::new(alloc));
+    for_family(alloc, name, MetricType::Unknown, &[], None, sink)
+}
+
+/// Goes on to the family with this printed name, this type and these constant labels, and appends the lines that come before
+/// its samples. The timestamp, in milliseconds, is written on each sample. `name` is swapped with the name of the family
+/// before. Fails with `Memory` if memory runs out; then that is the encoder's refusal, and the text may end in a part of these
+/// lines. An encoder that has refused something stays as it is, and returns that refusal.
+pub fn begin_family(
+    encoder: &mut MetricEncoder,
+    alloc: Global,
+    name: &mut String,
+    metric_type: MetricType,
+    help: &str,
+    unit: Option<&str>,
+    constants: &[(String, String)],
+    time: Option<u128>,
+) -> Result<(), EncodeError>
+    requires name { IsSnakeCase (string_bytes name.old) }
+    requires time { IfSome time AreMillis }
+    ensures begun { OnOk result (encoder.new ≡ record {
+      context = record {
+        setting =
+            record { name = string_bytes name.old; metric_type = metric_type; time = time };
+        constants = labels_of constants.now;
+      };
+      output = with_lines encoder.old.output (head_rows (record {
+        name = string_bytes name.old;
+        metric_type = metric_type;
+        help = help.now;
+        unit = option_copied unit.entry;
+        samples = [];
+      }));
+      refused = None;
+    }) }
+    ensures kept { (k : EncodeError) → encoder.old.refused ≡ Some k
+        → (encoder.new ≡ encoder.old) × (name.new ≡ name.old) × (result ≡ Err k) }
+    ensures answered { result ≡ result_of encoder.new.refused }
+    ensures memory { IfErr result
+        (λ e. (e ≡ EncodeError.Memory) ⊎ (encoder.old.refused ≡ Some e)) }
+{
+    if let Some(error) = encoder.points.refusal() {
+        return Err(error);
+    }
+    if let Err(error) = encoder.constants.begin(alloc, metric_type, constants) {
+        return encoder.points.refuse(error);
+    }
+    encoder
+        .points
+        .begin_family(name, metric_type, help, unit, time)
+}
+
+/// Takes a member as `MetricEncoder::encode` does. If its labels were kept, and the family has no constant labels, the kept labels are copied
+/// in place of reading them.
+pub fn encode_kept<LS: EncodeLabelSet, P: EncodePoint>(
+    encoder: &mut MetricEncoder,
+    kept: Option<&KeptLabels>,
+    labels: &LS,
+    point: &P,
+) -> Result<(), EncodeError>
+    requires kept { IfSome kept (λ k. Keeps (LS.labels labels.now) k.now) }
+    ensures { TakesMembers
+        (MembersOf (LS.labels labels.now) (P.points point.now))
+        (LS.may_fault labels.now ⊎ P.may_fault point.now)
+        encoder.old encoder.new result }
+{
+    encoder
+        .points
+        .begin_member(&encoder.constants, kept, labels)?;
+    let visited = point.encode(&mut encoder.points);
+    encoder.points.end_points(visited)
+}
+
+/// The first refusal, after the metric returned `visited`.
+pub fn outcome(encoder: &MetricEncoder, visited: Result<(), EncodeError>) -> Result<(), EncodeError>
+    ensures { IsOutcome encoder.now.refused visited result }
+{
+    encoder.points.outcome(visited)
+}
+
+/// The name of the last family, and the sink.
+pub fn into_parts(encoder: MetricEncoder) -> (String, Sink)
+    ensures name { string_bytes result.0 ≡ encoder.context.setting.name }
+    ensures output { result.1.output ≡ encoder.output }
+{
+    encoder.points.into_parts()
+}
