@@ -1,4 +1,4 @@
-//! Tests of what calls of metrics and families return: clones, threads, keys, members, and what `Debug` shows.
+//! Tests of what calls of metrics and families return: clones, threads, keys, laws, members, and what `Debug` shows.
 #![tactic(auto)]
 
 #[cfg(test)]
@@ -7,6 +7,8 @@ mod clones;
 mod handles;
 #[cfg(test)]
 mod keys;
+#[cfg(test)]
+mod laws;
 #[cfg(test)]
 mod members;
 #[cfg(test)]
