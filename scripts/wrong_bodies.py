@@ -9,7 +9,8 @@ A crate lists its wrong bodies in must-fail/wrong_bodies.md: below a heading of 
 Many wrong bodies are tried together: one check of a copy of the crate, in which they all stand, says of each function what it can't prove.
 A function is proved from its own body and from the contracts of what it calls; only functions that call one another have one proof. So a wrong body is refused where the
 check names something of its own function: a goal that is not proved, or an error in the function's own proof. Two wrong bodies of one function are
-tried in two checks. One of whose function a check says nothing is tried by itself, and then any refusal counts.
+tried in two checks. One of which a check says only that the function's proof names what is gone shows nothing of the contract: it is NOT SHOWN,
+and fails as one does that is NOT REFUSED. It has to become another body, or one that a test refuses (`scripts/tested_bodies.py`).
 
 The libraries below a crate have to be built, in the crates' out/rlib, as `rt ci` leaves them. With --follow LOG, the output of an `rt ci` that
 still runs, a crate is tried once it is proved there, with all processors but one until the run ends; the libraries are linked into a
@@ -75,7 +76,7 @@ class Function:
             if here and self.first <= int(here[1]) - 1 <= self.last:
                 found.append((0, line))
             elif self.name and re.match(proof, line):
-                found.append((2, f"its proof names what is not there: {line}") if NAMING.search(line) else (1, line))
+                found.append((2 if NAMING.search(line) else 1, line))
         return found
 
 
@@ -162,8 +163,8 @@ class Crate:
         words += ["--antt-project", f"{KIT}/rattle/logic/antt-project.json", "--logic-built", f"{KIT}/logic_built"]
         return [*words, "--links", f"{self.name}=", "--jobs", "1"]
 
-    def checked_with(self, wrongs, crates, run, kept, is_whole=False):
-        """What a check of the functions of these wrong bodies, or of the whole crate, says of a copy in which they stand. What is proved is kept for the next."""
+    def checked_with(self, wrongs, crates, run, kept):
+        """What a check of the functions of these wrong bodies says of a copy in which they stand. What is proved is kept for the next."""
         with tempfile.TemporaryDirectory(prefix="wrong-bodies-") as room:
             for part in ("src", "specs", "proofs"):
                 if os.path.isdir(f"{self.folder}/{part}"):
@@ -171,22 +172,19 @@ class Crate:
             for wrong in wrongs:
                 wrong.stand_in(room)
             paths = {it.path for wrong in wrongs for it in wrong.functions()}
-            only = [word for path in sorted(paths) for word in ("--only", path)] if "" not in paths and not is_whole else []
+            only = [word for path in sorted(paths) for word in ("--only", path)] if "" not in paths else []
             how = {"stdin": subprocess.DEVNULL, "stdout": subprocess.PIPE, "stderr": subprocess.STDOUT, "errors": "replace"}
             return subprocess.run([*self.words(crates, run), "--incremental", kept, *only], cwd=room, **how).stdout
 
     def tried(self, crates, run):
-        """Each of its wrong bodies, with what refuses it, or None."""
+        """Each of its wrong bodies, with the least that is said of it: the kind of what refuses it and its text, or None."""
         answers = []
         with tempfile.TemporaryDirectory(prefix="wrong-bodies-kept-") as kept:
             for batch in self.batches():
                 said = self.checked_with(batch, crates, run, kept)
                 for wrong in batch:
                     named = sorted(it for function in wrong.functions() for it in function.refusals(said)) if is_refusal(said) else []
-                    found = named[0][1] if named else None
-                    if not found and is_refusal(self.checked_with([wrong], crates, run, kept, is_whole=True)):
-                        found = "the crate is not proved with it alone"
-                    answers.append((wrong, found))
+                    answers.append((wrong, named[0] if named else None))
         return answers
 
 
@@ -251,8 +249,9 @@ def work(left, crates, run, waits, lock, counts):
         answers = crate.tried(crates, run) if crate.name in run.proved else [(it, None) for it in listed(crate, "wrong_bodies")]
         with lock:
             for wrong, found in answers:
-                counts[bool(found)] += 1
-                print(f"wrong body of {crate.name}, {wrong.title}: {f'refused, as it must be: {found[:150]}' if found else 'NOT REFUSED'}", flush=True)
+                counts[found is not None and found[0] < 2] += 1
+                verdict = "NOT REFUSED" if found is None else f"{('refused', 'refused', 'NOT SHOWN')[found[0]]}: {found[1][:150]}"
+                print(f"wrong body of {crate.name}, {wrong.title}: {verdict}", flush=True)
 
 
 def main():
