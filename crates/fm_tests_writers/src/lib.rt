@@ -6,4 +6,6 @@ mod lines;
 #[cfg(test)]
 mod sizes;
 #[cfg(test)]
+mod texts;
+#[cfg(test)]
 mod writers;

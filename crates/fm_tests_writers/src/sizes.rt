@@ -1,4 +1,4 @@
-//! Trees and lists of calls of great size, for which there is memory.
+//! Trees and lists of calls of great size, for which there is memory. No contract can say that it isn't refused.
 
 use fastmetrics::encoder::EncodeMetric;
 use fastmetrics::registry::{Registry, RegistryCall};
@@ -40,31 +40,31 @@ fn document_after(alloc: Global, calls: Vec<RegistryCall>) -> Result<String, Fai
     document_of(alloc, &registry)
 }
 
-// Whether a document has two thousand families.
+// Whether a document has seventy thousand families.
 fn has_all_families(document: &str) -> bool {
     document.starts_with("# TYPE g0 gauge\n# HELP g0 H\ng0 0\n")
-        && document.ends_with("# HELP g1999 H\ng1999 1999\n# EOF\n")
-        && document.matches("\n").count() == 3 * 2000 + 1
+        && document.ends_with("# HELP g69999 H\ng69999 69999\n# EOF\n")
+        && document.matches("\n").count() == 3 * 70_000 + 1
 }
 
 #[test]
-fn two_thousand_families(rt: HostRuntime) -> Result<(), Fail> {
+fn seventy_thousand_families(rt: HostRuntime) -> Result<(), Fail> {
     let alloc = rt.alloc();
-    let document = document_after(alloc, gauges(alloc, 2000)?)?;
+    let document = document_after(alloc, gauges(alloc, 70_000)?)?;
     assert!(rt; has_all_families(document.as_str()));
     Ok(())
 }
 
-// Whether a document has the gauges of a hundred registries.
+// Whether a document has the gauges of three hundred registries.
 fn has_all_registries(document: &str) -> bool {
-    document.ends_with("\ns99_up{k=\"v\"} 99\n# EOF\n")
-        && document.matches("\n").count() == 3 * 100 + 1
+    document.ends_with("\ns299_up{k=\"v\"} 299\n# EOF\n")
+        && document.matches("\n").count() == 3 * 300 + 1
 }
 
 #[test]
-fn a_hundred_registries(rt: HostRuntime) -> Result<(), Fail> {
+fn three_hundred_registries(rt: HostRuntime) -> Result<(), Fail> {
     let alloc = rt.alloc();
-    let document = document_after(alloc, subsystems(alloc, 100)?)?;
+    let document = document_after(alloc, subsystems(alloc, 300)?)?;
     assert!(rt; has_all_registries(document.as_str()));
     Ok(())
 }

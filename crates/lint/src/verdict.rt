@@ -2,13 +2,15 @@
 ghost use Rattle.std.specs.Prelude.{◌≡◌, ◌≤◌};
 ghost use Rattle.lint.specs.Documents.{PrintsAgain};
 
+use fm_encode_error::EncodeError;
 use fm_reader::{ReadError, read};
 use fm_writer::encode_exposition;
 use std::alloc::Global;
 use std::io::Write;
 use std::str;
 
-/// Writes a document again and returns 0, or writes to `errors` why it doesn't and returns 1.
+/// Writes a document again and returns 0, or writes to `errors` why it doesn't and returns 1. If `out` fails, it returns 1 and
+/// writes nothing to `errors`.
 pub fn lint<W: Write, E: Write>(alloc: Global, bytes: &[u8], out: &mut W, errors: &mut E) -> u8
     ensures small { result ≤ 1 }
     ensures printed { result ≡ 0 → PrintsAgain (W.contents out.old) (W.contents out.new) bytes.now }
@@ -19,6 +21,7 @@ pub fn lint<W: Write, E: Write>(alloc: Global, bytes: &[u8], out: &mut W, errors
     match read(alloc, text) {
         Ok(exposition) => match encode_exposition(alloc, out, &exposition) {
             Ok(()) => 0,
+            Err(EncodeError::Memory) => refuse(errors, ReadError::Memory),
             Err(_) => 1,
         },
         Err(error) => refuse(errors, error),
