@@ -11,4 +11,6 @@ mod keys;
 mod members;
 #[cfg(test)]
 mod shown;
+#[cfg(test)]
+mod states;
 pub mod support;

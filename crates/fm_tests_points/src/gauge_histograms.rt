@@ -181,3 +181,15 @@ fn beneath_a_subsystem(rt: HostRuntime) -> Result<(), Fail> {
         sub_t_gcount{k=\"v\"} 4\nsub_t_gsum{k=\"v\"} 1.0\n# EOF\n",
     )
 }
+
+#[test]
+fn both_ends_under_the_lock(rt: HostRuntime) -> Result<(), Fail> {
+    let current = GaugeHistogram::new(rt, rt.alloc(), [whole(1)].iter().copied())?;
+    for millionths in [-9223372036854775808, 9223372036854775807, 0] {
+        current.observe(Fixed::from_millionths(millionths))?;
+    }
+    assert!(rt; current.with_snapshot(|all| have_counts(all.buckets(), &[2, 1])));
+    let totals = current.with_snapshot(|all| (all.gcount(), all.gsum()));
+    assert!(rt; totals == (3, FixedSum::from_millionths(-1)));
+    Ok(())
+}

@@ -178,3 +178,15 @@ fn default_histograms(rt: HostRuntime) -> Result<(), Fail> {
     assert!(rt; snapshot.buckets().len() == 12);
     Ok(())
 }
+
+#[test]
+fn both_ends_under_the_lock(rt: HostRuntime) -> Result<(), Fail> {
+    let sizes = Histogram::new(rt, rt.alloc(), [whole(1)].iter().copied())?;
+    for millionths in [-9223372036854775808, 9223372036854775807, 0] {
+        sizes.observe(Fixed::from_millionths(millionths))?;
+    }
+    assert!(rt; sizes.with_snapshot(|all| have_counts(all.buckets(), &[1, 1])));
+    let totals = sizes.with_snapshot(|all| (all.count(), all.sum()));
+    assert!(rt; totals == (2, FixedSum::from_millionths(9223372036854775807)));
+    Ok(())
+}
