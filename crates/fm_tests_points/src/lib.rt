@@ -11,4 +11,6 @@ mod gauge_histograms;
 mod kinds;
 pub mod points;
 #[cfg(test)]
+mod sources;
+#[cfg(test)]
 mod summaries;
