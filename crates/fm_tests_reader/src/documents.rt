@@ -51,3 +51,36 @@ fn worked_documents(rt: HostRuntime) -> Result<(), Fail> {
     }
     Ok(())
 }
+
+// The document of so many gauges.
+fn document_of_gauges(alloc: Global, count: u32) -> Result<String, Fail> {
+    let mut text = String::new(alloc);
+    for number in 0..count {
+        let lines = format!(in alloc; "# TYPE g{number} gauge\n# HELP g{number} H\ng{number} 1\n")?;
+        text.push_str(lines.as_str())?;
+    }
+    text.push_str("# EOF\n")?;
+    Ok(text)
+}
+
+#[test]
+fn three_hundred_families(rt: HostRuntime) -> Result<(), Fail> {
+    let text = document_of_gauges(rt.alloc(), 300)?;
+    expect_written_again(rt.alloc(), text.as_str())
+}
+
+// The document of a gauge whose label has ten times so many bytes.
+fn document_with_a_long_label(alloc: Global, tens: u32) -> Result<String, Fail> {
+    let mut text = String::from_str(alloc, "# TYPE g gauge\n# HELP g H\ng{v=\"")?;
+    for _ in 0..tens {
+        text.push_str("0123456789")?;
+    }
+    text.push_str("\"} 1\n# EOF\n")?;
+    Ok(text)
+}
+
+#[test]
+fn a_hundred_thousand_bytes_in_a_label(rt: HostRuntime) -> Result<(), Fail> {
+    let text = document_with_a_long_label(rt.alloc(), 10_000)?;
+    expect_written_again(rt.alloc(), text.as_str())
+}
