@@ -2,6 +2,8 @@
 #![tactic(auto)]
 
 #[cfg(test)]
+mod direct;
+#[cfg(test)]
 mod exemplars;
 #[cfg(test)]
 mod faults;

@@ -1,12 +1,14 @@
 //! How often a document reads what a metric is made of: each part once.
-ghost use Rattle.std.specs.Prelude.{[], ◌∷◌, pos};
+ghost use Rattle.std.specs.Prelude.{◌≡◌, [], ◌∷◌, pos};
 ghost use Rattle.fm_grammar.specs.Exposition.{Whole};
+ghost use Rattle.fm_encoder.specs.Points.{GaugePoint};
+ghost use Rattle.fm_encoder.specs.Hands.{MembersOf};
 
 use crate::points::{TwoBuckets, TwoGaugeBuckets};
 use fastmetrics::encoder::{
     CounterValueEncoder, EncodeCounterValue, EncodeError, EncodeExemplar, EncodeGaugeValue,
-    EncodeMetric, EncodeUnknownValue, ExemplarEncoder, GaugeValueEncoder, MetricEncoder,
-    UnknownValueEncoder,
+    EncodeLabelSet, EncodeMetric, EncodeUnknownValue, ExemplarEncoder, GaugeValueEncoder,
+    MetricEncoder, UnknownValueEncoder,
 };
 use fastmetrics::metrics::counter::ConstCounter;
 use fastmetrics::metrics::gauge::ConstGauge;
@@ -14,7 +16,7 @@ use fastmetrics::raw::bucket::{Bound, Bucket};
 use fastmetrics::raw::{FixedSum, MetricType};
 use fm_test_support::histograms::whole;
 use fm_test_support::members::OneMember;
-use fm_test_support::parts::UnknownOf;
+use fm_test_support::parts::{UnknownOf, Word};
 use fm_test_support::points::CounterWith;
 use fm_test_support::support::{expect_document, expect_refusal};
 use std::alloc::{AllocError, Global};
@@ -193,27 +195,25 @@ fn the_exemplar_of_a_gauge_bucket(rt: HostRuntime) -> Result<(), Fail> {
     Ok(())
 }
 
-// A gauge that counts how often each call is made, and is refused if `is_refused` is true.
+// A gauge of one member that counts how often each call is made.
 #[derive(Drop)]
-struct Counting {
+struct Counting<LS> {
+    labels: LS,
     types: Reads,
     empties: Reads,
     times: Reads,
     visits: Reads,
-    is_refused: bool,
 }
 
-impl EncodeMetric for Counting {
-    ghost offers = { λ _ _ _. Unit {0} };
+impl<LS: EncodeLabelSet + Send + Sync + Drop> EncodeMetric for Counting<LS> {
+    ghost offers = { λ m _ ms.
+        MembersOf (LS.labels m.labels) (λ ps. ps ≡ GaugePoint (Whole (pos 5) ∷ []) ∷ []) ms };
 
-    ghost may_fault = { λ _. Unit {0} };
+    ghost may_fault = { λ m. LS.may_fault m.labels };
 
     fn encode(&self, encoder: &mut MetricEncoder) -> Result<(), EncodeError> {
         self.visits.count();
-        if self.is_refused {
-            return Err(EncodeError::MetricFault);
-        }
-        encoder.encode(&(), &ConstGauge::new(5i64))
+        encoder.encode(&self.labels, &ConstGauge::new(5i64))
     }
 
     fn metric_type(&self) -> MetricType {
@@ -232,48 +232,62 @@ impl EncodeMetric for Counting {
     }
 }
 
-// Such a gauge, and what it counts: of its emptiness, its timestamp, its visits and its type.
-fn counting(alloc: Global, is_refused: bool) -> Result<(Counting, [Reads; 4]), AllocError> {
-    let types = Reads::new(alloc)?;
-    let empties = Reads::new(alloc)?;
-    let times = Reads::new(alloc)?;
-    let visits = Reads::new(alloc)?;
-    let metric = Counting {
-        types: types.share()?,
-        empties: empties.share()?,
-        times: times.share()?,
-        visits: visits.share()?,
-        is_refused,
-    };
-    Ok((metric, [empties, times, visits, types]))
+// What such a gauge counts: the calls that ask for its type, for its emptiness and for its timestamp, and its visits.
+#[derive(Drop)]
+struct Calls {
+    types: Reads,
+    empties: Reads,
+    times: Reads,
+    visits: Reads,
 }
 
-// Whether each part was read once in each of two encodings, and the type once, at the registration.
-fn are_read_once(reads: &[Reads; 4]) -> bool {
-    let [empties, times, visits, types] = reads;
-    empties.is_one_in_each_encoding()
-        && times.is_one_in_each_encoding()
-        && visits.is_one_in_each_encoding()
-        && types.0.load(Ordering::SeqCst) == 1
+impl Calls {
+    fn new(alloc: Global) -> Result<Calls, AllocError> {
+        Ok(Calls {
+            types: Reads::new(alloc)?,
+            empties: Reads::new(alloc)?,
+            times: Reads::new(alloc)?,
+            visits: Reads::new(alloc)?,
+        })
+    }
+
+    // Whether there was one of each in each of two encodings, and one for the type, at the registration.
+    fn are_made_once(&self) -> bool {
+        self.types.0.load(Ordering::SeqCst) == 1
+            && self.empties.is_one_in_each_encoding()
+            && self.times.is_one_in_each_encoding()
+            && self.visits.is_one_in_each_encoding()
+    }
+}
+
+// A gauge with these labels, which counts there.
+fn counting<LS: Drop>(calls: &Calls, labels: LS) -> Result<Counting<LS>, AllocError> {
+    Ok(Counting {
+        labels,
+        types: calls.types.share()?,
+        empties: calls.empties.share()?,
+        times: calls.times.share()?,
+        visits: calls.visits.share()?,
+    })
 }
 
 #[test]
 fn the_calls_of_a_metric(rt: HostRuntime) -> Result<(), Fail> {
     let alloc = rt.alloc();
-    let (metric, reads) = counting(alloc, false)?;
-    let metric = Box::new(alloc, metric)?;
+    let calls = Calls::new(alloc)?;
+    let metric = Box::new(alloc, counting(&calls, ())?)?;
     let want = "# TYPE t gauge\n# HELP t H\nt 5\n# EOF\n";
     expect_document(alloc, "t", None, metric, want)?;
-    assert!(rt; are_read_once(&reads));
+    assert!(rt; calls.are_made_once());
     Ok(())
 }
 
 #[test]
 fn the_calls_of_a_metric_that_is_refused(rt: HostRuntime) -> Result<(), Fail> {
     let alloc = rt.alloc();
-    let (metric, reads) = counting(alloc, true)?;
-    let metric = Box::new(alloc, metric)?;
-    expect_refusal(alloc, metric, EncodeError::MetricFault)?;
-    assert!(rt; are_read_once(&reads));
+    let calls = Calls::new(alloc)?;
+    let metric = Box::new(alloc, counting(&calls, [(Word("1a"), 1)])?)?;
+    expect_refusal(alloc, metric, EncodeError::InvalidLabelName)?;
+    assert!(rt; calls.are_made_once());
     Ok(())
 }
