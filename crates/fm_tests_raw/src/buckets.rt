@@ -117,6 +117,8 @@ fn refused_steps_between(rt: HostRuntime) {
         (ONE, 5 * ONE, 3, BucketError::NoWholeFactor),
         (ONE, ONE, 0, BucketError::ZeroCount),
         (0, ONE, 0, BucketError::NonPositiveStart),
+        (0, ONE, 2, BucketError::NonPositiveStart),
+        (0, 0, 3, BucketError::NonPositiveStart),
     ] {
         let bounds = exponential_buckets_range(fixed(min), fixed(max), count);
         assert!(rt; bounds.err() == Some(error), "{max}");

@@ -190,3 +190,13 @@ fn both_ends_under_the_lock(rt: HostRuntime) -> Result<(), Fail> {
     assert!(rt; totals == (2, FixedSum::from_millionths(9223372036854775807)));
     Ok(())
 }
+
+#[test]
+fn other_bounds_before_a_full_count(rt: HostRuntime) -> Result<(), Fail> {
+    let mut all = observed(rt.alloc(), &[], &[1])?;
+    double(&mut all)?;
+    let mut other = observed(rt.alloc(), &[whole(1)], &[1])?;
+    double(&mut other)?;
+    assert!(rt; is_not_merged(&mut all, &other, MetricError::UnequalBounds, 1 << 63));
+    Ok(())
+}

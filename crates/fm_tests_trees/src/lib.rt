@@ -7,6 +7,8 @@ mod boxed;
 #[cfg(test)]
 mod calls;
 #[cfg(test)]
+mod deep;
+#[cfg(test)]
 mod names;
 #[cfg(test)]
 mod trees;
