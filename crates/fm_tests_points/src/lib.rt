@@ -11,6 +11,8 @@ mod faults;
 mod gauge_histograms;
 #[cfg(test)]
 mod kinds;
+#[cfg(test)]
+mod own_labels;
 pub mod points;
 #[cfg(test)]
 mod sources;
