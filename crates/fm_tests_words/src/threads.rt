@@ -41,40 +41,38 @@ fn no_step_is_lost(rt: HostRuntime) {
     assert!(rt; counts_all::<Fixed, AtomicI64, _>(&rt, two_millions));
 }
 
-// Raises an atomic a million times, from the first number on by two each time. Whether it was never below what it was raised to.
-fn never_falls<N: Number, W: Atomic<N>>(word: &W, first: N, two: N) -> bool {
-    let next = W::default();
-    next.set(first);
+// Raises an atomic a million times, to the next number each time. Whether it was never below what it was raised to.
+fn never_falls<N: Number, W: Atomic<N>>(word: &W, next: &W) -> bool {
     let mut is_above = true;
     for _ in 0..1_000_000u32 {
-        let v = next.inc_by(two);
+        let v = next.inc();
         word.raise(v);
         is_above = is_above && word.get() >= v;
     }
     is_above
 }
 
-// Whether no raise of two threads takes back one of the other, from zero and from one on.
-fn keeps_the_greatest<N: Number, W: Atomic<N>, R: Threads>(rt: &R, two: N) -> bool {
+// Whether no raise of two threads, which take the next number by turns, takes back one of the other.
+fn keeps_the_greatest<N: Number, W: Atomic<N>, R: Threads>(rt: &R) -> bool {
     let word = W::default();
-    let (even, odd) = thread::join(
+    let next = W::default();
+    let (first, second) = thread::join(
         rt,
-        || never_falls::<N, W>(&word, N::ZERO, two),
-        || never_falls::<N, W>(&word, N::ONE, two),
+        || never_falls::<N, W>(&word, &next),
+        || never_falls::<N, W>(&word, &next),
     );
-    even && odd
+    first && second
 }
 
 #[test]
 fn no_raise_is_lost(rt: HostRuntime) {
-    assert!(rt; keeps_the_greatest::<i32, AtomicI32, _>(&rt, 2));
-    assert!(rt; keeps_the_greatest::<i64, AtomicI64, _>(&rt, 2));
-    assert!(rt; keeps_the_greatest::<isize, AtomicIsize, _>(&rt, 2));
-    assert!(rt; keeps_the_greatest::<u32, AtomicU32, _>(&rt, 2));
-    assert!(rt; keeps_the_greatest::<u64, AtomicU64, _>(&rt, 2));
-    assert!(rt; keeps_the_greatest::<usize, AtomicUsize, _>(&rt, 2));
-    let two = Fixed::from_millionths(2_000_000);
-    assert!(rt; keeps_the_greatest::<Fixed, AtomicI64, _>(&rt, two));
+    assert!(rt; keeps_the_greatest::<i32, AtomicI32, _>(&rt));
+    assert!(rt; keeps_the_greatest::<i64, AtomicI64, _>(&rt));
+    assert!(rt; keeps_the_greatest::<isize, AtomicIsize, _>(&rt));
+    assert!(rt; keeps_the_greatest::<u32, AtomicU32, _>(&rt));
+    assert!(rt; keeps_the_greatest::<u64, AtomicU64, _>(&rt));
+    assert!(rt; keeps_the_greatest::<usize, AtomicUsize, _>(&rt));
+    assert!(rt; keeps_the_greatest::<Fixed, AtomicI64, _>(&rt));
 }
 
 // Sets an atomic to this number a million times.
