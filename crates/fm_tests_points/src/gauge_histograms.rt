@@ -193,3 +193,21 @@ fn both_ends_under_the_lock(rt: HostRuntime) -> Result<(), Fail> {
     assert!(rt; totals == (3, FixedSum::from_millionths(-1)));
     Ok(())
 }
+
+#[test]
+fn a_hundred_values(rt: HostRuntime) -> Result<(), Fail> {
+    let alloc = rt.alloc();
+    let bounds = [whole(1), whole(2), whole(4), whole(8), whole(16)];
+    let current = GaugeHistogram::new(rt, alloc, bounds.iter().copied())?;
+    for n in 1..101 {
+        current.observe(whole(n))?;
+    }
+    expect_document(
+        alloc,
+        "t",
+        None,
+        Box::new(alloc, current)?,
+        "# TYPE t gaugehistogram\n# HELP t H\nt_bucket{le=\"1.0\"} 1\nt_bucket{le=\"2.0\"} 2\nt_bucket{le=\"4.0\"} 4\n\
+         t_bucket{le=\"8.0\"} 8\nt_bucket{le=\"16.0\"} 16\nt_bucket{le=\"+Inf\"} 100\nt_gcount 100\nt_gsum 5050.0\n# EOF\n",
+    )
+}

@@ -200,3 +200,16 @@ fn other_bounds_before_a_full_count(rt: HostRuntime) -> Result<(), Fail> {
     assert!(rt; is_not_merged(&mut all, &other, MetricError::UnequalBounds, 1 << 63));
     Ok(())
 }
+
+#[test]
+fn values_with_fractions(rt: HostRuntime) -> Result<(), Fail> {
+    let bounds = [whole(1), whole(2), whole(5)];
+    let sizes = Histogram::new(rt, rt.alloc(), bounds.iter().copied())?;
+    for millionths in [1_500_000, 500_000, 3_000_000, 6_000_000] {
+        sizes.observe(Fixed::from_millionths(millionths))?;
+    }
+    assert!(rt; sizes.with_snapshot(|all| have_counts(all.buckets(), &[1, 1, 1, 1])));
+    let totals = sizes.with_snapshot(|all| (all.count(), all.sum()));
+    assert!(rt; totals == (4, FixedSum::from_millionths(11_000_000)));
+    Ok(())
+}

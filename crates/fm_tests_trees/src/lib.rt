@@ -11,4 +11,6 @@ mod deep;
 #[cfg(test)]
 mod names;
 #[cfg(test)]
+mod nested;
+#[cfg(test)]
 mod trees;
