@@ -5,6 +5,7 @@ use fastmetrics::encoder::StaticStr;
 use fastmetrics::metrics::counter::{ConstCounter, Counter};
 use fastmetrics::metrics::family::{DefaultFactory, Family};
 use fastmetrics::metrics::gauge::{ConstGauge, Gauge};
+use fastmetrics::metrics::gauge_histogram::{GaugeHistogram, GaugeHistogramSnapshot};
 use fastmetrics::metrics::histogram::{Histogram, HistogramSnapshot};
 use fastmetrics::metrics::info::Info;
 use fastmetrics::metrics::state_set::{ConstStateSet, StateSet};
@@ -87,6 +88,8 @@ fn types_and_timestamps(rt: HostRuntime) {
         type_and_timestamp::<Unknown<i64>>(),
         type_and_timestamp::<Histogram<HostRuntime>>(),
         type_and_timestamp::<HistogramSnapshot>(),
+        type_and_timestamp::<GaugeHistogram<HostRuntime>>(),
+        type_and_timestamp::<GaugeHistogramSnapshot>(),
         type_and_timestamp::<Stamped>(),
         type_and_timestamp::<Of<Stamped>>(),
         type_and_timestamp::<Of<Counter>>(),
@@ -102,6 +105,8 @@ fn types_and_timestamps(rt: HostRuntime) {
         (MetricType::Unknown, false),
         (MetricType::Histogram, false),
         (MetricType::Histogram, false),
+        (MetricType::GaugeHistogram, false),
+        (MetricType::GaugeHistogram, false),
         (MetricType::Gauge, true),
         (MetricType::Gauge, true),
         (MetricType::Counter, false),

@@ -13,4 +13,6 @@ mod laws;
 mod members;
 #[cfg(test)]
 mod shown;
+#[cfg(test)]
+mod states;
 pub mod support;

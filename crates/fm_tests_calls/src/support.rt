@@ -1,7 +1,9 @@
 //! What the tests share: a set of two states, and metrics of the tests' own.
-ghost use Rattle.std.specs.Prelude.{◌≡◌, [], ◌∷◌, codes};
+ghost use Rattle.std.specs.Prelude.{◌≡◌, [], ◌∷◌, codes, replicate};
 ghost use Rattle.fm_grammar.specs.declared.MetricType.TheVariants.{Gauge};
 ghost use Rattle.fm_tests_calls.specs.declared.support.Job.TheVariants.{Pending, Running};
+ghost use Rattle.fm_tests_calls.specs.declared.support.Light.TheVariants.{Red, Yellow, Green};
+ghost use Rattle.fm_tests_calls.specs.declared.support.Crowd.TheVariants.{Inside};
 
 use fastmetrics::encoder::{EncodeError, EncodeMetric, MetricEncoder};
 use fastmetrics::metrics::state_set::StateSetValue;
@@ -31,6 +33,72 @@ impl StateSetValue for Job {
             Job::Pending => "pending",
             Job::Running => "running",
         }
+    }
+}
+
+/// The colour of a light. Of these, `Blue` is no state.
+#[derive(Clone, Copy, PartialEq, Eq, Debug)]
+pub enum Light {
+    Red,
+    Yellow,
+    Green,
+    Blue,
+}
+
+static LIGHTS: [Light; 3] = [Light::Red, Light::Yellow, Light::Green];
+
+impl StateSetValue for Light {
+    ghost all = { Red ∷ Yellow ∷ Green ∷ [] };
+
+    ghost text = { elim [
+      | Red ↦ codes "red"
+      | Yellow ↦ codes "yellow"
+      | Green ↦ codes "green"
+      | Blue ↦ codes "blue"
+    ] };
+
+    fn variants() -> &'static [Light] {
+        &LIGHTS
+    }
+
+    fn as_str(&self) -> &str {
+        match self {
+            Light::Red => "red",
+            Light::Yellow => "yellow",
+            Light::Green => "green",
+            Light::Blue => "blue",
+        }
+    }
+}
+
+impl Default for Light {
+    ghost is_default = { λ light. light ≡ Yellow };
+
+    fn default() -> Light {
+        Light::Yellow
+    }
+}
+
+/// One state more than a state set may have. Of these, `Outside` is no state.
+#[derive(Clone, Copy, PartialEq, Eq, Debug)]
+pub enum Crowd {
+    Inside,
+    Outside,
+}
+
+static CROWD: [Crowd; 257] = [Crowd::Inside; 257];
+
+impl StateSetValue for Crowd {
+    ghost all = { replicate 257 Inside };
+
+    ghost text = { λ _. codes "x" };
+
+    fn variants() -> &'static [Crowd] {
+        &CROWD
+    }
+
+    fn as_str(&self) -> &str {
+        "x"
     }
 }
 

@@ -1,14 +1,17 @@
 //! Collected expositions: their parts, and when two of them are equal.
 
-use fastmetrics::encoder::EncodeMetric;
-use fastmetrics::format::text::{Exposition, FamilySamples, Sample, SampleKind, Value, collect};
+use fastmetrics::encoder::{EncodeMetric, LabeledExemplar};
+use fastmetrics::format::text::{
+    Exemplar, Exposition, FamilySamples, Sample, SampleKind, Value, collect,
+};
 use fastmetrics::metrics::counter::ConstCounter;
 use fastmetrics::metrics::gauge::ConstGauge;
-use fastmetrics::raw::{MetricType, Unit};
+use fastmetrics::raw::{Fixed, MetricType, Unit};
 use fastmetrics::registry::Registry;
 use fm_test_support::members::OneMember;
 use fm_test_support::parts::Word;
-use fm_test_support::trees::register_with;
+use fm_test_support::points::CounterWith;
+use fm_test_support::trees::{are_labels, labels, register_with};
 use std::alloc::Global;
 use std::test::Fail;
 use std::time::Duration;
@@ -101,5 +104,52 @@ fn parts_of_a_counter(rt: HostRuntime) -> Result<(), Fail> {
         return Err(Fail::new("not two samples"));
     };
     assert!(rt; are_total_and_time(total, created));
+    Ok(())
+}
+
+// Whether these are the parts of an exemplar of 0.5 with two labels and a time.
+fn is_half(exemplar: &Exemplar) -> bool {
+    exemplar.label_count() == 2
+        && exemplar.label(0) == Some(("trace_id", "a"))
+        && exemplar.label(1) == Some(("b", ""))
+        && exemplar.label(2).is_none()
+        && are_labels(exemplar.labels(), &[("trace_id", "a"), ("b", "")])
+        && exemplar.value() == Fixed::from_millionths(500_000)
+        && exemplar.timestamp_millis() == Some(1005)
+}
+
+// Whether a sample has such an exemplar.
+fn has_half(sample: &Sample) -> bool {
+    match sample.exemplar() {
+        Some(exemplar) => is_half(exemplar),
+        None => false,
+    }
+}
+
+#[test]
+fn parts_of_an_exemplar(rt: HostRuntime) -> Result<(), Fail> {
+    let alloc = rt.alloc();
+    let exemplar = LabeledExemplar {
+        labels: labels(alloc, &[("trace_id", "a"), ("b", "")])?,
+        value: Fixed::from_millionths(500_000),
+        timestamp: Some(Duration::from_micros(1005999)),
+    };
+    let metric = OneMember {
+        metric_type: MetricType::Counter,
+        time: None,
+        labels: (),
+        point: CounterWith {
+            total: 5u64,
+            exemplar,
+        },
+    };
+    let exposition = collected(alloc, "c", "H", None, Box::new(alloc, metric)?)?;
+    let [family] = exposition.families() else {
+        return Err(Fail::new("not one family"));
+    };
+    let [sample] = family.samples() else {
+        return Err(Fail::new("not one sample"));
+    };
+    assert!(rt; has_half(sample));
     Ok(())
 }

@@ -74,3 +74,14 @@ fn replies_to_events(rt: HostRuntime) -> Result<(), Fail> {
     assert!(rt; are_replies(alloc, most, &[], &[], most)?);
     Ok(())
 }
+
+#[test]
+fn three_hundred_events(rt: HostRuntime) -> Result<(), Fail> {
+    let alloc = rt.alloc();
+    let events = vec![in alloc; Event::Add { who: 0, v: 1 }; 300]?;
+    let mut book = Book::new();
+    let replies = book.run(alloc, events.as_slice())?;
+    assert!(rt; replies.iter().all(|reply| *reply == Reply::Added));
+    assert!(rt; replies.len() == 300 && book.read() == 300);
+    Ok(())
+}

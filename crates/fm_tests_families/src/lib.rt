@@ -3,3 +3,5 @@
 
 #[cfg(test)]
 mod families;
+#[cfg(test)]
+mod histograms;

@@ -6,8 +6,9 @@ use fastmetrics::encoder::EncodeMetric;
 use fastmetrics::metrics::gauge::ConstGauge;
 use fastmetrics::raw::Unit;
 use fastmetrics::registry::{
-    GlobalRegistry, Registry, SetRegistryError, register, register_global, register_metric,
-    register_with_unit, set_global_registry, with_global_registry, with_global_registry_mut,
+    GlobalRegistry, Registry, RegistryError, SetRegistryError, register, register_global,
+    register_metric, register_with_unit, set_global_registry, with_global_registry,
+    with_global_registry_mut,
 };
 use fm_test_support::support::expect_text;
 use std::alloc::Global;
@@ -177,4 +178,33 @@ fn the_text_of_a_refusal(rt: HostRuntime) -> Result<(), Fail> {
         "Global registry has already been initialized"
     );
     Ok(())
+}
+
+#[test]
+fn a_registry_that_was_set_is_lent(rt: HostRuntime) -> Result<(), Fail> {
+    let alloc = rt.alloc();
+    let global: GlobalRegistry = GlobalRegistry::new();
+    let namespace = String::from_str(alloc, "first")?;
+    let first = Registry::builder().with_namespace(namespace)?.build()?;
+    assert_eq!(rt; set_global_registry(&rt, &global, first), Ok(()));
+    let (name, help) = (String::from_str(alloc, "g")?, String::from_str(alloc, "H")?);
+    let metric: Box<dyn EncodeMetric> = Box::new(alloc, ConstGauge::new(7i64))?;
+    with_global_registry_mut(
+        &rt,
+        &global,
+        |registry: &mut Registry| -> Result<(), RegistryError>
+            requires { HasHistory registry.old }
+            ensures { HasHistory registry.new }
+        { registry.register(alloc, name, help, metric) },
+    )?;
+    let is_first = with_global_registry(&rt, &global, |registry: &Registry| {
+        registry.namespace() == Some("first")
+    });
+    assert!(rt; is_first);
+    expect_decided(
+        &rt,
+        alloc,
+        &global,
+        "# TYPE first_g gauge\n# HELP first_g H\nfirst_g 7\n# EOF\n",
+    )
 }

@@ -8,8 +8,10 @@ use fastmetrics::metrics::histogram::HistogramSnapshot;
 use fastmetrics::raw::{Fixed, MetricType};
 use fastmetrics::registry::Registry;
 use fm_test_support::members::OneMember;
-use fm_test_support::parts::{HalfAndTrue, Perhaps, Unvisited, Visited, Word};
-use fm_test_support::support::{expect_document, expect_lines};
+use fm_test_support::parts::{HalfAndTrue, Perhaps, TwoNames, Unvisited, Visited, Word};
+use fm_test_support::support::{
+    expect_document, expect_document_of, expect_lines, expect_refusal,
+};
 use fm_test_support::trees::{labels, register};
 use std::alloc::{AllocError, Global};
 use std::borrow::CowStr;
@@ -352,4 +354,45 @@ fn reserved_before_duplicate(rt: HostRuntime) -> Result<(), Fail> {
         point: HistogramSnapshot::new(alloc, [Fixed::ONE].iter().copied())?,
     };
     expect_refused_under_le(alloc, Box::new(alloc, metric)?, EncodeError::ReservedLabel)
+}
+
+#[test]
+fn a_constant_label_before_a_member_label(rt: HostRuntime) -> Result<(), Fail> {
+    let alloc = rt.alloc();
+    let metric = OneMember {
+        metric_type: MetricType::Histogram,
+        time: None,
+        labels: [(Word("1a"), 2)],
+        point: HistogramSnapshot::new(alloc, [Fixed::ONE].iter().copied())?,
+    };
+    expect_refused_under_le(alloc, Box::new(alloc, metric)?, EncodeError::ReservedLabel)
+}
+
+#[test]
+fn empty_sets_are_not_visited_after_constant_labels(rt: HostRuntime) -> Result<(), Fail> {
+    let alloc = rt.alloc();
+    let metric = Box::new(alloc, OneMember::gauge(Unvisited, ConstGauge::new(5i64)))?;
+    let le = labels(alloc, &[("le", "1")])?;
+    let mut registry = Registry::builder().with_const_labels(le)?.build()?;
+    register(alloc, &mut registry, "t", metric)?;
+    expect_document_of(
+        alloc,
+        &registry,
+        "# TYPE t gauge\n# HELP t H\nt{le=\"1\"} 5\n# EOF\n",
+    )
+}
+
+#[test]
+fn a_second_name_before_a_reserved_or_doubled_one(rt: HostRuntime) -> Result<(), Fail> {
+    let alloc = rt.alloc();
+    let metric = OneMember {
+        metric_type: MetricType::Histogram,
+        time: None,
+        labels: [TwoNames("a", "le")],
+        point: HistogramSnapshot::new(alloc, [Fixed::ONE].iter().copied())?,
+    };
+    expect_refusal(alloc, Box::new(alloc, metric)?, EncodeError::MalformedLabel)?;
+    let twice = [TwoNames("a", "le")];
+    let metric = Box::new(alloc, OneMember::gauge(twice, ConstGauge::new(5i64)))?;
+    expect_refused_under_le(alloc, metric, EncodeError::MalformedLabel)
 }

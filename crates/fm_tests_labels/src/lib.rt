@@ -7,3 +7,5 @@ mod label_numbers;
 mod labels;
 #[cfg(test)]
 mod refusals;
+#[cfg(test)]
+mod wrappers;

@@ -1,15 +1,19 @@
 //! Which of two faults is named.
 
-use crate::points::{OneSlot, TwoBuckets, TwoExemplars, TwoGaugeBuckets};
-use fastmetrics::encoder::EncodeError;
+use crate::points::{OneSlot, SecondSlot, TwoBuckets, TwoExemplars, TwoGaugeBuckets};
+use fastmetrics::encoder::{EncodeError, LabeledExemplar};
+use fastmetrics::metrics::gauge::ConstGauge;
 use fastmetrics::raw::bucket::{Bound, Bucket};
 use fastmetrics::raw::{Fixed, FixedSum, MetricType};
 use fm_test_support::members::OneMember;
-use fm_test_support::parts::{Faulty, Silent};
+use fm_test_support::parts::{Faulty, Silent, Twice};
 use fm_test_support::points::CounterWith;
 use fm_test_support::support::expect_refusal;
 use fm_test_support::trees::labels;
+use std::alloc::{AllocError, Global};
 use std::test::Fail;
+
+type Labels = Vec<(String, String)>;
 
 // Buckets of the bounds 1 and `Inf` with these counts.
 fn buckets(first: u64, second: u64) -> [Bucket; 2] {
@@ -114,5 +118,106 @@ fn labels_before_the_exemplar(rt: HostRuntime) -> Result<(), Fail> {
         alloc,
         Box::new(alloc, metric)?,
         EncodeError::InvalidLabelName,
+    )
+}
+
+// An exemplar whose label has 121 letters and a name of eight, which is one more than there may be.
+fn too_long(alloc: Global) -> Result<LabeledExemplar<Labels>, AllocError> {
+    let mut value = String::new(alloc);
+    for _ in 0..11u8 {
+        value.push_str("abcdefghijk")?;
+    }
+    Ok(LabeledExemplar {
+        labels: labels(alloc, &[("trace_id", value.as_str())])?,
+        value: Fixed::ONE,
+        timestamp: None,
+    })
+}
+
+#[test]
+fn number_before_the_exemplars_of_a_counter(rt: HostRuntime) -> Result<(), Fail> {
+    let alloc = rt.alloc();
+    let exemplar = TwoExemplars((), Fixed::ONE);
+    let point = CounterWith {
+        total: Silent,
+        exemplar,
+    };
+    let metric = Box::new(alloc, member(MetricType::Counter, (), point))?;
+    expect_refusal(alloc, metric, EncodeError::MissingValue)?;
+    let exemplar = TwoExemplars((), Fixed::ONE);
+    let point = CounterWith {
+        total: Twice,
+        exemplar,
+    };
+    let metric = Box::new(alloc, member(MetricType::Counter, (), point))?;
+    expect_refusal(alloc, metric, EncodeError::ValueTwice)
+}
+
+#[test]
+fn number_before_the_length_of_an_exemplar(rt: HostRuntime) -> Result<(), Fail> {
+    let alloc = rt.alloc();
+    let point = CounterWith {
+        total: Silent,
+        exemplar: too_long(alloc)?,
+    };
+    let metric = Box::new(alloc, member(MetricType::Counter, (), point))?;
+    expect_refusal(alloc, metric, EncodeError::MissingValue)?;
+    let point = CounterWith {
+        total: Twice,
+        exemplar: too_long(alloc)?,
+    };
+    let metric = Box::new(alloc, member(MetricType::Counter, (), point))?;
+    expect_refusal(alloc, metric, EncodeError::ValueTwice)?;
+    let point = CounterWith {
+        total: 5u64,
+        exemplar: too_long(alloc)?,
+    };
+    let metric = Box::new(alloc, member(MetricType::Counter, (), point))?;
+    expect_refusal(alloc, metric, EncodeError::ExemplarTooLong)
+}
+
+#[test]
+fn second_exemplar_before_its_length(rt: HostRuntime) -> Result<(), Fail> {
+    let alloc = rt.alloc();
+    let long = too_long(alloc)?;
+    let point = CounterWith {
+        total: 5u64,
+        exemplar: TwoExemplars(long.labels, Fixed::ONE),
+    };
+    let metric = Box::new(alloc, member(MetricType::Counter, (), point))?;
+    expect_refusal(alloc, metric, EncodeError::ExemplarTwice)
+}
+
+#[test]
+fn labels_before_two_numbers(rt: HostRuntime) -> Result<(), Fail> {
+    let alloc = rt.alloc();
+    let labels = labels(alloc, &[("1a", "1")])?;
+    let metric = Box::new(alloc, OneMember::gauge(labels, ConstGauge::new(Twice)))?;
+    expect_refusal(alloc, metric, EncodeError::InvalidLabelName)
+}
+
+#[test]
+fn sum_before_the_exemplar_of_a_bucket(rt: HostRuntime) -> Result<(), Fail> {
+    let alloc = rt.alloc();
+    for (first, error) in [
+        (18446744073709551615, EncodeError::BucketOverflow),
+        (3, EncodeError::ExemplarTwice),
+    ] {
+        let point = SecondSlot {
+            buckets: buckets(first, 1),
+            exemplar: TwoExemplars((), Fixed::ONE),
+        };
+        let metric = member(MetricType::Histogram, (), point);
+        expect_refusal(alloc, Box::new(alloc, metric)?, error)?;
+    }
+    let point = SecondSlot {
+        buckets: buckets(18446744073709551615, 1),
+        exemplar: too_long(alloc)?,
+    };
+    let metric = member(MetricType::Histogram, (), point);
+    expect_refusal(
+        alloc,
+        Box::new(alloc, metric)?,
+        EncodeError::BucketOverflow,
     )
 }

@@ -181,3 +181,33 @@ fn beneath_a_subsystem(rt: HostRuntime) -> Result<(), Fail> {
         sub_t_gcount{k=\"v\"} 4\nsub_t_gsum{k=\"v\"} 1.0\n# EOF\n",
     )
 }
+
+#[test]
+fn both_ends_under_the_lock(rt: HostRuntime) -> Result<(), Fail> {
+    let current = GaugeHistogram::new(rt, rt.alloc(), [whole(1)].iter().copied())?;
+    for millionths in [-9223372036854775808, 9223372036854775807, 0] {
+        current.observe(Fixed::from_millionths(millionths))?;
+    }
+    assert!(rt; current.with_snapshot(|all| have_counts(all.buckets(), &[2, 1])));
+    let totals = current.with_snapshot(|all| (all.gcount(), all.gsum()));
+    assert!(rt; totals == (3, FixedSum::from_millionths(-1)));
+    Ok(())
+}
+
+#[test]
+fn a_hundred_values(rt: HostRuntime) -> Result<(), Fail> {
+    let alloc = rt.alloc();
+    let bounds = [whole(1), whole(2), whole(4), whole(8), whole(16)];
+    let current = GaugeHistogram::new(rt, alloc, bounds.iter().copied())?;
+    for n in 1..101 {
+        current.observe(whole(n))?;
+    }
+    expect_document(
+        alloc,
+        "t",
+        None,
+        Box::new(alloc, current)?,
+        "# TYPE t gaugehistogram\n# HELP t H\nt_bucket{le=\"1.0\"} 1\nt_bucket{le=\"2.0\"} 2\nt_bucket{le=\"4.0\"} 4\n\
+         t_bucket{le=\"8.0\"} 8\nt_bucket{le=\"16.0\"} 16\nt_bucket{le=\"+Inf\"} 100\nt_gcount 100\nt_gsum 5050.0\n# EOF\n",
+    )
+}

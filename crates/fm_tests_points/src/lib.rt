@@ -2,6 +2,8 @@
 #![tactic(auto)]
 
 #[cfg(test)]
+mod direct;
+#[cfg(test)]
 mod exemplars;
 #[cfg(test)]
 mod faults;
@@ -9,6 +11,10 @@ mod faults;
 mod gauge_histograms;
 #[cfg(test)]
 mod kinds;
+#[cfg(test)]
+mod own_labels;
 pub mod points;
+#[cfg(test)]
+mod sources;
 #[cfg(test)]
 mod summaries;

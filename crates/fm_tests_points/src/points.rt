@@ -55,6 +55,27 @@ impl<E: EncodeExemplar> EncodePoint for TwoGaugeBuckets<E> {
     }
 }
 
+/// Two buckets of five values, and an exemplar of the second, as the point of a histogram.
+#[derive(Drop)]
+pub struct SecondSlot<E> {
+    /// The buckets.
+    pub buckets: [Bucket; 2],
+    /// The second one's exemplar.
+    pub exemplar: E,
+}
+
+impl<E: EncodeExemplar> EncodePoint for SecondSlot<E> {
+    ghost points = { λ p ps. ps
+        ≡ HistogramPoint p.buckets ([] ∷ E.exemplars p.exemplar ∷ []) 5 (pos 0) None ∷ [] };
+
+    ghost may_fault = { λ _. Unit {0} };
+
+    fn encode(&self, encoder: &mut PointEncoder) -> Result<(), EncodeError> {
+        let slots = [None, Some(&self.exemplar)];
+        encoder.encode_histogram(&self.buckets, &slots, 5, FixedSum::ZERO, None)
+    }
+}
+
 /// Two buckets with one slot, as the point of a gauge histogram.
 #[derive(Drop)]
 pub struct OneSlot(pub [Bucket; 2]);

@@ -117,6 +117,8 @@ fn refused_steps_between(rt: HostRuntime) {
         (ONE, 5 * ONE, 3, BucketError::NoWholeFactor),
         (ONE, ONE, 0, BucketError::ZeroCount),
         (0, ONE, 0, BucketError::NonPositiveStart),
+        (0, ONE, 2, BucketError::NonPositiveStart),
+        (0, 0, 3, BucketError::NonPositiveStart),
     ] {
         let bounds = exponential_buckets_range(fixed(min), fixed(max), count);
         assert!(rt; bounds.err() == Some(error), "{max}");
@@ -139,6 +141,7 @@ fn whole_steps_between(rt: HostRuntime) -> Result<(), Fail> {
     ];
     let bounds = exponential_buckets_range(Fixed::ONE, fixed(19683 * ONE), 10);
     assert!(rt; are_bounds(rt.alloc(), bounds, &powers)?);
+    assert!(rt; are_bounds(rt.alloc(), exponential_buckets(Fixed::ONE, 3, 10), &powers)?);
     let bounds = exponential_buckets_range(Fixed::ONE, fixed(4 * ONE), 1);
     assert!(rt; are_bounds(rt.alloc(), bounds, &[ONE])?);
     Ok(())
@@ -229,5 +232,29 @@ fn asks_as_often_as_there_are_digits(rt: HostRuntime) -> Result<(), Fail> {
             assert!(rt; place == first.min(n) && asked <= most, "{asked} of {n}");
         }
     }
+    Ok(())
+}
+
+// One, and then twice the bound before each time.
+const DOUBLES: [i64; 10] = [
+    1_000_000,
+    2_000_000,
+    4_000_000,
+    8_000_000,
+    16_000_000,
+    32_000_000,
+    64_000_000,
+    128_000_000,
+    256_000_000,
+    512_000_000,
+];
+
+#[test]
+fn doubles(rt: HostRuntime) -> Result<(), Fail> {
+    let alloc = rt.alloc();
+    assert!(rt; are_bounds(alloc, exponential_buckets(Fixed::ONE, 2, 10), &DOUBLES)?);
+    assert!(rt; are_bounds(alloc, exponential_buckets(Fixed::ONE, 2, 1), &[ONE])?);
+    let between = exponential_buckets_range(Fixed::ONE, fixed(512 * ONE), 10);
+    assert!(rt; are_bounds(alloc, between, &DOUBLES)?);
     Ok(())
 }

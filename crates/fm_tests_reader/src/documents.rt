@@ -51,3 +51,54 @@ fn worked_documents(rt: HostRuntime) -> Result<(), Fail> {
     }
     Ok(())
 }
+
+// The document of so many gauges.
+fn document_of_gauges(alloc: Global, count: u32) -> Result<String, Fail> {
+    let mut text = String::new(alloc);
+    for number in 0..count {
+        let lines = format!(in alloc; "# TYPE g{number} gauge\n# HELP g{number} H\ng{number} 1\n")?;
+        text.push_str(lines.as_str())?;
+    }
+    text.push_str("# EOF\n")?;
+    Ok(text)
+}
+
+#[test]
+fn three_hundred_families(rt: HostRuntime) -> Result<(), Fail> {
+    let text = document_of_gauges(rt.alloc(), 300)?;
+    expect_written_again(rt.alloc(), text.as_str())
+}
+
+// The document of a gauge whose label has ten times so many bytes.
+fn document_with_a_long_label(alloc: Global, tens: u32) -> Result<String, Fail> {
+    let mut text = String::from_str(alloc, "# TYPE g gauge\n# HELP g H\ng{v=\"")?;
+    for _ in 0..tens {
+        text.push_str("0123456789")?;
+    }
+    text.push_str("\"} 1\n# EOF\n")?;
+    Ok(text)
+}
+
+#[test]
+fn a_hundred_thousand_bytes_in_a_label(rt: HostRuntime) -> Result<(), Fail> {
+    let text = document_with_a_long_label(rt.alloc(), 10_000)?;
+    expect_written_again(rt.alloc(), text.as_str())
+}
+
+#[test]
+fn documents_of_other_tests(rt: HostRuntime) -> Result<(), Fail> {
+    let alloc = rt.alloc();
+    for text in [
+        "# TYPE x counter\n# HELP x a \\\"b\\\" \\\\ \\nc\nx_total 18446744073709551615\n# EOF\n",
+        "# TYPE http_requests_total counter\n# HELP http_requests_total H\nhttp_requests_total_total 0\n# EOF\n",
+        "# TYPE f counter\n# HELP f H\nf_total{error=\"false\"} 0\n# EOF\n",
+        "# TYPE ok_1a gauge\n# HELP ok_1a H\n# UNIT ok_1a 1a\nok_1a 1\n# EOF\n",
+        "# TYPE t gaugehistogram\n# HELP t H\nt_bucket{le=\"-273.15\"} 0\nt_bucket{le=\"-200.0\"} 1\nt_bucket{le=\"-100.0\"} 1\nt_bucket{le=\"0.0\"} 2\nt_bucket{le=\"100.0\"} 3\nt_bucket{le=\"200.0\"} 3\nt_bucket{le=\"+Inf\"} 4\nt_gcount 4\nt_gsum 850.0\n# EOF\n",
+        "# TYPE myapp_up gauge\n# HELP myapp_up H\nmyapp_up{env=\"dev\",region=\"us-west\"} 2\n# TYPE myapp_cache_size gauge\n# HELP myapp_cache_size H\nmyapp_cache_size{env=\"prod\",region=\"us-west\",type=\"redis\"} 1\n# EOF\n",
+        "# TYPE http_requests counter\n# HELP http_requests Total HTTP requests\nhttp_requests_total{method=\"GET\",status=\"200\"} 1\nhttp_requests_total{method=\"GET\",status=\"404\",error=\"true\"} 1\nhttp_requests_total{method=\"PUT\",status=\"200\"} 1\n# EOF\n",
+        "# TYPE s summary\n# HELP s H\ns{quantile=\"0.5\"} 2.0\ns_count 20\ns_sum 100.0\ns_created 18446744073709551615.999\n# EOF\n",
+    ] {
+        expect_written_again(alloc, text)?;
+    }
+    Ok(())
+}

@@ -4,7 +4,7 @@ use fastmetrics::encoder::EncodeMetric;
 use fastmetrics::format::text::EncodeError;
 use fastmetrics::metrics::gauge::ConstGauge;
 use fastmetrics::metrics::tally::TallyError;
-use fastmetrics::raw::{MetricType, Unit};
+use fastmetrics::raw::{MetricType, Unit, is_label_name, is_snake_case, is_unit_text};
 use fastmetrics::registry::{Registry, RegistryError, SetRegistryError};
 use fm_test_support::members::OneMember;
 use fm_test_support::support::{document_of, expect_text};
@@ -198,4 +198,20 @@ fn refusals_of_tallies(rt: HostRuntime) -> Result<(), Fail> {
         expect_shown(rt.alloc(), &error, want)?;
     }
     Ok(())
+}
+
+#[test]
+fn names_by_their_tests(rt: HostRuntime) {
+    for (text, is_metric, is_label, is_unit) in [
+        ("a_b", true, true, false),
+        ("Ab", false, true, false),
+        ("_a", false, true, false),
+        ("a", true, true, true),
+        ("1a", false, false, true),
+        ("a-b", false, false, false),
+        ("", false, false, false),
+    ] {
+        assert!(rt; is_snake_case(text) == is_metric && is_label_name(text) == is_label);
+        assert!(rt; is_unit_text(text) == is_unit);
+    }
 }

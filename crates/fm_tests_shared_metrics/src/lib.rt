@@ -7,3 +7,5 @@ mod handles;
 mod liars;
 #[cfg(test)]
 mod states;
+#[cfg(test)]
+mod told;

@@ -178,3 +178,38 @@ fn default_histograms(rt: HostRuntime) -> Result<(), Fail> {
     assert!(rt; snapshot.buckets().len() == 12);
     Ok(())
 }
+
+#[test]
+fn both_ends_under_the_lock(rt: HostRuntime) -> Result<(), Fail> {
+    let sizes = Histogram::new(rt, rt.alloc(), [whole(1)].iter().copied())?;
+    for millionths in [-9223372036854775808, 9223372036854775807, 0] {
+        sizes.observe(Fixed::from_millionths(millionths))?;
+    }
+    assert!(rt; sizes.with_snapshot(|all| have_counts(all.buckets(), &[1, 1])));
+    let totals = sizes.with_snapshot(|all| (all.count(), all.sum()));
+    assert!(rt; totals == (2, FixedSum::from_millionths(9223372036854775807)));
+    Ok(())
+}
+
+#[test]
+fn other_bounds_before_a_full_count(rt: HostRuntime) -> Result<(), Fail> {
+    let mut all = observed(rt.alloc(), &[], &[1])?;
+    double(&mut all)?;
+    let mut other = observed(rt.alloc(), &[whole(1)], &[1])?;
+    double(&mut other)?;
+    assert!(rt; is_not_merged(&mut all, &other, MetricError::UnequalBounds, 1 << 63));
+    Ok(())
+}
+
+#[test]
+fn values_with_fractions(rt: HostRuntime) -> Result<(), Fail> {
+    let bounds = [whole(1), whole(2), whole(5)];
+    let sizes = Histogram::new(rt, rt.alloc(), bounds.iter().copied())?;
+    for millionths in [1_500_000, 500_000, 3_000_000, 6_000_000] {
+        sizes.observe(Fixed::from_millionths(millionths))?;
+    }
+    assert!(rt; sizes.with_snapshot(|all| have_counts(all.buckets(), &[1, 1, 1, 1])));
+    let totals = sizes.with_snapshot(|all| (all.count(), all.sum()));
+    assert!(rt; totals == (4, FixedSum::from_millionths(11_000_000)));
+    Ok(())
+}

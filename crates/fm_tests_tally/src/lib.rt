@@ -6,4 +6,6 @@ mod closing;
 #[cfg(test)]
 mod pieces;
 #[cfg(test)]
+mod shares;
+#[cfg(test)]
 mod sums;

@@ -172,3 +172,78 @@ fn gate_holds_both(rt: HostRuntime) -> Result<(), Fail> {
     assert!(rt; observe_all_gauge(&rt, alloc, &[whole(1)], &pieces, &waits_for_both()).is_ok());
     Ok(())
 }
+
+// Lets every piece through, and counts how often it is asked for each of three.
+#[derive(Drop)]
+struct CountsCalls {
+    asked: [AtomicU64; 3],
+}
+
+impl Gate for CountsCalls {
+    ghost may_refuse = { λ _ _. ⊥ };
+
+    fn pass(&self, piece: usize) -> bool {
+        if let Some(asked) = self.asked.get(piece) {
+            asked.fetch_add(1, Ordering::SeqCst);
+        }
+        true
+    }
+}
+
+// Such a gate, which was asked for nothing yet.
+fn counts_calls() -> CountsCalls {
+    CountsCalls {
+        asked: [AtomicU64::new(0), AtomicU64::new(0), AtomicU64::new(0)],
+    }
+}
+
+// Whether it was asked once for each of the three.
+fn asked_once(gate: &CountsCalls) -> bool {
+    gate.asked.iter().all(|asked| asked.load(Ordering::SeqCst) == 1)
+}
+
+#[test]
+fn the_gate_is_asked_once_a_piece(rt: HostRuntime) -> Result<(), Fail> {
+    let alloc = rt.alloc();
+    let pieces = [up_to(alloc, 3)?, Vec::new(alloc), up_to(alloc, 1)?];
+    let gate = counts_calls();
+    let all = observe_all(&rt, alloc, &[whole(1)], &pieces, &gate)?;
+    assert!(rt; asked_once(&gate));
+    expect_counted(alloc, &all, &[2, 2], 4, "7.0")
+}
+
+#[test]
+fn the_gate_of_a_gauge_histogram_is_asked_once_a_piece(rt: HostRuntime) -> Result<(), Fail> {
+    let alloc = rt.alloc();
+    let pieces = [Vec::new(alloc), up_to(alloc, 3)?, up_to(alloc, 1)?];
+    let gate = counts_calls();
+    let all = observe_all_gauge(&rt, alloc, &[whole(1)], &pieces, &gate)?;
+    assert!(rt; asked_once(&gate));
+    expect_gauge_counted(alloc, &all, &[2, 2], 4, "7.0")
+}
+
+#[test]
+fn one_piece(rt: HostRuntime) -> Result<(), Fail> {
+    let alloc = rt.alloc();
+    let bounds = [whole(1), whole(2), whole(5)];
+    let pieces = [up_to(alloc, 100)?];
+    let all = observe_all(&rt, alloc, &bounds, &pieces, &OpenGate)?;
+    expect_counted(alloc, &all, &[1, 1, 3, 95], 100, "5050.0")
+}
+
+// So many pieces of the values 1 and 2.
+fn pairs(alloc: Global, count: u8) -> Result<Vec<Vec<Fixed>>, AllocError> {
+    let mut pieces = Vec::new(alloc);
+    for _ in 0..count {
+        pieces.push(up_to(alloc, 2)?)?;
+    }
+    Ok(pieces)
+}
+
+#[test]
+fn forty_pieces(rt: HostRuntime) -> Result<(), Fail> {
+    let alloc = rt.alloc();
+    let pieces = pairs(alloc, 40)?;
+    let all = observe_all(&rt, alloc, &[whole(1)], pieces.as_slice(), &OpenGate)?;
+    expect_counted(alloc, &all, &[40, 40], 80, "120.0")
+}

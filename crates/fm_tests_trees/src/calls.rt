@@ -3,10 +3,14 @@ ghost use Rattle.std.specs.Prelude.{IfOk};
 ghost use Rattle.fm_registry.specs.HasHistory.{HasHistory};
 
 use crate::boxed::{calls_at, root, six_calls};
+use fastmetrics::encoder::EncodeMetric;
+use fastmetrics::raw::MetricType;
 use fastmetrics::registry::{Registry, RegistryCall, RegistryError};
+use fm_test_support::liars::Fickle;
 use fm_test_support::support::expect_document_of;
 use fm_test_support::trees::{
-    build_below, expect_refused, gauge, have_numbers, refuses, register_below, subsystem_at,
+    build_below, expect_refused, gauge, have_numbers, metric_at, refuses, register_below,
+    subsystem_at,
 };
 use std::alloc::{AllocError, Global};
 use std::test::Fail;
@@ -120,4 +124,21 @@ fn missing_paths_before_names_and_labels(rt: HostRuntime) -> Result<(), Fail> {
         )
     );
     Ok(())
+}
+
+#[test]
+fn a_type_is_read_once_in_a_run(rt: HostRuntime) -> Result<(), Fail> {
+    let alloc = rt.alloc();
+    let fickle = Fickle::new(MetricType::Gauge, MetricType::Counter);
+    let fickle: Box<dyn EncodeMetric> = Box::new(alloc, fickle)?;
+    let mut calls: Vec<RegistryCall> = Vec::new(alloc);
+    calls.push(metric_at(alloc, &[], "g", fickle)?)?;
+    let mut registry = Registry::default();
+    let answers = registry.run(alloc, calls)?;
+    assert!(rt; have_numbers(&answers, &[0]));
+    expect_document_of(
+        alloc,
+        &registry,
+        "# TYPE g gauge\n# HELP g H\ng 5\n# EOF\n",
+    )
 }

@@ -7,6 +7,10 @@ mod boxed;
 #[cfg(test)]
 mod calls;
 #[cfg(test)]
+mod deep;
+#[cfg(test)]
 mod names;
+#[cfg(test)]
+mod nested;
 #[cfg(test)]
 mod trees;

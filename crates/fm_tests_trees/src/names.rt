@@ -5,6 +5,7 @@ ghost use Rattle.fm_registry.specs.HasHistory.{HasHistory};
 use crate::boxed::{calls_at, gauge_at};
 use crate::calls::all_refused;
 use fastmetrics::metrics::counter::ConstCounter;
+use fastmetrics::metrics::info::Info;
 use fastmetrics::raw::Unit;
 use fastmetrics::registry::{Registry, RegistryCall, RegistryError};
 use fm_test_support::support::expect_document_of;
@@ -190,4 +191,14 @@ fn the_same_metric_before_a_taken_name(rt: HostRuntime) -> Result<(), Fail> {
     let unit = Some(Unit::from(String::from_str(alloc, "X")?));
     let bad = register_with(alloc, &mut registry, "a_c_d", "H", unit, gauge(alloc, 2)?);
     expect_refused(bad, 3, "X")
+}
+
+#[test]
+fn a_type_without_units_before_a_taken_name(rt: HostRuntime) -> Result<(), Fail> {
+    let alloc = rt.alloc();
+    let information = Box::new(alloc, Info::new(()))?;
+    let mut registry = root_with_two_names(alloc)?;
+    let unit = Some(Unit::Bytes);
+    let answer = register_with(alloc, &mut registry, "a_c_d", "H", unit, information);
+    expect_refused(answer, 2, "a_c_d")
 }

@@ -3,6 +3,8 @@
 
 pub mod cases;
 #[cfg(test)]
+mod threads;
+#[cfg(test)]
 mod values;
 #[cfg(test)]
 mod words;

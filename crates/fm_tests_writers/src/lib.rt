@@ -4,6 +4,8 @@
 #[cfg(test)]
 mod lines;
 #[cfg(test)]
+mod many_labels;
+#[cfg(test)]
 mod sizes;
 #[cfg(test)]
 mod texts;

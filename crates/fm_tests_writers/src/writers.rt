@@ -90,7 +90,8 @@ impl Write for Ending {
     }
 }
 
-// Whether a writer that ends after this number of bytes ends the encoding there, with this result.
+// Whether a writer that ends after this number of bytes ends the encoding there, with this result. One that takes all is not called again
+// after the last byte.
 fn ends_encoding(
     alloc: Global,
     registry: &Registry,
@@ -101,7 +102,9 @@ fn ends_encoding(
     requires { HasHistory registry.now }
 {
     let room = writer.room;
-    encode(alloc, &mut writer, registry) == answer && writer.has_beginning(document, room)
+    encode(alloc, &mut writer, registry) == answer
+        && writer.has_ended == answer.is_err()
+        && writer.has_beginning(document, room)
 }
 
 // The same if the registry is collected first.
@@ -118,6 +121,7 @@ fn ends_writing(
     match collect(alloc, registry) {
         Ok(exposition) => {
             encode_exposition(alloc, &mut writer, &exposition) == answer
+                && writer.has_ended == answer.is_err()
                 && writer.has_beginning(document, room)
         }
         Err(_) => false,

@@ -1,0 +1,46 @@
+//! State sets that begin with a default, and states that they refuse.
+
+use crate::support::{Crowd, Light};
+use fastmetrics::metrics::state_set::{ConstStateSet, StateSet};
+use fastmetrics::raw::{MetricError, TryDefault};
+use fm_test_support::support::expect_document;
+use std::test::Fail;
+
+#[test]
+fn a_default_that_is_not_the_first_state(rt: HostRuntime) -> Result<(), Fail> {
+    let alloc = rt.alloc();
+    let light = StateSet::<Light>::try_default(rt, alloc)?;
+    assert!(rt; *light.get() == Light::Yellow);
+    expect_document(
+        alloc,
+        "s",
+        None,
+        Box::new(alloc, light)?,
+        "# TYPE s stateset\n# HELP s H\ns{s=\"red\"} 0\ns{s=\"yellow\"} 1\ns{s=\"green\"} 0\n# EOF\n",
+    )
+}
+
+#[test]
+fn a_refused_state_changes_nothing(rt: HostRuntime) -> Result<(), Fail> {
+    let light = StateSet::new(rt.alloc(), Light::Green)?;
+    assert!(rt; light.set(Light::Blue) == Err(MetricError::UnknownState));
+    assert!(rt; *light.get() == Light::Green);
+    light.set(Light::Red)?;
+    assert!(rt; *light.get() == Light::Red);
+    Ok(())
+}
+
+#[test]
+fn sets_do_not_begin_with_an_unknown_state(rt: HostRuntime) {
+    let unknown = Some(MetricError::UnknownState);
+    assert!(rt; StateSet::new(rt.alloc(), Light::Blue).err() == unknown);
+    assert!(rt; ConstStateSet::new(rt.alloc(), Light::Blue).err() == unknown);
+    assert!(rt; MetricError::UnknownState.number() == 4);
+}
+
+#[test]
+fn too_many_states_before_an_unknown_one(rt: HostRuntime) {
+    let too_many = Some(MetricError::TooManyStates);
+    assert!(rt; StateSet::new(rt.alloc(), Crowd::Outside).err() == too_many);
+    assert!(rt; ConstStateSet::new(rt.alloc(), Crowd::Outside).err() == too_many);
+}

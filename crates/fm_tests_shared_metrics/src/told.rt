@@ -1,0 +1,68 @@
+//! What two threads are told of one counter or gauge: each number before a step once, and nothing that was never set.
+
+use fastmetrics::metrics::counter::Counter;
+use fastmetrics::metrics::gauge::Gauge;
+use fastmetrics::raw::TryDefault;
+use std::test::Fail;
+use std::thread;
+
+// Counts a million times, and returns the sum of the totals before.
+fn totals_before(hits: &Counter<u64>) -> u64 {
+    let mut sum = 0u64;
+    for _ in 0..1_000_000u32 {
+        sum = sum.wrapping_add(hits.inc());
+    }
+    sum
+}
+
+#[test]
+fn each_total_is_told_once(rt: HostRuntime) -> Result<(), Fail> {
+    let hits = Counter::<u64>::try_default(rt, rt.alloc())?;
+    let clone = hits.clone()?;
+    let (first, second) = thread::join(&rt, || totals_before(&hits), || totals_before(&clone));
+    assert!(rt; first.wrapping_add(second) == 1_999_999_000_000);
+    Ok(())
+}
+
+// Adds one a million times, and returns the sum of the values before.
+fn values_before(level: &Gauge<i64>) -> i64 {
+    let mut sum = 0i64;
+    for _ in 0..1_000_000u32 {
+        sum = sum.wrapping_add(level.inc());
+    }
+    sum
+}
+
+#[test]
+fn each_value_is_told_once(rt: HostRuntime) -> Result<(), Fail> {
+    let level = Gauge::<i64>::try_default(rt, rt.alloc())?;
+    let clone = level.clone()?;
+    let (first, second) = thread::join(&rt, || values_before(&level), || values_before(&clone));
+    assert!(rt; first.wrapping_add(second) == 1_999_999_000_000);
+    Ok(())
+}
+
+// Sets a gauge to 7 a million times.
+fn set_often(level: &Gauge<i64>) {
+    for _ in 0..1_000_000u32 {
+        level.set(7);
+    }
+}
+
+// Whether a gauge is 7 each of a million times.
+fn is_always_seven(level: &Gauge<i64>) -> bool {
+    let mut is_seven = true;
+    for _ in 0..1_000_000u32 {
+        is_seven = is_seven && level.get() == 7;
+    }
+    is_seven
+}
+
+#[test]
+fn a_gauge_that_is_set_is_nothing_else_between(rt: HostRuntime) -> Result<(), Fail> {
+    let level = Gauge::<i64>::new(rt.alloc(), 7)?;
+    let clone = level.clone()?;
+    let (_, is_seven) = thread::join(&rt, || set_often(&level), || is_always_seven(&clone));
+    assert!(rt; is_seven);
+    Ok(())
+}
