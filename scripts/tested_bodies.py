@@ -49,7 +49,7 @@ def refused_by(body):
 def main():
     crates = crates_of()
     bodies = [it for name, crate in crates.items() if not sys.argv[1:] or name in sys.argv[1:] for it in listed(crate, "tested_bodies")]
-    with ThreadPoolExecutor(max(len(os.sched_getaffinity(0)) // 2, 1)) as pool:
+    with ThreadPoolExecutor(len(os.sched_getaffinity(0))) as pool:
         counts = {True: 0, False: 0}
         for body, (failed, said) in zip(bodies, pool.map(refused_by, bodies)):
             counts[failed is not None] += 1
