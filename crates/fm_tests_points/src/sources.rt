@@ -172,7 +172,8 @@ fn the_exemplar_of_a_bucket(rt: HostRuntime) -> Result<(), Fail> {
         point: two_buckets(reads.share()?),
     };
     let metric = Box::new(alloc, metric)?;
-    let want = "# TYPE t histogram\n# HELP t H\nt_bucket{le=\"1.0\"} 3\nt_bucket{le=\"+Inf\"} 5\nt_count 5\nt_sum 0.0\n# EOF\n";
+    let want =
+        "# TYPE t histogram\n# HELP t H\nt_bucket{le=\"1.0\"} 3\nt_bucket{le=\"+Inf\"} 5\nt_count 5\nt_sum 0.0\n# EOF\n";
     expect_document(alloc, "t", None, metric, want)?;
     assert!(rt; reads.is_one_in_each_encoding());
     Ok(())
@@ -189,7 +190,8 @@ fn the_exemplar_of_a_gauge_bucket(rt: HostRuntime) -> Result<(), Fail> {
         point: TwoGaugeBuckets(two_buckets(reads.share()?)),
     };
     let metric = Box::new(alloc, metric)?;
-    let want = "# TYPE t gaugehistogram\n# HELP t H\nt_bucket{le=\"1.0\"} 3\nt_bucket{le=\"+Inf\"} 5\nt_gcount 5\nt_gsum 0.0\n# EOF\n";
+    let want =
+        "# TYPE t gaugehistogram\n# HELP t H\nt_bucket{le=\"1.0\"} 3\nt_bucket{le=\"+Inf\"} 5\nt_gcount 5\nt_gsum 0.0\n# EOF\n";
     expect_document(alloc, "t", None, metric, want)?;
     assert!(rt; reads.is_one_in_each_encoding());
     Ok(())
