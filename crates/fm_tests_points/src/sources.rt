@@ -1,5 +1,5 @@
 //! How often a document reads what a metric is made of: each part once.
-ghost use Rattle.std.specs.Prelude.{◌≡◌, [], ◌∷◌, pos};
+ghost use Rattle.std.specs.Prelude.{◌≡◌, [], ◌∷◌, pos, ⊤};
 ghost use Rattle.fm_grammar.specs.Exposition.{Whole};
 ghost use Rattle.fm_encoder.specs.Points.{GaugePoint};
 ghost use Rattle.fm_encoder.specs.Hands.{MembersOf};
@@ -292,4 +292,39 @@ fn the_calls_of_a_metric_that_is_refused(rt: HostRuntime) -> Result<(), Fail> {
     expect_refusal(alloc, metric, EncodeError::InvalidLabelName)?;
     assert!(rt; calls.are_made_once());
     Ok(())
+}
+
+// A gauge that says it is empty, and returns an error if it is visited nevertheless.
+#[derive(Drop)]
+struct Empty;
+
+impl EncodeMetric for Empty {
+    ghost may_be_empty = { λ _. ⊤ };
+
+    ghost offers = { λ _ _ ms. ms ≡ [] };
+
+    ghost may_fault = { λ _. Unit {0} };
+
+    fn encode(&self, encoder: &mut MetricEncoder) -> Result<(), EncodeError> {
+        let _ = &encoder;
+        Err(EncodeError::Write)
+    }
+
+    fn metric_type(&self) -> MetricType {
+        MetricType::Gauge
+    }
+
+    fn timestamp(&self) -> Option<Duration> {
+        None
+    }
+
+    fn is_empty(&self) -> bool {
+        true
+    }
+}
+
+#[test]
+fn an_empty_metric_is_left_out(rt: HostRuntime) -> Result<(), Fail> {
+    let alloc = rt.alloc();
+    expect_document(alloc, "t", None, Box::new(alloc, Empty)?, "# EOF\n")
 }
