@@ -294,9 +294,9 @@ fn the_calls_of_a_metric_that_is_refused(rt: HostRuntime) -> Result<(), Fail> {
     Ok(())
 }
 
-// A gauge that says it is empty, and returns an error if it is visited nevertheless.
+// A gauge that says it is empty, and counts if it is visited nevertheless.
 #[derive(Drop)]
-struct Empty;
+struct Empty(Reads);
 
 impl EncodeMetric for Empty {
     ghost may_be_empty = { λ _. ⊤ };
@@ -307,6 +307,7 @@ impl EncodeMetric for Empty {
 
     fn encode(&self, encoder: &mut MetricEncoder) -> Result<(), EncodeError> {
         let _ = &encoder;
+        self.0.count();
         Err(EncodeError::Write)
     }
 
@@ -326,5 +327,9 @@ impl EncodeMetric for Empty {
 #[test]
 fn an_empty_metric_is_left_out(rt: HostRuntime) -> Result<(), Fail> {
     let alloc = rt.alloc();
-    expect_document(alloc, "t", None, Box::new(alloc, Empty)?, "# EOF\n")
+    let visits = Reads::new(alloc)?;
+    let metric = Box::new(alloc, Empty(visits.share()?))?;
+    expect_document(alloc, "t", None, metric, "# EOF\n")?;
+    assert!(rt; visits.0.load(Ordering::SeqCst) == 0);
+    Ok(())
 }
