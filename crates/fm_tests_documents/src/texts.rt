@@ -71,9 +71,5 @@ fn a_type_is_read_once_by_texts(rt: HostRuntime) -> Result<(), Fail> {
     let metric = Box::new(alloc, fickle)?;
     let mut registry = Registry::default();
     add(alloc, &mut registry, "g", "H", metric)?;
-    expect_document_of(
-        alloc,
-        &registry,
-        "# TYPE g gauge\n# HELP g H\ng 5\n# EOF\n",
-    )
+    expect_document_of(alloc, &registry, "# TYPE g gauge\n# HELP g H\ng 5\n# EOF\n")
 }

@@ -5,3 +5,5 @@
 mod families;
 #[cfg(test)]
 mod histograms;
+#[cfg(test)]
+mod meeting;

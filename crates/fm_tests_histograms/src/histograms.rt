@@ -278,3 +278,21 @@ fn sums_before_exemplars(rt: HostRuntime) -> Result<(), Fail> {
     expect_refused_slot(rt.alloc(), MOST, EncodeError::BucketOverflow)?;
     expect_refused_slot(rt.alloc(), [1, 2], EncodeError::MetricFault)
 }
+
+#[test]
+fn a_time_of_creation(rt: HostRuntime) -> Result<(), Fail> {
+    let alloc = rt.alloc();
+    let since = Duration::from_millis(1005);
+    let sizes = Histogram::with_created(rt, alloc, [whole(1)].iter().copied(), since)?;
+    for value in [1, 3] {
+        sizes.observe(whole(value))?;
+    }
+    expect_document(
+        alloc,
+        "t",
+        None,
+        Box::new(alloc, sizes)?,
+        "# TYPE t histogram\n# HELP t H\nt_bucket{le=\"1.0\"} 1\nt_bucket{le=\"+Inf\"} 2\nt_count 2\nt_sum 4.0\n\
+        t_created 1.005\n# EOF\n",
+    )
+}

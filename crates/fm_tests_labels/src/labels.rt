@@ -9,9 +9,7 @@ use fastmetrics::raw::{Fixed, MetricType};
 use fastmetrics::registry::Registry;
 use fm_test_support::members::OneMember;
 use fm_test_support::parts::{HalfAndTrue, Perhaps, TwoNames, Unvisited, Visited, Word};
-use fm_test_support::support::{
-    expect_document, expect_document_of, expect_lines, expect_refusal,
-};
+use fm_test_support::support::{expect_document, expect_document_of, expect_lines, expect_refusal};
 use fm_test_support::trees::{labels, register};
 use std::alloc::{AllocError, Global};
 use std::borrow::CowStr;

@@ -215,9 +215,5 @@ fn sum_before_the_exemplar_of_a_bucket(rt: HostRuntime) -> Result<(), Fail> {
         exemplar: too_long(alloc)?,
     };
     let metric = member(MetricType::Histogram, (), point);
-    expect_refusal(
-        alloc,
-        Box::new(alloc, metric)?,
-        EncodeError::BucketOverflow,
-    )
+    expect_refusal(alloc, Box::new(alloc, metric)?, EncodeError::BucketOverflow)
 }

@@ -1,5 +1,5 @@
 //! How often a document reads what a metric is made of: each part once.
-ghost use Rattle.std.specs.Prelude.{◌≡◌, [], ◌∷◌, pos};
+ghost use Rattle.std.specs.Prelude.{◌≡◌, [], ◌∷◌, pos, ⊤};
 ghost use Rattle.fm_grammar.specs.Exposition.{Whole};
 ghost use Rattle.fm_encoder.specs.Points.{GaugePoint};
 ghost use Rattle.fm_encoder.specs.Hands.{MembersOf};
@@ -172,7 +172,8 @@ fn the_exemplar_of_a_bucket(rt: HostRuntime) -> Result<(), Fail> {
         point: two_buckets(reads.share()?),
     };
     let metric = Box::new(alloc, metric)?;
-    let want = "# TYPE t histogram\n# HELP t H\nt_bucket{le=\"1.0\"} 3\nt_bucket{le=\"+Inf\"} 5\nt_count 5\nt_sum 0.0\n# EOF\n";
+    let want =
+        "# TYPE t histogram\n# HELP t H\nt_bucket{le=\"1.0\"} 3\nt_bucket{le=\"+Inf\"} 5\nt_count 5\nt_sum 0.0\n# EOF\n";
     expect_document(alloc, "t", None, metric, want)?;
     assert!(rt; reads.is_one_in_each_encoding());
     Ok(())
@@ -189,7 +190,8 @@ fn the_exemplar_of_a_gauge_bucket(rt: HostRuntime) -> Result<(), Fail> {
         point: TwoGaugeBuckets(two_buckets(reads.share()?)),
     };
     let metric = Box::new(alloc, metric)?;
-    let want = "# TYPE t gaugehistogram\n# HELP t H\nt_bucket{le=\"1.0\"} 3\nt_bucket{le=\"+Inf\"} 5\nt_gcount 5\nt_gsum 0.0\n# EOF\n";
+    let want =
+        "# TYPE t gaugehistogram\n# HELP t H\nt_bucket{le=\"1.0\"} 3\nt_bucket{le=\"+Inf\"} 5\nt_gcount 5\nt_gsum 0.0\n# EOF\n";
     expect_document(alloc, "t", None, metric, want)?;
     assert!(rt; reads.is_one_in_each_encoding());
     Ok(())
@@ -289,5 +291,45 @@ fn the_calls_of_a_metric_that_is_refused(rt: HostRuntime) -> Result<(), Fail> {
     let metric = Box::new(alloc, counting(&calls, [(Word("1a"), 1)])?)?;
     expect_refusal(alloc, metric, EncodeError::InvalidLabelName)?;
     assert!(rt; calls.are_made_once());
+    Ok(())
+}
+
+// A gauge that says it is empty, and counts if it is visited nevertheless.
+#[derive(Drop)]
+struct Empty(Reads);
+
+impl EncodeMetric for Empty {
+    ghost may_be_empty = { λ _. ⊤ };
+
+    ghost offers = { λ _ _ ms. ms ≡ [] };
+
+    ghost may_fault = { λ _. Unit {0} };
+
+    fn encode(&self, encoder: &mut MetricEncoder) -> Result<(), EncodeError> {
+        let _ = &encoder;
+        self.0.count();
+        Err(EncodeError::Write)
+    }
+
+    fn metric_type(&self) -> MetricType {
+        MetricType::Gauge
+    }
+
+    fn timestamp(&self) -> Option<Duration> {
+        None
+    }
+
+    fn is_empty(&self) -> bool {
+        true
+    }
+}
+
+#[test]
+fn an_empty_metric_is_left_out(rt: HostRuntime) -> Result<(), Fail> {
+    let alloc = rt.alloc();
+    let visits = Reads::new(alloc)?;
+    let metric = Box::new(alloc, Empty(visits.share()?))?;
+    expect_document(alloc, "t", None, metric, "# EOF\n")?;
+    assert!(rt; visits.0.load(Ordering::SeqCst) == 0);
     Ok(())
 }

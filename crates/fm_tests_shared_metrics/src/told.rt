@@ -3,11 +3,23 @@
 use fastmetrics::metrics::counter::Counter;
 use fastmetrics::metrics::gauge::Gauge;
 use fastmetrics::raw::TryDefault;
+use std::sync::atomic::{AtomicU64, Ordering};
 use std::test::Fail;
 use std::thread;
 
+// Waits until a second thread has come, or for many turns.
+fn begin(come: &AtomicU64) {
+    come.fetch_add(1, Ordering::SeqCst);
+    for _ in 0..10_000_000u64 {
+        if come.load(Ordering::SeqCst) >= 2 {
+            return;
+        }
+    }
+}
+
 // Counts a million times, and returns the sum of the totals before.
-fn totals_before(hits: &Counter<u64>) -> u64 {
+fn totals_before(hits: &Counter<u64>, come: &AtomicU64) -> u64 {
+    begin(come);
     let mut sum = 0u64;
     for _ in 0..1_000_000u32 {
         sum = sum.wrapping_add(hits.inc());
@@ -19,13 +31,19 @@ fn totals_before(hits: &Counter<u64>) -> u64 {
 fn each_total_is_told_once(rt: HostRuntime) -> Result<(), Fail> {
     let hits = Counter::<u64>::try_default(rt, rt.alloc())?;
     let clone = hits.clone()?;
-    let (first, second) = thread::join(&rt, || totals_before(&hits), || totals_before(&clone));
+    let come = AtomicU64::new(0);
+    let (first, second) = thread::join(
+        &rt,
+        || totals_before(&hits, &come),
+        || totals_before(&clone, &come),
+    );
     assert!(rt; first.wrapping_add(second) == 1_999_999_000_000);
     Ok(())
 }
 
 // Adds one a million times, and returns the sum of the values before.
-fn values_before(level: &Gauge<i64>) -> i64 {
+fn values_before(level: &Gauge<i64>, come: &AtomicU64) -> i64 {
+    begin(come);
     let mut sum = 0i64;
     for _ in 0..1_000_000u32 {
         sum = sum.wrapping_add(level.inc());
@@ -37,20 +55,27 @@ fn values_before(level: &Gauge<i64>) -> i64 {
 fn each_value_is_told_once(rt: HostRuntime) -> Result<(), Fail> {
     let level = Gauge::<i64>::try_default(rt, rt.alloc())?;
     let clone = level.clone()?;
-    let (first, second) = thread::join(&rt, || values_before(&level), || values_before(&clone));
+    let come = AtomicU64::new(0);
+    let (first, second) = thread::join(
+        &rt,
+        || values_before(&level, &come),
+        || values_before(&clone, &come),
+    );
     assert!(rt; first.wrapping_add(second) == 1_999_999_000_000);
     Ok(())
 }
 
 // Sets a gauge to 7 a million times.
-fn set_often(level: &Gauge<i64>) {
+fn set_often(level: &Gauge<i64>, come: &AtomicU64) {
+    begin(come);
     for _ in 0..1_000_000u32 {
         level.set(7);
     }
 }
 
 // Whether a gauge is 7 each of a million times.
-fn is_always_seven(level: &Gauge<i64>) -> bool {
+fn is_always_seven(level: &Gauge<i64>, come: &AtomicU64) -> bool {
+    begin(come);
     let mut is_seven = true;
     for _ in 0..1_000_000u32 {
         is_seven = is_seven && level.get() == 7;
@@ -62,7 +87,12 @@ fn is_always_seven(level: &Gauge<i64>) -> bool {
 fn a_gauge_that_is_set_is_nothing_else_between(rt: HostRuntime) -> Result<(), Fail> {
     let level = Gauge::<i64>::new(rt.alloc(), 7)?;
     let clone = level.clone()?;
-    let (_, is_seven) = thread::join(&rt, || set_often(&level), || is_always_seven(&clone));
+    let come = AtomicU64::new(0);
+    let (_, is_seven) = thread::join(
+        &rt,
+        || set_often(&level, &come),
+        || is_always_seven(&clone, &come),
+    );
     assert!(rt; is_seven);
     Ok(())
 }

@@ -199,7 +199,9 @@ fn counts_calls() -> CountsCalls {
 
 // Whether it was asked once for each of the three.
 fn asked_once(gate: &CountsCalls) -> bool {
-    gate.asked.iter().all(|asked| asked.load(Ordering::SeqCst) == 1)
+    gate.asked
+        .iter()
+        .all(|asked| asked.load(Ordering::SeqCst) == 1)
 }
 
 #[test]

@@ -136,9 +136,5 @@ fn a_type_is_read_once_in_a_run(rt: HostRuntime) -> Result<(), Fail> {
     let mut registry = Registry::default();
     let answers = registry.run(alloc, calls)?;
     assert!(rt; have_numbers(&answers, &[0]));
-    expect_document_of(
-        alloc,
-        &registry,
-        "# TYPE g gauge\n# HELP g H\ng 5\n# EOF\n",
-    )
+    expect_document_of(alloc, &registry, "# TYPE g gauge\n# HELP g H\ng 5\n# EOF\n")
 }

@@ -1,19 +1,33 @@
 //! Steps of two threads on one atomic, at every type of number that one holds: none is lost, and none is seen in parts.
 
 use fastmetrics::raw::{Atomic, Fixed, Number};
-use std::sync::atomic::{AtomicI32, AtomicI64, AtomicIsize, AtomicU32, AtomicU64, AtomicUsize};
+use std::sync::atomic::{
+    AtomicI32, AtomicI64, AtomicIsize, AtomicU32, AtomicU64, AtomicUsize, Ordering,
+};
 use std::thread;
 use std::thread::Threads;
 
+// Waits until a second thread has come, or for many turns.
+fn begin(come: &AtomicU64) {
+    come.fetch_add(1, Ordering::SeqCst);
+    for _ in 0..10_000_000u64 {
+        if come.load(Ordering::SeqCst) >= 2 {
+            return;
+        }
+    }
+}
+
 // Adds one a million times.
-fn go_up<N: Number, W: Atomic<N>>(word: &W) {
+fn go_up<N: Number, W: Atomic<N>>(word: &W, come: &AtomicU64) {
+    begin(come);
     for _ in 0..1_000_000u32 {
         word.inc();
     }
 }
 
 // Subtracts one a million times.
-fn go_down<N: Number, W: Atomic<N>>(word: &W) {
+fn go_down<N: Number, W: Atomic<N>>(word: &W, come: &AtomicU64) {
+    begin(come);
     for _ in 0..1_000_000u32 {
         word.dec();
     }
@@ -23,9 +37,19 @@ fn go_down<N: Number, W: Atomic<N>>(word: &W) {
 // have subtracted it.
 fn counts_all<N: Number, W: Atomic<N>, R: Threads>(rt: &R, two_millions: N) -> bool {
     let word = W::default();
-    let (_, _) = thread::join(rt, || go_up::<N, W>(&word), || go_up::<N, W>(&word));
+    let come = AtomicU64::new(0);
+    let (_, _) = thread::join(
+        rt,
+        || go_up::<N, W>(&word, &come),
+        || go_up::<N, W>(&word, &come),
+    );
     let is_up = word.get() == two_millions;
-    let (_, _) = thread::join(rt, || go_down::<N, W>(&word), || go_down::<N, W>(&word));
+    let come = AtomicU64::new(0);
+    let (_, _) = thread::join(
+        rt,
+        || go_down::<N, W>(&word, &come),
+        || go_down::<N, W>(&word, &come),
+    );
     is_up && word.get() == N::ZERO
 }
 
@@ -42,7 +66,8 @@ fn no_step_is_lost(rt: HostRuntime) {
 }
 
 // Raises an atomic a million times, to the next number each time. Whether it was never below what it was raised to.
-fn never_falls<N: Number, W: Atomic<N>>(word: &W, next: &W) -> bool {
+fn never_falls<N: Number, W: Atomic<N>>(word: &W, next: &W, come: &AtomicU64) -> bool {
+    begin(come);
     let mut is_above = true;
     for _ in 0..1_000_000u32 {
         let v = next.inc();
@@ -56,10 +81,11 @@ fn never_falls<N: Number, W: Atomic<N>>(word: &W, next: &W) -> bool {
 fn keeps_the_greatest<N: Number, W: Atomic<N>, R: Threads>(rt: &R) -> bool {
     let word = W::default();
     let next = W::default();
+    let come = AtomicU64::new(0);
     let (first, second) = thread::join(
         rt,
-        || never_falls::<N, W>(&word, &next),
-        || never_falls::<N, W>(&word, &next),
+        || never_falls::<N, W>(&word, &next, &come),
+        || never_falls::<N, W>(&word, &next, &come),
     );
     first && second
 }
@@ -76,14 +102,16 @@ fn no_raise_is_lost(rt: HostRuntime) {
 }
 
 // Sets an atomic to this number a million times.
-fn set_often<N: Number, W: Atomic<N>>(word: &W, v: N) {
+fn set_often<N: Number, W: Atomic<N>>(word: &W, v: N, come: &AtomicU64) {
+    begin(come);
     for _ in 0..1_000_000u32 {
         word.set(v);
     }
 }
 
 // Whether an atomic holds this number each of a million times.
-fn always_holds<N: Number, W: Atomic<N>>(word: &W, v: N) -> bool {
+fn always_holds<N: Number, W: Atomic<N>>(word: &W, v: N, come: &AtomicU64) -> bool {
+    begin(come);
     let mut is_held = true;
     for _ in 0..1_000_000u32 {
         is_held = is_held && word.get() == v;
@@ -95,10 +123,11 @@ fn always_holds<N: Number, W: Atomic<N>>(word: &W, v: N) -> bool {
 fn is_set_in_one_step<N: Number, W: Atomic<N>, R: Threads>(rt: &R) -> bool {
     let word = W::default();
     word.set(N::ONE);
+    let come = AtomicU64::new(0);
     let (_, is_held) = thread::join(
         rt,
-        || set_often::<N, W>(&word, N::ONE),
-        || always_holds::<N, W>(&word, N::ONE),
+        || set_often::<N, W>(&word, N::ONE, &come),
+        || always_holds::<N, W>(&word, N::ONE, &come),
     );
     is_held
 }
