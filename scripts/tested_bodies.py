@@ -3,9 +3,11 @@
 
     scripts/tested_bodies.py [CRATE..]        those of all crates, or of these
 
-A crate lists them in must-fail/tested_bodies.md, as its wrong bodies are listed (scripts/wrong_bodies.py), each with a line `tests: CRATE`. Each is
-planted in a copy of the crates, and the tests of that crate are compiled with run-time checks and run by `rt try --test`, which proves nothing: at
-least one test has to fail. Prints a line for each body, and then 'N refused, M not refused'; the status is 0 if M is 0.
+A crate lists them in must-fail/tested_bodies.md, as its wrong bodies are listed (scripts/wrong_bodies.py), each with a line `tests: CRATE TEST..`, a
+crate of tests and those of its tests that fail with this body alone. It is planted in a copy of the crates, and the tests of that crate are compiled
+with run-time checks and run by `rt try --test`, which proves nothing: one of these tests has to fail. Bodies of which none names a test of another are
+planted together; if no test of one of them fails, each is tried alone. With a line `tests: CRATE` a body is tried alone, and some test has to fail.
+Prints a line for each body, and then 'N refused, M not refused'; the status is 0 if M is 0.
 """
 import os
 import re
@@ -32,18 +34,55 @@ def copied_to(folder):
                 shutil.copytree(f"{TOP}/crates/{crate}/{part}", f"{folder}/crates/{crate}/{part}")
 
 
-def refused_by(body):
-    """The tests that fail with a body, or None if none does, and what was said."""
+def tests_of(body):
+    """The crate of tests that a body names, and the tests that fail with it alone, if it names them."""
+    crate, *tests = body.tests.split()
+    return crate, set(tests)
+
+
+def fit_together(one, other):
+    """Whether two bodies of one crate of tests may be planted together."""
+    (crate, tests), (other_crate, other_tests) = tests_of(one), tests_of(other)
+    if crate != other_crate or not tests or not other_tests or tests & other_tests:
+        return False
+    return one.crate is not other.crate or not any(a.file == b.file and a.may_be(b) for a in one.functions() for b in other.functions())
+
+
+def batches(bodies):
+    """The bodies in lists of those that are planted together."""
+    found = []
+    for body in bodies:
+        batch = next((it for it in found if all(fit_together(body, other) for other in it)), None)
+        if batch is None:
+            found.append([body])
+        else:
+            batch.append(body)
+    return found
+
+
+def failing_with(bodies):
+    """The tests that fail with these bodies, or None if none was run or fails, and what was said."""
     with tempfile.TemporaryDirectory(prefix="tested-bodies-") as folder:
         copied_to(folder)
-        body.stand_in(f"{folder}/crates/{body.crate.name}")
+        for body in bodies:
+            body.stand_in(f"{folder}/crates/{body.crate.name}")
         how = {"stdin": subprocess.DEVNULL, "stdout": subprocess.PIPE, "stderr": subprocess.STDOUT, "errors": "replace"}
+        words = ["rt", "try", "--test", "--seconds", str(MOST_RUN)]
         try:
-            said = subprocess.run(["rt", "try", "--test", "--seconds", str(MOST_RUN)], cwd=f"{folder}/crates/{body.tests}", timeout=MOST, **how).stdout
+            said = subprocess.run(words, cwd=f"{folder}/crates/{tests_of(bodies[0])[0]}", timeout=MOST, **how).stdout
         except subprocess.TimeoutExpired:
             return None, f"no result in {MOST} seconds"
     failed = re.findall(r"^test (\S+) \.\.\. (?!ok$)", said, re.M)
     return (failed, said) if re.search(r"^tests: \d+$", said, re.M) and failed else (None, said)
+
+
+def tried(bodies):
+    """Each of these bodies, with those of its tests that fail, or with nothing if none does, and what was said."""
+    failed, said = failing_with(bodies)
+    answers = [(body, sorted(set(failed or []) & (tests_of(body)[1] or set(failed or []))), said) for body in bodies]
+    if len(bodies) > 1 and not all(found for _, found, _ in answers):
+        return [it for body in bodies for it in tried([body])]
+    return answers
 
 
 def main():
@@ -51,10 +90,11 @@ def main():
     bodies = [it for name, crate in crates.items() if not sys.argv[1:] or name in sys.argv[1:] for it in listed(crate, "tested_bodies")]
     with ThreadPoolExecutor(len(os.sched_getaffinity(0))) as pool:
         counts = {True: 0, False: 0}
-        for body, (failed, said) in zip(bodies, pool.map(refused_by, bodies)):
-            counts[failed is not None] += 1
-            how = f"refused, as it must be, by {body.tests}, {', '.join(failed[:3])}" if failed else "NOT REFUSED: " + " / ".join(said.strip().split("\n")[-3:])[:400]
-            print(f"tested body of {body.crate.name}, {body.title}: {how}", flush=True)
+        for answers in pool.map(tried, batches(bodies)):
+            for body, failed, said in answers:
+                counts[bool(failed)] += 1
+                how = f"refused by {tests_of(body)[0]} {' '.join(failed[:3])}" if failed else "NOT REFUSED: " + " / ".join(said.strip().split("\n")[-3:])[:400]
+                print(f"tested body of {body.crate.name}, {body.title}: {how}", flush=True)
     print(f"{counts[True]} refused, {counts[False]} not refused")
     return 1 if counts[False] else 0
 
