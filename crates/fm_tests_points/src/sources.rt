@@ -263,7 +263,7 @@ impl Calls {
 }
 
 // A gauge with these labels, which counts there.
-fn counting<LS: Drop>(calls: &Calls, labels: LS) -> Result<Counting<LS>, AllocError> {
+fn make_counting<LS: Drop>(calls: &Calls, labels: LS) -> Result<Counting<LS>, AllocError> {
     Ok(Counting {
         labels,
         types: calls.types.share()?,
@@ -277,7 +277,7 @@ fn counting<LS: Drop>(calls: &Calls, labels: LS) -> Result<Counting<LS>, AllocEr
 fn the_calls_of_a_metric(rt: HostRuntime) -> Result<(), Fail> {
     let alloc = rt.alloc();
     let calls = Calls::new(alloc)?;
-    let metric = Box::new(alloc, counting(&calls, ())?)?;
+    let metric = Box::new(alloc, make_counting(&calls, ())?)?;
     let want = "# TYPE t gauge\n# HELP t H\nt 5\n# EOF\n";
     expect_document(alloc, "t", None, metric, want)?;
     assert!(rt; calls.are_made_once());
@@ -288,7 +288,7 @@ fn the_calls_of_a_metric(rt: HostRuntime) -> Result<(), Fail> {
 fn the_calls_of_a_metric_that_is_refused(rt: HostRuntime) -> Result<(), Fail> {
     let alloc = rt.alloc();
     let calls = Calls::new(alloc)?;
-    let metric = Box::new(alloc, counting(&calls, [(Word("1a"), 1)])?)?;
+    let metric = Box::new(alloc, make_counting(&calls, [(Word("1a"), 1)])?)?;
     expect_refusal(alloc, metric, EncodeError::InvalidLabelName)?;
     assert!(rt; calls.are_made_once());
     Ok(())
