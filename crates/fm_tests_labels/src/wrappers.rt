@@ -72,7 +72,7 @@ fn an_ordered_set_without_labels(rt: HostRuntime) -> Result<(), Fail> {
 fn names_and_values_in_boxes(rt: HostRuntime) -> Result<(), Fail> {
     let alloc = rt.alloc();
     let name = Box::new(alloc, StaticStr("a"))?;
-    let labels = [(name, Box::new(alloc, 7u64)?)];
+    let labels = vec![in alloc; (name, Box::new(alloc, 7u64)?)]?;
     let metric = Box::new(alloc, OneMember::gauge(labels, ConstGauge::new(5i64)))?;
     expect_five(alloc, metric, "{a=\"7\"}")
 }
@@ -81,11 +81,11 @@ fn names_and_values_in_boxes(rt: HostRuntime) -> Result<(), Fail> {
 fn names_and_values_that_are_shared(rt: HostRuntime) -> Result<(), Fail> {
     let alloc = rt.alloc();
     let name = Arc::new(alloc, StaticStr("a"))?;
-    let labels = [(name, Arc::new(alloc, Some(7u64))?)];
+    let labels = vec![in alloc; (name, Arc::new(alloc, Some(7u64))?)]?;
     let metric = Box::new(alloc, OneMember::gauge(labels, ConstGauge::new(5i64)))?;
     expect_five(alloc, metric, "{a=\"7\"}")?;
     let name = Arc::new(alloc, StaticStr("a"))?;
-    let labels = [(name, Arc::new(alloc, None::<u64>)?)];
+    let labels = vec![in alloc; (name, Arc::new(alloc, None::<u64>)?)]?;
     let metric = Box::new(alloc, OneMember::gauge(labels, ConstGauge::new(5i64)))?;
     expect_five(alloc, metric, "")
 }
