@@ -1,10 +1,10 @@
 # For the scripts beside it, which read it: lays the crates and those of bench/ in a scratch folder, so that the gate doesn't prove the latter
-# each time. What was proved is kept beside them.
+# each time. What was proved is kept beside them, unless it is left out.
 #
-#   lay_out TOP FOLDER
+#   lay_out TOP FOLDER [without_proofs]
 
 lay_out() {
-    local top=$1 folder=$2 crate name file
+    local top=$1 folder=$2 proofs=${3:-} crate name file
     mkdir -p "$folder/crates"
     cp "$top/HANDLES" "$folder/"
     # The crates, with the work that is kept beside them, and the bench's own, whose files get their true endings.
@@ -15,7 +15,7 @@ lay_out() {
             while read -r file; do
                 cmp -s "$top/crates/$file" "$folder/crates/$file" || install -D -m 644 "$top/crates/$file" "$folder/crates/$file"
             done
-        [[ -d $folder/crates/$name/out || ! -d $crate/out ]] || cp -a "$crate/out" "$folder/crates/$name/out"
+        [[ $proofs || -d $folder/crates/$name/out || ! -d $crate/out ]] || cp -a "$crate/out" "$folder/crates/$name/out"
     done
     (cd "$top/bench" && find . -mindepth 2 -name "*.in") | while read -r file; do
         cmp -s "$top/bench/$file" "$folder/crates/${file%.in}" || install -D -m 644 "$top/bench/$file" "$folder/crates/${file%.in}"
