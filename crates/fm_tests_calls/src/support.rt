@@ -2,7 +2,7 @@
 ghost use Rattle.std.specs.Prelude.{◌≡◌, [], ◌∷◌, codes, replicate};
 ghost use Rattle.fm_grammar.specs.declared.MetricType.TheVariants.{Gauge};
 ghost use Rattle.fm_tests_calls.specs.declared.support.Job.TheVariants.{Pending, Running};
-ghost use Rattle.fm_tests_calls.specs.declared.support.Light.TheVariants.{Red, Yellow, Green};
+ghost use Rattle.fm_tests_calls.specs.declared.support.Light.TheVariants.{Red, Yellow, Green, Blue};
 ghost use Rattle.fm_tests_calls.specs.declared.support.Crowd.TheVariants.{Inside};
 
 use fastmetrics::encoder::{EncodeError, EncodeMetric, MetricEncoder};
