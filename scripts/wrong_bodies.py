@@ -56,9 +56,9 @@ class Function:
             self.first -= 1
         module = [it for it in file.removesuffix(".rt").split("/")[1:] if it not in ("lib", "main")]
         block = next((it for it in reversed(lines[:fn]) if BLOCK.match(it)), "") if is_within and indent else ""
-        head = IMPL.match(block)
+        head = IMPL.match(re.sub(r"<dyn (\w+)>", r"Dyn\1", block))
         # The type and the trait of a method, as a check joins them; nothing where they have parameters.
-        self.owner = head[2] + (head[1] or "") if head else ""
+        self.owner = head[2][:1].upper() + head[2][1:] + (head[1] or "") if head else ""
         # What --only takes: the end of the function's path, or the module.
         path = [self.owner, self.name] if head else [*module, self.name] if is_within and not indent else module
         self.path = "::".join(path)
