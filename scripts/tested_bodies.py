@@ -6,8 +6,8 @@
 A crate lists them in must-fail/tested_bodies.md, as its wrong bodies are listed (scripts/wrong_bodies.py), each with a line `tests: CRATE TEST..`, a
 crate of tests and those of its tests that fail with this body alone. It is planted in a copy of the crates, and the tests of that crate are compiled
 with run-time checks and run by `rt try --test`, which proves nothing: one of these tests has to fail. Bodies of which none names a test of another are
-planted together; if no test of one of them fails, each is tried alone. With a line `tests: CRATE` a body is tried alone, and some test has to fail.
-Prints a line for each body, and then 'N refused, M not refused'; the status is 0 if M is 0.
+planted together; if no test of one of them fails, each is tried alone, up to three times. With a line `tests: CRATE` a body is tried alone, and some
+test has to fail. Prints a line for each body, and then 'N refused, M not refused'; the status is 0 if M is 0.
 """
 import os
 import re
@@ -76,13 +76,16 @@ def failing_with(bodies):
     return (failed, said) if re.search(r"^tests: \d+$", said, re.M) and failed else (None, said)
 
 
-def tried(bodies):
+def tried(bodies, turns=3):
     """Each of these bodies, with those of its tests that fail, or with nothing if none does, and what was said."""
     failed, said = failing_with(bodies)
     answers = [(body, sorted(set(failed or []) & (tests_of(body)[1] or set(failed or []))), said) for body in bodies]
-    if len(bodies) > 1 and not all(found for _, found, _ in answers):
+    if all(found for _, found, _ in answers):
+        return answers
+    if len(bodies) > 1:
         return [it for body in bodies for it in tried([body])]
-    return answers
+    # A step that two threads break shows only where they meet.
+    return tried(bodies, turns - 1) if turns > 1 else answers
 
 
 def main():
