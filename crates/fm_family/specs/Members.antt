@@ -2,6 +2,7 @@
 use Rattle.std.specs.Prelude.{◌≡◌, ℕ, Bool, true, List, [], ◌∷◌, ◌++◌, take, Result, Ok, Err, MatchResult, ◌⊎◌, MatchOption, IsOkAnd}
 use denote.Ref.{Bor}
 use Rattle.std.specs.List.{IsDistinct}
+use Rattle.std.specs.Fn.{Called, Mut}
 use Rattle.std.specs.Map.{lookup, keys_of}
 use Rattle.fm_raw.specs.declared.error.MetricError.{MetricError}
 use Rattle.fm_raw.specs.declared.error.MetricError.TheVariants.{Memory}
@@ -38,3 +39,10 @@ OffersDifferent {L} {M} eq labels Points members = (pairs : List (L × M)) × Is
 -- the labels or the metric may return an error of their own
 abbrev pub MayFault : {L M : Type 0} → (L → Type 0) → (M → Type 0) → L × M → Type 0
 MayFault labels metric pair = labels pair.0 ⊎ metric pair.1
+
+-- a call of a closure at references to the label set and to the metric of a pair may return this answer, and leave the closure as `f'`
+pub record CalledAtMember {F L M : Type 0} (g : Mut F (Bor L × (Bor M × Unit {0})) Bool) (f : F) (pair : L × M) (answer : Bool) (f' : F) : Type 0 where
+  pub labels : Bor L
+  pub metric : Bor M
+  pub shows : (labels.now ≡ pair.0) × (metric.now ≡ pair.1)
+  pub called : Called g f (labels, (metric, tt)) answer f'

@@ -26,9 +26,9 @@ struct Shared<LS: EncodeLabelSet + Eq + Hash, M, MF, S: BuildHasher> {
 /// Metrics of one type by label set, protected by a lock. The clones of a family share them. The factory `MF` makes a
 /// metric when its label set is first used. The exposition has the members in the order in which they were made.
 ///
-/// A call waits while another thread makes a metric, and a call that makes a metric waits for all others. Neither the
-/// factory nor a closure that borrows a metric may call the same family: it would wait for ever. For the hasher `S` see
-/// `FamilyCore`.
+/// A call waits while another thread makes or removes a metric, and a call that makes or removes one waits for all others.
+/// Neither the factory nor a closure that borrows a metric may call the same family: it would wait for ever. For the hasher
+/// `S` see `FamilyCore`.
 pub struct Family<LS: EncodeLabelSet + Eq + Hash, M, MF, S: BuildHasher, H: Wait> {
     shared: Arc<Shared<LS, M, MF, S>, Global>,
     wait: H,
@@ -89,6 +89,42 @@ impl<
             Some(metric) => Some(f(metric)),
             None => None,
         }
+    }
+
+    /// How many members there are. It waits while another thread makes or removes a member, and takes no memory. Other
+    /// threads may have changed the number before the caller reads it.
+    pub fn len(&self) -> usize {
+        let core = self.shared.core.read(&self.wait);
+        core.len()
+    }
+
+    /// Removes the member of these labels, and returns whether there was one.
+    ///
+    /// The others keep their order, their values and their labels. A handle that was cloned out of the metric before
+    /// counts on, and is no longer in the exposition. If the labels are used again, their metric is new, and the last
+    /// member. The call waits for all other calls of this family, and takes no memory.
+    pub fn remove(&self, labels: &LS) -> bool {
+        let mut core = self.shared.core.write(&self.wait);
+        core.remove(labels)
+    }
+
+    /// Removes each member, as `remove` does. The factory and the hasher stay.
+    ///
+    /// The call waits for all other calls of this family, and takes no memory.
+    pub fn clear(&self) {
+        let mut core = self.shared.core.write(&self.wait);
+        core.clear();
+    }
+
+    /// Removes each member at which `keep` returns `false`, as `remove` does.
+    ///
+    /// `keep` is called once for each member, in their order, and may not call the same family: it would wait for ever. The
+    /// call waits for all other calls of this family, which wait until it returns. It takes no memory.
+    pub fn retain<F: FnMut(&LS, &M) -> bool>(&self, keep: F)
+        requires { F.IsAlwaysCallable keep }
+    {
+        let mut core = self.shared.core.write(&self.wait);
+        core.retain(keep);
     }
 }
 

@@ -1,10 +1,11 @@
 // The members of a family, each with its labels as they are written.
-ghost use Rattle.std.specs.Prelude.{◌≡◌, ◌<◌, ◌↔◌, ◌++◌, IsTrue, OnOk, OnErr, IfSome, Some, None, Ok, Any, List, option_copied, [], ◌∷◌, length, slice_get, is_some};
-ghost use Rattle.indexmap.specs.IndexMap.{get, values, IsUnique};
+ghost use Rattle.std.specs.Prelude.{◌≡◌, ◌<◌, ◌↔◌, ◌++◌, IsTrue, OnOk, OnErr, IfSome, Some, None, Ok, Any, List, option_copied, [], ◌∷◌, length, slice_get, is_some, swap, take};
+ghost use Rattle.std.specs.List.Retain.{IsFiltered};
+ghost use Rattle.indexmap.specs.IndexMap.{get, values, IsUnique, shift_remove_entry};
 ghost use Rattle.fm_encoder.specs.Points.{Member, MembersClean, members_samples};
 ghost use Rattle.fm_encoder.specs.Output.{appended};
 ghost use Rattle.fm_encoder.specs.Hands.{HandsMembers, OffersOf};
-ghost use Rattle.fm_family.specs.Members.{OffersFirst, MayFault};
+ghost use Rattle.fm_family.specs.Members.{OffersFirst, MayFault, CalledAtMember};
 
 use fm_encode_error::EncodeError;
 use fm_encoder::collector::{self, KeptLabels};
@@ -112,6 +113,71 @@ impl<LS: EncodeLabelSet + Eq + Hash + Drop, M: Drop, S: BuildHasher> KeptMembers
                 Err(AllocError)
             }
         }
+    }
+}
+
+impl<LS: EncodeLabelSet + Eq + Hash + Drop, M: Drop, S: BuildHasher> KeptMembers<LS, M, S> {
+    // Removes the member of these labels, and returns whether there was one. The others keep their order.
+    pub(crate) fn remove(&mut self, labels: &LS) -> bool
+        ensures found { result ≡ is_some (get LS.eq self.old labels.now) }
+        ensures removed { self.new.entries ≡ shift_remove_entry (LS.eq labels.now) self.old.entries }
+        ensures different { IsUnique LS.eq self.new }
+    {
+        let Some((place, _, _)) = self.members.shift_remove_full(labels) else {
+            return false;
+        };
+        self.labels.remove(place);
+        true
+    }
+
+    // Removes each member.
+    pub(crate) fn clear(&mut self)
+        ensures removed { self.new.entries ≡ [] }
+        ensures different { IsUnique LS.eq self.new }
+    {
+        self.members.clear();
+        self.labels.clear();
+    }
+
+    // Exchanges the members at two indices.
+    fn exchange(&mut self, first: usize, second: usize)
+        requires first { first < length self.old.entries }
+        requires second { second < length self.old.entries }
+        ensures { self.new.entries ≡ swap self.old.entries first second }
+    {
+        if first == second {
+            return;
+        }
+        self.members.swap_indices(first, second);
+        self.labels.swap(first, second);
+    }
+
+    // Keeps the first members only, at most this many.
+    fn truncate(&mut self, len: usize)
+        ensures cut { self.new.entries ≡ take len self.old.entries }
+        ensures different { IsUnique LS.eq self.new }
+    {
+        self.members.truncate(len);
+        self.labels.truncate(len);
+    }
+
+    // Keeps the members at which the closure returns `true`, in their order. It is called once for each, in their order.
+    pub(crate) fn retain<F: FnMut(&LS, &M) -> bool>(&mut self, mut keep: F)
+        requires { F.IsAlwaysCallable keep }
+        ensures kept { IsFiltered (CalledAtMember F.FnMut) keep self.old.entries self.new.entries }
+        ensures different { IsUnique LS.eq self.new }
+    {
+        let mut kept = 0;
+        for place in 0..self.len() {
+            let Some((labels, metric)) = self.members.get_index(place) else {
+                unreachable!()
+            };
+            if keep(labels, metric) {
+                self.exchange(kept, place);
+                kept += 1;
+            }
+        }
+        self.truncate(kept);
     }
 }
 

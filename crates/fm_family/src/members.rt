@@ -1,12 +1,13 @@
 //! The members of a family: metrics by label set, in the order in which they were made.
-ghost use Rattle.std.specs.Prelude.{◌≡◌, ◌<◌, ◌↔◌, IfOk, IsTrue, Some, None, Ok, Any, List, option_copied, [], length, slice_get, IsSome, IsOk};
+ghost use Rattle.std.specs.Prelude.{◌≡◌, ◌<◌, ◌↔◌, IfOk, IsTrue, Some, None, Ok, Any, List, option_copied, [], length, slice_get, is_some, IsSome, IsOk};
 ghost use Rattle.std.specs.Borrow.{sem};
-ghost use Rattle.indexmap.specs.IndexMap.{get, values, IsUnique};
+ghost use Rattle.std.specs.List.Retain.{IsFiltered};
+ghost use Rattle.indexmap.specs.IndexMap.{get, values, IsUnique, shift_remove_entry};
 ghost use Rattle.fm_encoder.specs.Points.{Member, MembersClean, members_samples};
 ghost use Rattle.fm_encoder.specs.Output.{appended};
 ghost use Rattle.fm_encoder.specs.Hands.{HandsMembers, OffersOf};
 ghost use Rattle.fm_family.specs.MemberLends.{ends_with_member};
-ghost use Rattle.fm_family.specs.Members.{ClonesEqual, GetsOrAdds, OffersFirst, MayFault};
+ghost use Rattle.fm_family.specs.Members.{ClonesEqual, GetsOrAdds, OffersFirst, MayFault, CalledAtMember};
 ghost use Rattle.fm_family.specs.inside.Indexed.{HoldsMetric};
 
 use crate::factory::MetricFactory;
@@ -130,6 +131,42 @@ impl<LS: EncodeLabelSet + Clone + Eq + Hash + Drop, M: Drop, S: BuildHasher> Fam
             Ok(place) => Ok(self.at(place)),
             Err(refusal) => Err(refusal),
         }
+    }
+}
+
+impl<LS: EncodeLabelSet + Eq + Hash + Drop, M: Drop, S: BuildHasher> FamilyCore<LS, M, S> {
+    /// Removes the metric of these labels, and returns whether there was one.
+    ///
+    /// The others keep their order, their values and their labels. If the labels are used again, their metric is new and
+    /// the last. It takes no memory, and time in proportion to the number of metrics.
+    pub fn remove(&mut self, labels: &LS) -> bool
+        ensures found { result ≡ is_some (get LS.eq self.old.members labels.now) }
+        ensures removed { self.new.members.entries
+            ≡ shift_remove_entry (LS.eq labels.now) self.old.members.entries }
+        ensures different { IsUnique LS.eq self.new.members }
+    {
+        self.members.remove(labels)
+    }
+
+    /// Removes each metric. It takes no memory, and keeps the memory that it has for new ones.
+    pub fn clear(&mut self)
+        ensures removed { self.new.members.entries ≡ [] }
+        ensures different { IsUnique LS.eq self.new.members }
+    {
+        self.members.clear();
+    }
+
+    /// Removes each metric at which `keep` returns `false`. The others keep their order, their values and their labels.
+    ///
+    /// `keep` is called once for each metric, in their order, with its labels. It takes no memory, and time in proportion
+    /// to the number of metrics.
+    pub fn retain<F: FnMut(&LS, &M) -> bool>(&mut self, keep: F)
+        requires { F.IsAlwaysCallable keep }
+        ensures kept { IsFiltered (CalledAtMember F.FnMut) keep self.old.members.entries
+            self.new.members.entries }
+        ensures different { IsUnique LS.eq self.new.members }
+    {
+        self.members.retain(keep);
     }
 }
 

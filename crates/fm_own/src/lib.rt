@@ -11,4 +11,4 @@ pub use label::{LabelValue, encode_labels};
 pub use labeled::Labeled;
 pub use pairs::{PairFamily, with_pairs};
 pub use registering::{add, add_with_unit};
-pub use texts::{DefaultFamily, TextFamily, with_texts};
+pub use texts::{DefaultFamily, TextFamily, remove_texts, with_texts};

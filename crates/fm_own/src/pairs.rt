@@ -11,6 +11,8 @@ use std::hash::Hash;
 use std::sync::Wait;
 
 /// Metrics by `N` pairs of a text of the program and a value of the type `V`, such as a number.
+///
+/// A member is removed by `Family::remove`, which takes a reference to the array of pairs and takes no memory.
 pub type PairFamily<V, M, H, const N: usize> = DefaultFamily<[(StaticStr, V); N], M, H>;
 
 /// Calls `f` with the metric of these labels, and returns its result. If there is none, `try_default` makes one, which is added

@@ -50,3 +50,20 @@ pub fn with_texts<M: TryDefault<H> + Drop, H: Wait + Clone + Drop, R, F: FnOnce(
     };
     family.with_or_new(&labels, f)
 }
+
+/// Removes the member of these labels, and returns whether there was one.
+///
+/// It takes memory for the labels. If memory runs out, it fails with `Memory`, and the members stay as they were. Else it does as
+/// `Family::remove` does, and waits as that.
+pub fn remove_texts<M: TryDefault<H> + Drop, H: Wait + Clone + Drop>(
+    alloc: Global,
+    family: &TextFamily<M, H>,
+    labels: &[(&str, &str)],
+) -> Result<bool, MetricError>
+    ensures { IfErr result (λ e. e ≡ Memory) }
+{
+    match owned_labels(alloc, labels) {
+        Ok(labels) => Ok(family.remove(&labels)),
+        Err(_) => Err(MetricError::Memory),
+    }
+}
