@@ -32,6 +32,9 @@ pub mod format {
             encode, encode_exposition,
         };
         pub use fm_reader::{ReadError, read};
+
+        /// The content type of a document, for the header of a server's answer (OpenMetrics 1.0.0, "Overall Structure").
+        pub const CONTENT_TYPE: &str = "application/openmetrics-text; version=1.0.0; charset=utf-8";
     }
 }
 
@@ -48,8 +51,8 @@ pub mod laws {
 }
 
 pub mod metrics {
-    //! The types of metrics: those whose value is fixed, and those that threads count with.
-    pub use fm_constant_metrics::{info, unknown};
+    //! The types of metrics: those whose value is fixed or asked for, and those that threads count with.
+    pub use fm_constant_metrics::{info, source, unknown};
     pub use fm_state_set::state_set;
 
     pub mod counter {
@@ -69,7 +72,9 @@ pub mod metrics {
     pub mod family {
         //! Families: metrics of one type by label set.
         pub use fm_family::{DefaultFactory, Family, FamilyCore, MetricFactory};
-        pub use fm_own::{DefaultFamily, PairFamily, TextFamily, with_pairs, with_texts};
+        pub use fm_own::{
+            DefaultFamily, PairFamily, TextFamily, remove_texts, with_pairs, with_texts,
+        };
     }
 
     pub mod labeled {

@@ -1,0 +1,151 @@
+//! Gauges and counters that ask a source for their number each time they are written.
+ghost use Rattle.std.specs.Prelude.{◌≡◌, [], ◌∷◌, None, ⊤};
+ghost use Rattle.fm_grammar.specs.declared.MetricType.TheVariants.{Gauge, Counter};
+ghost use Rattle.fm_encoder.specs.Points.{GaugePoint, CounterPoint};
+
+use fm_encode_error::EncodeError;
+use fm_encoder::{
+    EncodeCounterValue, EncodeGaugeValue, EncodeMetric, EncodePoint, MetricEncoder, PointEncoder,
+};
+use fm_raw::{MetricType, TypedMetric};
+use std::marker::PhantomData;
+use std::time::Duration;
+
+/// Tells a number when it is asked, such as the length of a queue.
+pub trait NumberSource<N> {
+    /// Holds of each number that the source may tell. If nothing is said, it may tell any.
+    ghost tells: { Self → N → Type 0 } = { λ _ _. ⊤ };
+
+    /// The number at this moment.
+    fn read(&self) -> N
+        ensures { tells self.now result };
+}
+
+/// A gauge whose value is what a source tells each time the gauge is written.
+///
+/// The source is asked once for each document, and tells an `i32`, `i64`, `isize`, `u32`, `u64` or `Fixed`. Whoever writes the
+/// document waits for it. No call takes memory but the source's own.
+#[derive(Drop)]
+pub struct SourceGauge<N, R> {
+    source: R,
+    value: PhantomData<N>,
+}
+
+impl<N, R: NumberSource<N>> SourceGauge<N, R> {
+    /// A gauge that asks this source.
+    pub fn new(source: R) -> SourceGauge<N, R>
+        ensures { result.source ≡ source }
+    {
+        SourceGauge {
+            source,
+            value: PhantomData,
+        }
+    }
+}
+
+impl<N, R: NumberSource<N>> TypedMetric for SourceGauge<N, R> {
+    ghost TYPE = { Gauge };
+
+    const TYPE: MetricType = MetricType::Gauge;
+}
+
+impl<N: EncodeGaugeValue + Drop, R: NumberSource<N>> EncodePoint for SourceGauge<N, R> {
+    ghost points = { λ g ps.
+        (value : N) × R.tells g.source value × (ps ≡ GaugePoint (N.numbers value) ∷ []) };
+
+    ghost may_fault = { λ g. (value : N) × R.tells g.source value × N.may_fault value };
+
+    fn encode(&self, points: &mut PointEncoder) -> Result<(), EncodeError> {
+        let value = self.source.read();
+        points.encode_gauge(&value)
+    }
+}
+
+impl<N: EncodeGaugeValue + Send + Sync + Drop, R: NumberSource<N> + Send + Sync + Drop> EncodeMetric
+    for SourceGauge<N, R> {
+    ghost types = { λ _ t. t ≡ Gauge };
+
+    ghost offers = { λ g _ ms. (value : N)
+        × R.tells g.source value
+        × (ms ≡ record { labels = []; point = GaugePoint (N.numbers value) } ∷ []) };
+
+    ghost may_fault = { λ g. (value : N) × R.tells g.source value × N.may_fault value };
+
+    fn encode(&self, encoder: &mut MetricEncoder) -> Result<(), EncodeError> {
+        encoder.encode(&(), self)
+    }
+
+    fn metric_type(&self) -> MetricType {
+        MetricType::Gauge
+    }
+
+    fn timestamp(&self) -> Option<Duration> {
+        None
+    }
+}
+
+/// A counter whose total is what a source tells each time the counter is written, such as the requests that another library
+/// counts. It has no time of creation.
+///
+/// The source is asked as that of a `SourceGauge` is, and tells a `u32`, `u64`, `usize` or `Fixed`. That the total is not
+/// negative and never falls is its own task.
+#[derive(Drop)]
+pub struct SourceCounter<N, R> {
+    source: R,
+    total: PhantomData<N>,
+}
+
+impl<N, R: NumberSource<N>> SourceCounter<N, R> {
+    /// A counter that asks this source.
+    pub fn new(source: R) -> SourceCounter<N, R>
+        ensures { result.source ≡ source }
+    {
+        SourceCounter {
+            source,
+            total: PhantomData,
+        }
+    }
+}
+
+impl<N, R: NumberSource<N>> TypedMetric for SourceCounter<N, R> {
+    ghost TYPE = { Counter };
+
+    const TYPE: MetricType = MetricType::Counter;
+}
+
+impl<N: EncodeCounterValue + Drop, R: NumberSource<N>> EncodePoint for SourceCounter<N, R> {
+    ghost points = { λ c ps.
+        (total : N) × R.tells c.source total × (ps ≡ CounterPoint (N.numbers total) [] None ∷ []) };
+
+    ghost may_fault = { λ c. (total : N) × R.tells c.source total × N.may_fault total };
+
+    fn encode(&self, points: &mut PointEncoder) -> Result<(), EncodeError> {
+        let total = self.source.read();
+        points.encode_counter(&total, None::<&()>, None)
+    }
+}
+
+impl<
+    N: EncodeCounterValue + Send + Sync + Drop,
+    R: NumberSource<N> + Send + Sync + Drop,
+> EncodeMetric for SourceCounter<N, R> {
+    ghost types = { λ _ t. t ≡ Counter };
+
+    ghost offers = { λ c _ ms. (total : N)
+        × R.tells c.source total
+        × (ms ≡ record { labels = []; point = CounterPoint (N.numbers total) [] None } ∷ []) };
+
+    ghost may_fault = { λ c. (total : N) × R.tells c.source total × N.may_fault total };
+
+    fn encode(&self, encoder: &mut MetricEncoder) -> Result<(), EncodeError> {
+        encoder.encode(&(), self)
+    }
+
+    fn metric_type(&self) -> MetricType {
+        MetricType::Counter
+    }
+
+    fn timestamp(&self) -> Option<Duration> {
+        None
+    }
+}
