@@ -18,7 +18,7 @@ export scratch
 failed=0
 stories=0
 requests_in_all=0
-[[ $# -gt 0 ]] || set -- fm_tests_memory fm_tests_memory_metrics fm_tests_roots expose
+[[ $# -gt 0 ]] || set -- fm_tests_memory fm_tests_roots
 
 # How many requests a test makes.
 count() {
@@ -71,8 +71,8 @@ done
 
 # Writing a document of 1,000 lines asks for memory at most twice.
 if [[ -x $scratch/fm_tests_memory ]]; then
-    all=$(count fm_tests_memory memory::lines::prints_without_refusals) &&
-        before=$(count fm_tests_memory memory::lines::collects_without_refusals) || exit 1
+    all=$(count fm_tests_memory trees::lines::prints_without_refusals) &&
+        before=$(count fm_tests_memory trees::lines::collects_without_refusals) || exit 1
     echo "writing 1,000 lines asks for memory $((all - before)) times"
     [[ $((all - before)) -le 2 ]] || { echo "FAILED: more than twice"; failed=1; }
 fi

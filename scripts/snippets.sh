@@ -1,9 +1,10 @@
 #!/usr/bin/env bash
-# Compares each piece of code in README.md and docs/ with the file that it is cut from, and fails at a line of more than 130
-# columns. The fenced block after a line
+# Compares each piece of code in README.md, CONTRIBUTING.md and docs/ with the file that it is cut from, and fails at a line of more
+# than 130 columns. The fenced block after a line
 # `<!-- cut: FILE -->` is that file, whole; after a line `<!-- cut: FILE | FIRST | LAST -->` it is the part from the line that begins
-# with FIRST to the next one that ends with LAST, without the indentation of its first line. Fails where they differ, where a file
-# has no such part, and where a block of code names no file. With --write it puts the files' text there.
+# with FIRST to the next one that ends with LAST, without the indentation of its first line; a LAST of `}` is one that stands no
+# deeper than that first line. Fails where they differ, where a file has no such part, and where a block of code names no file. With
+# --write it puts the files' text there.
 set -eu
 cd "$(dirname "$0")/.."
 
@@ -11,7 +12,9 @@ cut_again() {
     awk '
         function fail(why) { print FILENAME ", line " FNR ": " why > "/dev/stderr"; exit 1 }
         function begins(line, text) { sub(/^ +/, "", line); return index(line, text) == 1 }
-        function ends(line, text) { return substr(line, length(line) - length(text) + 1) == text }
+        function ends(line, text) {
+            return substr(line, length(line) - length(text) + 1) == text && (text != "}" || match(line, /[^ ]/) - 1 <= indent)
+        }
         /^<!-- cut: .* -->$/ {
             parts = split(substr($0, 11, length($0) - 14), part, " [|] ")
             file = part[1]
@@ -37,7 +40,7 @@ cut_again() {
 }
 
 differing=0
-for document in README.md docs/*.md; do
+for document in README.md CONTRIBUTING.md docs/*.md; do
     fresh=$(mktemp)
     cut_again "$document" > "$fresh"
     if ! cmp -s "$fresh" "$document"; then
@@ -51,7 +54,7 @@ for document in README.md docs/*.md; do
     fi
     rm -f "$fresh"
 done
-if LC_ALL=C.UTF-8 grep -nE '^.{131,}' README.md docs/*.md >&2; then
+if LC_ALL=C.UTF-8 grep -nE '^.{131,}' README.md CONTRIBUTING.md docs/*.md >&2; then
     echo "a line of a document has at most 130 columns" >&2
     differing=1
 fi

@@ -7,7 +7,9 @@ A crate lists them in must-fail/tested_bodies.md, as its wrong bodies are listed
 crate of tests and those of its tests that fail with this body alone. It is planted in a copy of the crates, and the tests of that crate are compiled
 with run-time checks and run by `rt try --test`, which proves nothing: one of these tests has to fail. Bodies of which none names a test of another are
 planted together; if no test of one of them fails, each is tried alone, up to three times. With a line `tests: CRATE` a body is tried alone, and some
-test has to fail. Prints a line for each body, and then 'N refused, M not refused'; the status is 0 if M is 0.
+test has to fail. A body with which a test never ends has a line `seconds: N`, after which a test has failed. A test `cases::NAME` of a program is a case
+of its cases.toml (scripts/cases.py), and `requests::N` that it asks for memory fewer than N times on the input beside it; `requests::N::TEST` says so of
+a test. Prints a line for each body, and then 'N refused, M not refused'; the status is 0 if M is 0.
 """
 import os
 import re
@@ -17,10 +19,12 @@ import sys
 import tempfile
 from concurrent.futures import ThreadPoolExecutor
 
-from wrong_bodies import TOP, crates_of, listed
+import cases
+import kept
+from wrong_bodies import KIT, TOP, crates_of, listed
 
-# What one run of the tests may take beside other work, in seconds, and with its compilation.
-MOST_RUN, MOST = 600, 3000
+# What one test may take beside other work, in seconds, and all with their compilation.
+MOST_RUN, MOST = "600", 3000
 
 
 def copied_to(folder):
@@ -40,10 +44,22 @@ def tests_of(body):
     return crate, set(tests)
 
 
+def are_cases(body):
+    """Whether cases of a program have to refuse a body, and no tests."""
+    return " cases::" in body.tests
+
+
+def request_of(body):
+    """The request for memory that a program or a test must not make, if it has to refuse a body."""
+    return body.tests.partition(" requests::")[2]
+
+
 def fit_together(one, other):
     """Whether two bodies of one crate of tests may be planted together."""
     (crate, tests), (other_crate, other_tests) = tests_of(one), tests_of(other)
-    if crate != other_crate or not tests or not other_tests or tests & other_tests:
+    if crate != other_crate or one.seconds != other.seconds or are_cases(one) != are_cases(other) or request_of(one) or request_of(other):
+        return False
+    if not tests or not other_tests or tests & other_tests:
         return False
     return one.crate is not other.crate or not any(a.file == b.file and a.may_be(b) for a in one.functions() for b in other.functions())
 
@@ -66,8 +82,14 @@ def failing_with(bodies):
         copied_to(folder)
         for body in bodies:
             body.stand_in(f"{folder}/crates/{body.crate.name}")
+        if are_cases(bodies[0]):
+            failed, said = cases.failing(tests_of(bodies[0])[0], f"{folder}/crates")
+            return ([f"cases::{it}" for it in failed] if failed else None), said
+        if request_of(bodies[0]):
+            is_one_more, said = cases.asks_for_more(tests_of(bodies[0])[0], f"{folder}/crates", request_of(bodies[0]))
+            return ([f"requests::{request_of(bodies[0])}"] if is_one_more else None), said
         how = {"stdin": subprocess.DEVNULL, "stdout": subprocess.PIPE, "stderr": subprocess.STDOUT, "errors": "replace"}
-        words = ["rt", "try", "--test", "--seconds", str(MOST_RUN)]
+        words = ["rt", "try", "--test", "--seconds", bodies[0].seconds or MOST_RUN]
         try:
             said = subprocess.run(words, cwd=f"{folder}/crates/{tests_of(bodies[0])[0]}", timeout=MOST, **how).stdout
         except subprocess.TimeoutExpired:
@@ -88,12 +110,27 @@ def tried(bodies, turns=3):
     return tried(bodies, turns - 1) if turns > 1 else answers
 
 
+def tried_or_kept(bodies, crates):
+    """The same, or what was refused before on this machine (scripts/kept.py)."""
+    crate = crates[tests_of(bodies[0])[0]]
+    scripts = [f"{TOP}/scripts/{name}.py" for name in ("tested_bodies", "wrong_bodies", "cases")]
+    scripts += [f"{crate.folder}/cases.toml"] * are_cases(bodies[0]) + [f"{crate.folder}/stdin"] * request_of(bodies[0]).isdigit()
+    key = kept.sum_of(KIT, scripts, [crate, *crate.below(crates)], bodies)
+    found = kept.given(key)
+    if found:
+        return [(body, failed, "") for body, failed in zip(bodies, found)]
+    answers = tried(bodies)
+    if all(failed for _, failed, _ in answers):
+        kept.keep(key, [failed for _, failed, _ in sorted(answers, key=lambda it: bodies.index(it[0]))])
+    return answers
+
+
 def main():
     crates = crates_of()
     bodies = [it for name, crate in crates.items() if not sys.argv[1:] or name in sys.argv[1:] for it in listed(crate, "tested_bodies")]
     with ThreadPoolExecutor(len(os.sched_getaffinity(0))) as pool:
         counts = {True: 0, False: 0}
-        for answers in pool.map(tried, batches(bodies)):
+        for answers in pool.map(lambda it: tried_or_kept(it, crates), batches(bodies)):
             for body, failed, said in answers:
                 counts[bool(failed)] += 1
                 how = f"refused by {tests_of(body)[0]} {' '.join(failed[:3])}" if failed else "NOT REFUSED: " + " / ".join(said.strip().split("\n")[-3:])[:400]

@@ -14,7 +14,7 @@ and fails as one does that is NOT REFUSED. It has to become another body, or one
 
 The libraries below a crate have to be built, in the crates' out/rlib, as `rt ci` leaves them. With --follow LOG, the output of an `rt ci` that
 still runs, a crate is tried once it is proved there, with all processors but one until the run ends; the libraries are linked into a
-folder as they are proved, since the run's end may put back older ones. Prints a line for each wrong body, and then 'N refused, M not refused';
+folder as they are proved, since the run's end may put back older ones. What was refused before on this machine isn't tried again (scripts/kept.py). Prints a line for each wrong body, and then 'N refused, M not refused';
 the status is 0 if M is 0.
 """
 import argparse
@@ -26,6 +26,8 @@ import sys
 import tempfile
 import threading
 import time
+
+import kept
 
 TOP = os.path.dirname(os.path.dirname(os.path.realpath(__file__)))
 KIT = os.path.dirname(subprocess.run(["rt", "doc"], stdout=subprocess.PIPE, text=True, check=True).stdout.strip())
@@ -84,7 +86,7 @@ class WrongBody:
     """A mistake in functions of a file: pairs of an old and a new text, one line each."""
 
     def __init__(self, crate, title):
-        self.crate, self.title, self.tests, self.file, self.pairs = crate, title, "", "", []
+        self.crate, self.title, self.tests, self.seconds, self.file, self.pairs = crate, title, "", "", "", []
 
     def functions(self):
         """The functions that it changes."""
@@ -113,6 +115,8 @@ def listed(crate, name):
             found.append(WrongBody(crate, text))
         elif word == "tests:":
             found[-1].tests = text
+        elif word == "seconds:":
+            found[-1].seconds = text
         elif word == "file:":
             found[-1].file = text
         elif word == "old:":
@@ -163,7 +167,7 @@ class Crate:
         words += ["--antt-project", f"{KIT}/rattle/logic/antt-project.json", "--logic-built", f"{KIT}/logic_built"]
         return [*words, "--links", f"{self.name}=", "--jobs", "1"]
 
-    def checked_with(self, wrongs, crates, run, kept):
+    def checked_with(self, wrongs, crates, run, proved):
         """What a check of the functions of these wrong bodies says of a copy in which they stand. What is proved is kept for the next."""
         with tempfile.TemporaryDirectory(prefix="wrong-bodies-") as room:
             for part in ("src", "specs", "proofs"):
@@ -174,18 +178,25 @@ class Crate:
             paths = {it.path for wrong in wrongs for it in wrong.functions()}
             only = [word for path in sorted(paths) for word in ("--only", path)] if "" not in paths else []
             how = {"stdin": subprocess.DEVNULL, "stdout": subprocess.PIPE, "stderr": subprocess.STDOUT, "errors": "replace"}
-            return subprocess.run([*self.words(crates, run), "--incremental", kept, *only], cwd=room, **how).stdout
+            return subprocess.run([*self.words(crates, run), "--incremental", proved, *only], cwd=room, **how).stdout
 
     def tried(self, crates, run):
         """Each of its wrong bodies, with the least that is said of it: the kind of what refuses it and its text, or None."""
         answers = []
-        with tempfile.TemporaryDirectory(prefix="wrong-bodies-kept-") as kept:
+        with tempfile.TemporaryDirectory(prefix="wrong-bodies-kept-") as proved:
             for batch in self.batches():
-                said = self.checked_with(batch, crates, run, kept)
-                for wrong in batch:
-                    named = sorted(it for function in wrong.functions() for it in function.refusals(said)) if is_refusal(said) else []
-                    answers.append((wrong, named[0] if named else None))
+                key = kept.sum_of(KIT, [os.path.realpath(__file__)], [self, *self.below(crates)], batch)
+                found = kept.given(key) or self.refusals_of(batch, crates, run, proved)
+                if all(it and it[0] < 2 for it in found):
+                    kept.keep(key, found)
+                answers += zip(batch, found)
         return answers
+
+    def refusals_of(self, batch, crates, run, proved):
+        """The same of those that are tried together."""
+        said = self.checked_with(batch, crates, run, proved)
+        named = [sorted(it for function in wrong.functions() for it in function.refusals(said)) if is_refusal(said) else [] for wrong in batch]
+        return [it[0] if it else None for it in named]
 
 
 def is_refusal(said):

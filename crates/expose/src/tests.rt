@@ -1,110 +1,15 @@
-//! What the program prints for each scene, and for faults.
-ghost use Rattle.std.specs.Prelude.{IfOk};
-ghost use Rattle.fastmetrics.specs.HasHistory.{HasHistory};
-
-// A test alone can make a box of a metric that waits by the handle of the runtime: so it writes the calls of these two scenes.
-
-// The calls of the scene `histogram`.
-macro_rules! histogram_calls {
-    ($rt:expr) => {
-        match numbers_histogram($rt, $rt.alloc()) {
-            Ok((name, help, numbers)) => one_metric($rt.alloc(), name, help, numbers),
-            Err(fault) => Err(fault),
-        }
-    };
-}
-
-// The calls of the scene `tree`.
-macro_rules! tree_calls {
-    ($rt:expr) => {
-        match application_metrics($rt, $rt.alloc()) {
-            Ok((requests, by_kind, queries)) => application($rt.alloc(), requests, by_kind, queries),
-            Err(fault) => Err(fault),
-        }
-    };
-}
-
-mod memory;
-mod scenes;
-
-use crate::calls::{all_accepted, one_metric, path_of};
-use crate::histogram::numbers_histogram;
+//! What the program says of faults, and a word that is no text.
+use crate::calls::all_accepted;
 use crate::output::{Fault, finish};
-use crate::scene::{Scene, choose};
-use crate::tree::{application, application_metrics, production};
+use crate::scene_of_words;
 use fastmetrics::metrics::tally::TallyError;
 use fastmetrics::raw::MetricError;
 use fastmetrics::raw::bucket::BucketError;
 use fastmetrics::registry::{Registry, RegistryError};
-use scenes::{filled, states_calls, tally_calls};
 use std::alloc::Global;
+use std::env::{Env, FillError};
 use std::io::{self, ErrorKind, Write};
 use std::test::Fail;
-
-const JOBS: &str = "\
-# TYPE jobs counter
-# HELP jobs Jobs done
-jobs_total 10100
-# EOF
-";
-
-const NUMBERS: &str = "\
-# TYPE my_histogram histogram
-# HELP my_histogram My histogram help
-my_histogram_bucket{le=\"1.0\"} 1
-my_histogram_bucket{le=\"2.0\"} 2
-my_histogram_bucket{le=\"4.0\"} 4
-my_histogram_bucket{le=\"8.0\"} 8
-my_histogram_bucket{le=\"16.0\"} 16
-my_histogram_bucket{le=\"+Inf\"} 100
-my_histogram_count 100
-my_histogram_sum 5050.0
-# EOF
-";
-
-const TASK: &str = "\
-# TYPE my_stateset stateset
-# HELP my_stateset My stateset help
-my_stateset{my_stateset=\"pending\"} 0
-my_stateset{my_stateset=\"running\"} 1
-my_stateset{my_stateset=\"completed\"} 0
-my_stateset{my_stateset=\"failed\"} 0
-# EOF
-";
-
-const APPLICATION: &str = "\
-# TYPE myapp_requests counter
-# HELP myapp_requests Total requests processed
-myapp_requests_total{env=\"prod\"} 1
-# TYPE myapp_http_requests counter
-# HELP myapp_http_requests Total HTTP requests
-myapp_http_requests_total{env=\"prod\",method=\"Get\",status=\"200\"} 1
-# TYPE myapp_database_mysql_queries counter
-# HELP myapp_database_mysql_queries Total MySQL queries
-myapp_database_mysql_queries_total{env=\"prod\",engine=\"innodb\"} 7
-# EOF
-";
-
-#[test]
-fn words_name_scenes(rt: HostRuntime) -> Result<(), Fail> {
-    let alloc = rt.alloc();
-    assert!(rt; choose(&[]).is_none());
-    for (word, scene) in [
-        ("empty", Some(Scene::Empty)),
-        ("tally", Some(Scene::Tally)),
-        ("histogram", Some(Scene::Histogram)),
-        ("states", Some(Scene::States)),
-        ("tree", Some(Scene::Tree)),
-        ("", None),
-        ("Tally", None),
-        ("tally ", None),
-    ] {
-        let is_named = choose(&path_of(alloc, &[word])?) == scene;
-        let is_alone = choose(&path_of(alloc, &[word, "tally"])?).is_none();
-        assert!(rt; is_named && is_alone, "{word}");
-    }
-    Ok(())
-}
 
 // Whether this fault gives this status, and is said and nothing else.
 fn is_said(alloc: Global, fault: Fault, status: u8, said: &str) -> bool {
@@ -178,30 +83,6 @@ fn writers_that_take_nothing(rt: HostRuntime) {
     assert!(rt; is_fault_of_writer(rt.alloc(), false, "fault: encode 15\n"));
 }
 
-// Whether the program ends well with this registry, and prints this document and nothing else.
-fn prints(alloc: Global, made: Result<Registry, Fault>, document: &str) -> bool
-    requires { IfOk made (λ registry. HasHistory registry) }
-{
-    let mut out = Vec::new(alloc);
-    let mut errors = Vec::new(alloc);
-    let status = finish(alloc, made, &mut out, &mut errors);
-    status == 0 && out.as_slice() == document.as_bytes() && errors.is_empty()
-}
-
-#[test]
-fn documents_of_scenes(rt: HostRuntime) {
-    let alloc = rt.alloc();
-    assert!(rt; prints(alloc, Ok(Registry::default()), "# EOF\n"));
-    let tally = filled(alloc, Ok(Registry::builder()), tally_calls(&rt, alloc));
-    assert!(rt; prints(alloc, tally, JOBS));
-    let histogram = filled(alloc, Ok(Registry::builder()), histogram_calls!(rt));
-    assert!(rt; prints(alloc, histogram, NUMBERS));
-    let states = filled(alloc, Ok(Registry::builder()), states_calls(alloc));
-    assert!(rt; prints(alloc, states, TASK));
-    let tree = filled(alloc, production(alloc), tree_calls!(rt));
-    assert!(rt; prints(alloc, tree, APPLICATION));
-}
-
 #[test]
 fn refused_calls_are_said(rt: HostRuntime) -> Result<(), Fail> {
     let mut replies = Vec::new(rt.alloc());
@@ -213,4 +94,35 @@ fn refused_calls_are_said(rt: HostRuntime) -> Result<(), Fail> {
         Err(Fault::no_memory())
     );
     Ok(())
+}
+
+// The program's name, and one word, whose only byte belongs to no character.
+#[derive(Drop)]
+struct NoText;
+
+impl Env for NoText {
+    fn arg(&self, i: usize, buf: &mut [u8]) -> Result<usize, FillError> {
+        if i > 1 {
+            return Err(FillError::NotPresent);
+        }
+        let Some(first) = buf.first_mut() else {
+            return Err(FillError::TooLong);
+        };
+        *first = if i == 0 { b'e' } else { 255 };
+        Ok(1)
+    }
+
+    fn var(&self, _name: &str, _buf: &mut [u8]) -> Result<usize, FillError> {
+        Err(FillError::NotPresent)
+    }
+
+    fn var_at(&self, _i: usize, _buf: &mut [u8]) -> Result<usize, FillError> {
+        Err(FillError::NotPresent)
+    }
+}
+
+#[test]
+fn a_word_that_is_no_text(rt: HostRuntime) {
+    let scene = scene_of_words(&(NoText, rt.alloc()));
+    assert!(rt; scene == Err(Fault::UnknownScene));
 }

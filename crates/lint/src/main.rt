@@ -4,8 +4,6 @@
 //! `memory` there, with status 1 too. If standard output fails, it ends with status 1 and prints nothing more.
 #![tactic(auto)]
 
-#[cfg(test)]
-mod tests;
 mod verdict;
 
 use std::io::Read;

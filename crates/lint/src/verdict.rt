@@ -2,6 +2,9 @@
 ghost use Rattle.std.specs.Prelude.{◌≡◌, ◌≤◌};
 ghost use Rattle.lint.specs.Documents.{PrintsAgain};
 
+#[cfg(test)]
+mod tests;
+
 use fm_encode_error::EncodeError;
 use fm_reader::{ReadError, read};
 use fm_writer::encode_exposition;

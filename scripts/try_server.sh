@@ -1,0 +1,134 @@
+#!/usr/bin/env bash
+# Tries the server of examples/server with a real Prometheus: sends it 2,000 requests while Prometheus scrapes it each second,
+# and compares what both say of its metrics. Prints a line for each comparison. Its last line says whether all is well; its
+# status is then 0, else 1. It is no part of the gate.
+#
+#   scripts/try_server.sh [REQUESTS]       at least 100
+#
+# The server is compiled with run-time checks by `rt try`, in a scratch folder with copies of the library's crates, and not
+# proved. Where no `prometheus` is installed, its part is left out with a line that begins with SKIP. All listen on the loopback
+# address alone.
+set -u
+
+top=$(cd "$(dirname "$0")/.." && pwd) || exit 1
+requests=${1:-2000}
+# How long the server may run: `rt try` ends it then.
+seconds=600
+example=$top/examples/server
+scratch=$(mktemp -d) || exit 1
+server='' prometheus=''
+
+clean_up() {
+    local process
+    for process in $server $prometheus; do
+        kill "$process" 2>/dev/null
+        wait "$process" 2>/dev/null
+    done
+    rm -rf "$scratch"
+}
+trap clean_up EXIT
+trap 'exit 1' INT TERM HUP
+
+fail() {
+    echo "FAILED: $1"
+    exit 1
+}
+
+# The library's crates and the server's, as a repository of its own, whose files get their true endings.
+lay_out() {
+    local folder=$1 crate file
+    mkdir -p "$folder/crates"
+    cp "$example/HANDLES" "$folder/"
+    grep -E '^(fm_|fastmetrics)' "$top/crates.txt" | grep -v '^fm_test' |
+        cat - "$example/crates.in" >"$folder/crates.txt"
+    sed 's/[: ].*//' "$folder/crates.txt" | while read -r crate; do
+        [[ -d $top/crates/$crate ]] || continue
+        tar -C "$top/crates" --exclude="$crate/out" -cf - "$crate" | tar -C "$folder/crates" -xf -
+    done
+    (cd "$example" && find . -mindepth 2 -name '*.in') | while read -r file; do
+        install -D -m 644 "$example/$file" "$folder/crates/${file%.in}"
+    done
+    git -C "$folder" init -q
+}
+
+# Two ports that are free at this moment.
+free_ports() {
+    python3 - <<'PYTHON'
+import socket
+sockets = [socket.create_server(("127.0.0.1", 0)) for _ in range(2)]
+print(*[it.getsockname()[1] for it in sockets])
+PYTHON
+}
+
+# Waits until a process answers at an address. What fails to connect isn't counted by the server, so it counts one request.
+wait_for() {
+    local process=$1 address=$2
+    until curl -sf -o "$scratch/first" "$address"; do
+        kill -0 "$process" 2>/dev/null || return 1
+        sleep 0.5
+    done
+}
+
+start_server() {
+    (cd "$scratch/repository/crates/web_server" && exec rt try --seconds "$seconds" -- "$port") >"$scratch/server" 2>&1 &
+    server=$!
+    wait_for "$server" "http://127.0.0.1:$port/metrics" || { cat "$scratch/server"; fail "the server didn't start"; }
+}
+
+start_prometheus() {
+    cat >"$scratch/prometheus.yml" <<YAML
+global:
+  scrape_interval: 1s
+scrape_configs:
+  - job_name: example
+    static_configs:
+      - targets: ["127.0.0.1:$port"]
+YAML
+    prometheus --config.file="$scratch/prometheus.yml" --storage.tsdb.path="$scratch/data" \
+        --web.listen-address="127.0.0.1:$its_port" --log.level=warn >"$scratch/prometheus" 2>&1 &
+    prometheus=$!
+    wait_for "$prometheus" "http://127.0.0.1:$its_port/-/ready" || { cat "$scratch/prometheus"; fail "Prometheus didn't start"; }
+    prometheus --version 2>&1 | head -n 1
+}
+
+# Ends the server as its users do, and compares the last line that it prints.
+end_server() {
+    local jobs status
+    curl -sf "http://127.0.0.1:$port/quit" || fail "the server doesn't answer /quit"
+    wait "$server"
+    status=$?
+    server=''
+    jobs=$(awk '$1 == "GET" && $2 == 200 && $3 == "/work" { print $4 }' "$scratch/counts")
+    if [[ $status != 0 ]] || ! grep -qE "^connections [0-9]+ jobs $jobs\$" "$scratch/server"; then
+        cat "$scratch/server"
+        fail "the server didn't end well"
+    fi
+    echo "equal: jobs at the end: $jobs"
+    grep -E '^checked: ' "$scratch/server"
+}
+
+lay_out "$scratch/repository"
+read -r port its_port < <(free_ports)
+start_server
+scrapers=alone
+if command -v prometheus >"$scratch/first"; then
+    scrapers=prometheus
+    start_prometheus
+else
+    echo "SKIP: no prometheus is installed (apt-get install prometheus)"
+fi
+
+python3 "$example/client.py" "$port" "$requests" >"$scratch/counts" || fail "a response isn't as it should be"
+sed 's/^/answered: /' "$scratch/counts"
+curl -sS -D "$scratch/headers" -o "$scratch/document" "http://127.0.0.1:$port/metrics" || fail "curl received no document"
+now=$(date +%s.%N)
+python3 "$example/compare.py" document "$scratch/counts" "$scratch/headers" "$scratch/document" "$scrapers" ||
+    fail "the document differs"
+if [[ $prometheus ]]; then
+    python3 "$example/compare.py" prometheus "$scratch/counts" "$scratch/document" "$its_port" "$now" ||
+        fail "Prometheus differs"
+    kill "$prometheus" && wait "$prometheus"
+    prometheus=''
+fi
+end_server
+echo "all is well: $requests requests were answered and counted"
