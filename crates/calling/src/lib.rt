@@ -1,4 +1,4 @@
-//! Examples of each kind of metric and of each way to write a document, which docs/CALLING.md shows.
+//! Examples of each kind of metric and of each way to write a document, which docs/GUIDE.md shows.
 #![tactic(auto)]
 
 pub mod counters;

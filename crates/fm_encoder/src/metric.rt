@@ -1,17 +1,10 @@
 //! Metrics: what offers members, and the encoder that puts a family's samples into a sink.
-ghost use Rattle.std.specs.Prelude.{◌≡◌, ℕ, List, [], ◌∷◌, ◌⊎◌, MatchOption, Option, None, Some, IsTrue, IfSome, OnOk, IfOk, IfErr, Ok, Err, map, string_bytes};
-ghost use Rattle.std.specs.Option.{option_map, option_map_or, option_copied};
+ghost use Rattle.std.specs.Prelude.{◌≡◌, ℕ, List, [], ◌∷◌, ◌⊎◌, MatchOption, Option, None, IsTrue, map};
+ghost use Rattle.std.specs.Option.{option_map, option_map_or};
 ghost use Rattle.fm_grammar.specs.declared.MetricType.{MetricType};
-ghost use Rattle.fm_grammar.specs.Names.{IsSnakeCase};
-ghost use Rattle.fm_grammar.specs.WellFormed.{AreMillis};
-ghost use Rattle.fm_encode_error.specs.declared.EncodeError.{EncodeError};
-ghost use Rattle.fm_exposition.specs.Rows.{head_rows};
-ghost use Rattle.fm_exposition.specs.Samples.{labels_of};
-ghost use Rattle.fm_writer.specs.Output.{AreShared, OutputText, with_lines};
 ghost use Rattle.fm_encoder.specs.Points.{Member, UnknownPoint, GaugePoint, CounterPoint, StateSetPoint, InfoPoint, HistogramPoint, GaugeHistogramPoint, SummaryPoint, millis};
 ghost use Rattle.fm_encoder.specs.Buckets.{slots_of, MaySlotsFault};
 ghost use Rattle.fm_encoder.specs.States.{state_of};
-ghost use Rattle.fm_encoder.specs.Gathered.{IsOutcome, result_of};
 ghost use Rattle.fm_encoder.specs.Hands.{HandsMembers, MembersOf};
 ghost use Rattle.fm_encoder.specs.Takes.{TakesMembers};
 

@@ -249,3 +249,33 @@ fn two_growths(rt: HostRuntime) -> Result<(), Fail> {
     assert!(rt; writer.lines == 1003 && writer.bytes == 18_937);
     Ok(())
 }
+
+// Two totals with these labels, and then two with those.
+fn totals_of_two(
+    alloc: Global,
+    first: Vec<(String, String)>,
+    second: Vec<(String, String)>,
+) -> Result<SampleStore, EncodeError>
+    requires first { AreLabels (labels_of first.items ++ []) }
+    requires second { AreLabels (labels_of second.items ++ []) }
+    ensures { IfOk result (λ store. AllByRecursion (IsSample Counter) store.samples) }
+{
+    let mut store = totals(alloc, first, 2)?;
+    store.share(Arc::new(alloc, second)?);
+    push_total(alloc, &mut store, 2)?;
+    push_total(alloc, &mut store, 3)?;
+    Ok(store)
+}
+
+// The room for labels is that of the longest ones, so there are two requests here too.
+#[test]
+fn two_growths_where_shorter_labels_are_last(rt: HostRuntime) -> Result<(), Fail> {
+    let alloc = rt.alloc();
+    let first = vec![in alloc; label(alloc, "k", "a longer value")?]?;
+    let second = vec![in alloc; label(alloc, "k", "v")?]?;
+    let exposition = family(alloc, totals_of_two(alloc, first, second)?)?;
+    let mut writer = Counting { bytes: 0, lines: 0 };
+    encode_exposition(alloc, &mut writer, &exposition)?;
+    assert!(rt; writer.lines == 7);
+    Ok(())
+}

@@ -6,4 +6,10 @@ mod families;
 #[cfg(test)]
 mod histograms;
 #[cfg(test)]
+mod keys;
+#[cfg(test)]
+mod leaving;
+#[cfg(test)]
 mod meeting;
+#[cfg(test)]
+mod members;

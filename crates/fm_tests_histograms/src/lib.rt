@@ -1,6 +1,10 @@
-//! Tests of histograms by their documents, and of buckets of a user's own.
+//! Tests of histograms, of their snapshots and of their bounds, by value and by their documents, and of buckets of a user's own.
 #![tactic(auto)]
 
 #[cfg(test)]
+mod bounds;
+#[cfg(test)]
 mod histograms;
 pub mod own_buckets;
+#[cfg(test)]
+mod snapshots;

@@ -112,6 +112,18 @@ fn hundred_twenty_nine_letters(rt: HostRuntime) -> Result<(), Fail> {
 }
 
 #[test]
+fn hundred_twenty_nine_letters_with_a_time(rt: HostRuntime) -> Result<(), Fail> {
+    let alloc = rt.alloc();
+    let exemplar = LabeledExemplar {
+        labels: long_label(alloc, "trace_id", "a", 121)?,
+        value: Fixed::from_millionths(500_000),
+        timestamp: Some(Duration::from_millis(1005)),
+    };
+    let counter = Box::new(alloc, five_with(exemplar))?;
+    expect_refusal(alloc, counter, EncodeError::ExemplarTooLong)
+}
+
+#[test]
 fn letters_of_two_bytes(rt: HostRuntime) -> Result<(), Fail> {
     let alloc = rt.alloc();
     let document = document_with(alloc, long_label(alloc, "v", "é", 127)?)?;

@@ -1,4 +1,6 @@
 //! The document of `crates/server`, by a registry with boxes in place of a root.
+ghost use Rattle.std.specs.Prelude.{IfOk};
+ghost use Rattle.fastmetrics.specs.HasHistory.{HasHistory};
 
 use fastmetrics::encoder::EncodeMetric;
 use fastmetrics::metrics::counter::{ConstCounter, Counter};
@@ -105,140 +107,114 @@ shop_pool_waits_count{queue=\"mail\"} 1\n\
 shop_pool_waits_sum{queue=\"mail\"} 0.02\n\
 # EOF\n";
 
-// A metric's subsystem, or nothing for the root; its name, its help, its unit, and the metric.
-type Row<H> = (
-    &'static str,
-    &'static str,
-    &'static str,
-    Option<Unit>,
-    Metric<H>,
-);
+// A metric's subsystem, or nothing for the root; its name, its help, and the text of its unit, or nothing.
+type Row = (&'static str, &'static str, &'static str, &'static str);
+
+// The metrics in the order of their registration.
+const ROWS: [Row; 15] = [
+    ("", "build", "What runs", ""),
+    ("", "starts", "Starts of the server", ""),
+    ("", "connections", "Connections opened", ""),
+    ("", "uptime", "Since the start", "seconds"),
+    ("http", "sent", "What was sent", "bytes"),
+    ("http", "in_flight", "Requests that are served now", ""),
+    ("http", "latency", "Time to serve", "seconds"),
+    ("http", "sizes", "Sizes of what waits", ""),
+    ("http", "requests", "Requests by method", ""),
+    ("http", "routes", "Requests by port and status", ""),
+    ("pool", "jobs", "Jobs that were done", ""),
+    ("pool", "busy", "Workers that have a job", ""),
+    ("pool", "load", "How busy the pool is", ""),
+    ("pool", "time", "Time of all jobs", "seconds"),
+    ("pool", "waits", "Waits by queue", ""),
+];
 
 // Millionths.
 fn fixed(millionths: i64) -> Fixed {
     Fixed::from_millionths(millionths)
 }
 
-// Those of the root.
-fn rows_of_root<H: Wait + Copy + Send + Sync + Drop>(
-    wait: H,
-    alloc: Global,
-    rows: &mut Vec<Row<H>>,
-) -> Result<(), Fail> {
+fn build(alloc: Global) -> Result<Info<Vec<(String, String)>>, Fail> {
     let version = String::from_str(alloc, "version")?;
     let number = String::from_str(alloc, "1.2")?;
-    let build = Info::new(vec![in alloc; (version, number)]?);
-    rows.push(("", "build", "What runs", None, Metric::from(build)))?;
-    let starts = Metric::Constant(Constant::Counter(ConstCounter::new(1)));
-    rows.push(("", "starts", "Starts of the server", None, starts))?;
-    let connections = Counter::<u64>::try_default(wait, alloc)?;
-    connections.inc();
-    let connections = Metric::from(connections);
-    rows.push(("", "connections", "Connections opened", None, connections))?;
-    let uptime = Metric::from(Gauge::new(alloc, fixed(60_000_000))?);
-    let seconds = Some(Unit::Seconds);
-    rows.push(("", "uptime", "Since the start", seconds, uptime))?;
-    Ok(())
+    Ok(Info::new(vec![in alloc; (version, number)]?))
 }
 
-// The first of those that are counted of a request.
-fn rows_of_http<H: Wait + Copy + Send + Sync + Drop>(
-    wait: H,
-    alloc: Global,
-    rows: &mut Vec<Row<H>>,
-) -> Result<(), Fail> {
-    let sent = Counter::<u64>::try_default(wait, alloc)?;
-    sent.inc_by(512)?;
-    let bytes = Some(Unit::Bytes);
-    rows.push(("http", "sent", "What was sent", bytes, Metric::from(sent)))?;
-    let served = Metric::from(Gauge::<i64>::new(alloc, 0)?);
-    rows.push((
-        "http",
-        "in_flight",
-        "Requests that are served now",
-        None,
-        served,
-    ))?;
+fn counted<H: Wait + Drop>(wait: H, alloc: Global, count: u64) -> Result<Counter, Fail> {
+    let counter = Counter::try_default(wait, alloc)?;
+    counter.inc_by(count)?;
+    Ok(counter)
+}
+
+fn seconds<H: Wait + Drop>(wait: H, alloc: Global, time: Fixed) -> Result<Counter<Fixed>, Fail> {
+    let counter = Counter::try_default(wait, alloc)?;
+    counter.inc_by(time)?;
+    Ok(counter)
+}
+
+fn latency<H: Wait + Drop>(wait: H, alloc: Global) -> Result<Histogram<H>, Fail> {
     let latency = Histogram::try_default(wait, alloc)?;
     latency.observe(fixed(250_000))?;
-    let seconds = Some(Unit::Seconds);
-    rows.push((
-        "http",
-        "latency",
-        "Time to serve",
-        seconds,
-        Metric::from(latency),
-    ))?;
+    Ok(latency)
+}
+
+fn sizes<H: Wait + Drop>(wait: H, alloc: Global) -> Result<GaugeHistogram<H>, Fail> {
     let sizes = GaugeHistogram::try_default(wait, alloc)?;
     sizes.observe(fixed(3_000_000))?;
-    rows.push((
-        "http",
-        "sizes",
-        "Sizes of what waits",
-        None,
-        Metric::from(sizes),
-    ))?;
-    Ok(())
+    Ok(sizes)
 }
 
-// The families of a request.
-fn rows_of_families<H: Wait + Copy + Send + Sync + Drop>(
+// Counters of which the member with these labels counted one.
+fn counters<H: Wait + Clone + Drop>(
     wait: H,
     alloc: Global,
-    rows: &mut Vec<Row<H>>,
-) -> Result<(), Fail> {
-    let requests: TextFamily<Counter, H> = TryDefault::try_default(wait, alloc)?;
-    with_texts(alloc, &requests, &[("method", "GET")], |it| it.inc())?;
-    let requests = Metric::from(requests);
-    rows.push(("http", "requests", "Requests by method", None, requests))?;
-    let routes: TextFamily<Counter, H> = TryDefault::try_default(wait, alloc)?;
-    let labels = [("port", "80"), ("status", "200")];
-    with_texts(alloc, &routes, &labels, |it| it.inc())?;
-    let routes = Metric::from(routes);
-    rows.push((
-        "http",
-        "routes",
-        "Requests by port and status",
-        None,
-        routes,
-    ))?;
-    Ok(())
+    labels: &[(&str, &str)],
+) -> Result<TextFamily<Counter, H>, Fail> {
+    let counters: TextFamily<Counter, H> = TryDefault::try_default(wait, alloc)?;
+    with_texts(alloc, &counters, labels, |it| it.inc())?;
+    Ok(counters)
 }
 
-// Those of the subsystem that runs jobs.
-fn rows_of_pool<H: Wait + Copy + Send + Sync + Drop>(
+fn waits<H: Wait + Clone + Drop>(
     wait: H,
     alloc: Global,
-    rows: &mut Vec<Row<H>>,
-) -> Result<(), Fail> {
-    let jobs = Counter::<u64>::try_default(wait, alloc)?;
-    jobs.inc();
-    rows.push((
-        "pool",
-        "jobs",
-        "Jobs that were done",
-        None,
-        Metric::from(jobs),
-    ))?;
-    let busy = Metric::from(Gauge::<i64>::new(alloc, 0)?);
-    rows.push(("pool", "busy", "Workers that have a job", None, busy))?;
-    let load = Metric::from(Gauge::new(alloc, fixed(500_000))?);
-    rows.push(("pool", "load", "How busy the pool is", None, load))?;
-    let time = Counter::<Fixed>::try_default(wait, alloc)?;
-    time.inc_by(fixed(1_500_000))?;
-    let seconds = Some(Unit::Seconds);
-    rows.push((
-        "pool",
-        "time",
-        "Time of all jobs",
-        seconds,
-        Metric::from(time),
-    ))?;
+) -> Result<TextFamily<Histogram<H>, H>, Fail> {
     let waits: TextFamily<Histogram<H>, H> = TryDefault::try_default(wait, alloc)?;
     let waited = fixed(20_000);
     with_texts(alloc, &waits, &[("queue", "mail")], |it| it.observe(waited))??;
-    rows.push(("pool", "waits", "Waits by queue", None, Metric::from(waits)))?;
-    Ok(())
+    Ok(waits)
+}
+
+// The metric of this name, as it is after what `crates/server` counts.
+fn metric<H: Wait + Copy + Send + Sync + Drop>(
+    wait: H,
+    alloc: Global,
+    name: &str,
+) -> Result<Metric<H>, Fail> {
+    Ok(match name {
+        "build" => Metric::from(build(alloc)?),
+        "starts" => Metric::Constant(Constant::Counter(ConstCounter::new(1))),
+        "uptime" => Metric::from(Gauge::new(alloc, fixed(60_000_000))?),
+        "sent" => Metric::from(counted(wait, alloc, 512)?),
+        "in_flight" | "busy" => Metric::from(Gauge::<i64>::new(alloc, 0)?),
+        "latency" => Metric::from(latency(wait, alloc)?),
+        "sizes" => Metric::from(sizes(wait, alloc)?),
+        "requests" => Metric::from(counters(wait, alloc, &[("method", "GET")])?),
+        "routes" => Metric::from(counters(wait, alloc, &[("port", "80"), ("status", "200")])?),
+        "load" => Metric::from(Gauge::new(alloc, fixed(500_000))?),
+        "time" => Metric::from(seconds(wait, alloc, fixed(1_500_000))?),
+        "waits" => Metric::from(waits(wait, alloc)?),
+        "connections" | "jobs" => Metric::from(counted(wait, alloc, 1)?),
+        _ => return Err(Fail::new("a metric that the server doesn't have")),
+    })
+}
+
+fn unit(text: &str) -> Option<Unit> {
+    match text {
+        "bytes" => Some(Unit::Bytes),
+        "seconds" => Some(Unit::Seconds),
+        _ => None,
+    }
 }
 
 // A call that registers a metric below the root.
@@ -263,23 +239,37 @@ fn call(
     })
 }
 
-#[test]
-fn server_with_boxes(rt: HostRuntime) -> Result<(), Fail> {
-    let alloc = rt.alloc();
-    let mut rows = Vec::new(alloc);
-    rows_of_root(rt, alloc, &mut rows)?;
-    rows_of_http(rt, alloc, &mut rows)?;
-    rows_of_families(rt, alloc, &mut rows)?;
-    rows_of_pool(rt, alloc, &mut rows)?;
-    let mut calls: Vec<RegistryCall> = Vec::new(alloc);
-    for (below, name, help, unit, metric) in rows {
-        let metric: Box<dyn EncodeMetric> = Box::new(alloc, metric)?;
-        calls.push(call(alloc, below, name, help, unit, metric)?)?;
-    }
+// A registry with the namespace and the subsystems of the server.
+fn shop(alloc: Global) -> Result<Registry, Fail>
+    ensures { IfOk result HasHistory }
+{
     let namespace = String::from_str(alloc, "shop")?;
     let mut registry = Registry::builder().with_namespace(namespace)?.build()?;
     add_subsystem_at(alloc, &mut registry, &[], "http", &[("protocol", "1.1")])?;
     add_subsystem_at(alloc, &mut registry, &[], "pool", &[])?;
+    Ok(registry)
+}
+
+// Makes these calls of a registry, and compares its document.
+fn expect_served(
+    alloc: Global,
+    registry: &mut Registry,
+    calls: Vec<RegistryCall>,
+) -> Result<(), Fail>
+    requires { HasHistory registry.old }
+{
     registry.run(alloc, calls)?;
-    expect_document_of(alloc, &registry, DOCUMENT)
+    expect_document_of(alloc, registry, DOCUMENT)
+}
+
+#[test]
+fn server_with_boxes(rt: HostRuntime) -> Result<(), Fail> {
+    let alloc = rt.alloc();
+    let mut calls: Vec<RegistryCall> = Vec::new(alloc);
+    for (below, name, help, of) in ROWS {
+        let metric: Box<dyn EncodeMetric> = Box::new(alloc, metric(rt, alloc, name)?)?;
+        calls.push(call(alloc, below, name, help, unit(of), metric)?)?;
+    }
+    let mut registry = shop(alloc)?;
+    expect_served(alloc, &mut registry, calls)
 }

@@ -2,12 +2,10 @@
 #![tactic(auto)]
 
 #[cfg(test)]
+mod large;
+#[cfg(test)]
 mod lines;
 #[cfg(test)]
-mod many_labels;
-#[cfg(test)]
 mod sizes;
-#[cfg(test)]
-mod texts;
 #[cfg(test)]
 mod writers;

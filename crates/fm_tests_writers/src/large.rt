@@ -1,8 +1,11 @@
-//! Label sets of great size, for which there is memory.
+//! Label sets and texts of great size, for which there is memory.
 
+use fastmetrics::format::text::{encode_exposition, read};
 use fastmetrics::metrics::gauge::ConstGauge;
+use fastmetrics::registry::Registry;
 use fm_test_support::members::OneMember;
-use fm_test_support::support::document_alone;
+use fm_test_support::support::{document_alone, document_of, expect_text, text_of};
+use fm_test_support::trees::{gauge, register_with};
 use std::alloc::{AllocError, Global};
 use std::test::Fail;
 
@@ -57,4 +60,31 @@ fn a_hundred_thousand_letters(rt: HostRuntime) -> Result<(), Fail> {
     let document = document_alone(alloc, "t", None, metric)?;
     assert!(rt; has_long_texts(document.as_str()));
     Ok(())
+}
+
+// Fails if a document read back isn't written as it was.
+fn expect_again(alloc: Global, document: &str) -> Result<(), Fail> {
+    let exposition = read(alloc, document)?;
+    let mut again = Vec::new(alloc);
+    encode_exposition(alloc, &mut again, &exposition)?;
+    expect_text(text_of(again)?.as_str(), document)
+}
+
+#[test]
+fn long_names_and_help(rt: HostRuntime) -> Result<(), Fail> {
+    let alloc = rt.alloc();
+    let long = letters(alloc, 10_000)?;
+    let mut registry = Registry::default();
+    register_with(
+        alloc,
+        &mut registry,
+        long.as_str(),
+        long.as_str(),
+        None,
+        gauge(alloc, 1)?,
+    )?;
+    let document = document_of(alloc, &registry)?;
+    let want = format!(in alloc; "# TYPE {long} gauge\n# HELP {long} {long}\n{long} 1\n# EOF\n")?;
+    expect_text(document.as_str(), want.as_str())?;
+    expect_again(alloc, want.as_str())
 }

@@ -5,8 +5,11 @@
 ghost use Rattle.std.specs.Prelude.{IfOk};
 ghost use Rattle.fm_registry.specs.HasHistory.{HasHistory};
 
+use crate::both_ways::{
+    collect_patiently, encode_patiently, expect_bytes, found_no_memory, roomy_writer,
+    write_patiently,
+};
 use fastmetrics::encoder::EncodeMetric;
-use fastmetrics::format::text::{EncodeError, Exposition, collect, encode, encode_exposition};
 use fastmetrics::metrics::gauge::ConstGauge;
 use fastmetrics::raw::{Fixed, FixedSum, MetricError, Unit};
 use fastmetrics::registry::{Registry, RegistryCall, RegistryError};
@@ -19,8 +22,6 @@ use std::test::Fail;
 
 mod lines;
 mod reading;
-
-const BEFORE: &[u8] = b"before\n";
 
 const NOTHING: &str = "# EOF\n";
 
@@ -117,11 +118,6 @@ fn patient_gauge(
     }
 }
 
-// Whether a call found no memory.
-fn found_no_memory(answer: Result<(), RegistryError>) -> bool {
-    matches!(answer, Err(RegistryError::Memory))
-}
-
 // Registers the gauge `up`. A refused call leaves the document as it was.
 fn add_up(
     alloc: Global,
@@ -196,72 +192,11 @@ fn built(alloc: Global, patience: &mut Patience) -> Result<Registry, Fail>
     Ok(registry)
 }
 
-// A writer with the line `before` that takes no memory for a short document.
-fn roomy(alloc: Global) -> Result<Vec<u8>, AllocError> {
-    let mut writer = Vec::with_capacity(alloc, 1000)?;
-    writer.extend_from_slice(BEFORE)?;
-    Ok(writer)
-}
-
-fn roomy_writer(alloc: Global, patience: &mut Patience) -> Result<Vec<u8>, Fail> {
-    match roomy(alloc) {
-        Ok(writer) => Ok(writer),
-        Err(_) => {
-            patience.bear()?;
-            Ok(roomy(alloc)?)
-        }
-    }
-}
-
-// Fails if these bytes are not the wanted ones.
-fn expect_bytes(bytes: &[u8], want: &[u8]) -> Result<(), Fail> {
-    if bytes == want {
-        return Ok(());
-    }
-    Err(Fail::new("another document"))
-}
-
-// Encodes after the line `before`. A refused call writes nothing.
-fn encode_patiently(
-    alloc: Global,
-    patience: &mut Patience,
-    writer: &mut Vec<u8>,
-    registry: &Registry,
-) -> Result<(), Fail>
-    requires { HasHistory registry.now }
-{
-    if let Err(error) = encode(alloc, writer, registry) {
-        patience.bear()?;
-        if error != EncodeError::Memory || writer.as_slice() != BEFORE {
-            return Err(Fail::new("want of memory wrote something"));
-        }
-        encode(alloc, writer, registry)?;
-    }
-    Ok(())
-}
-
-// Writes an exposition after the line `before`. A refused call writes nothing.
-fn write_patiently(
-    alloc: Global,
-    patience: &mut Patience,
-    writer: &mut Vec<u8>,
-    exposition: &Exposition,
-) -> Result<(), Fail> {
-    if let Err(error) = encode_exposition(alloc, writer, exposition) {
-        patience.bear()?;
-        if error != EncodeError::Memory || writer.as_slice() != BEFORE {
-            return Err(Fail::new("want of memory wrote something"));
-        }
-        encode_exposition(alloc, writer, exposition)?;
-    }
-    Ok(())
-}
-
 // Builds a tree and encodes it.
 fn build_and_encode(alloc: Global, refusals: u32) -> Result<(), Fail> {
     let mut patience = Patience::new(refusals);
     let registry = built(alloc, &mut patience)?;
-    let mut writer = roomy_writer(alloc, &mut patience)?;
+    let mut writer = roomy_writer(alloc, &mut patience, 1000)?;
     encode_patiently(alloc, &mut patience, &mut writer, &registry)?;
     expect_bytes(writer.as_slice(), ALL)
 }
@@ -319,28 +254,6 @@ fn document_after(
     Err(Fail::new("other answers"))
 }
 
-// Collects a registry. A second time gives the same.
-fn collected(
-    alloc: Global,
-    registry: &Registry,
-    patience: &mut Patience,
-) -> Result<Exposition, Fail>
-    requires { HasHistory registry.now }
-{
-    match collect(alloc, registry) {
-        Ok(exposition) => Ok(exposition),
-        Err(EncodeError::Memory) => {
-            patience.bear()?;
-            let exposition = collect(alloc, registry)?;
-            if exposition != collect(alloc, registry)? {
-                return Err(Fail::new("another exposition"));
-            }
-            Ok(exposition)
-        }
-        Err(error) => Err(Fail::from(error)),
-    }
-}
-
 // Makes these calls, or the spare ones. If they find no memory, the document is as it was.
 fn run_calls(
     alloc: Global,
@@ -369,8 +282,8 @@ fn run_and_write(alloc: Global, refusals: u32) -> Result<(), Fail> {
     let spare = patient_calls(alloc, &mut patience)?;
     let answers = run_calls(alloc, &mut patience, &mut registry, calls, spare)?;
     let document = document_after(&answers, &mut patience)?;
-    let exposition = collected(alloc, &registry, &mut patience)?;
-    let mut writer = roomy_writer(alloc, &mut patience)?;
+    let exposition = collect_patiently(alloc, &mut patience, &registry)?;
+    let mut writer = roomy_writer(alloc, &mut patience, 1000)?;
     write_patiently(alloc, &mut patience, &mut writer, &exposition)?;
     expect_bytes(writer.as_slice(), document)
 }

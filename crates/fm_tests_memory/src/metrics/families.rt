@@ -1,7 +1,9 @@
 //! Families under refused memory: a refused member is not there.
 use super::{bear, boxed, expect_document};
 use fastmetrics::metrics::counter::Counter;
-use fastmetrics::metrics::family::{DefaultFactory, Family, FamilyCore};
+use fastmetrics::metrics::family::{
+    DefaultFactory, Family, FamilyCore, TextFamily, remove_texts, with_texts,
+};
 use fastmetrics::raw::{MetricError, TryDefault};
 use fm_test_support::replies::Path;
 use fm_test_support::support::Patience;
@@ -109,4 +111,70 @@ fn families_after_a_refusal(rt: HostRuntime) -> Result<(), Fail> {
     let mut patience = Patience::new(1);
     let (metric, spare) = counted(rt, rt.alloc(), &mut patience)?;
     expect_document(rt.alloc(), &mut patience, metric, spare, COUNTED)
+}
+
+// Removes the requests of a method, which are there. A refusal leaves them.
+fn remove<H: Wait + Clone + Drop>(
+    alloc: Global,
+    requests: &TextFamily<Counter, H>,
+    patience: &mut Patience,
+    method: &str,
+) -> Result<(), Fail> {
+    let count = requests.len();
+    let labels = [("method", method)];
+    let was_there = match remove_texts(alloc, requests, &labels) {
+        Ok(was_there) => was_there,
+        Err(error) => {
+            bear(patience, error)?;
+            if requests.len() != count {
+                return Err(Fail::new("a refused removal changed the members"));
+            }
+            remove_texts(alloc, requests, &labels)?
+        }
+    };
+    if was_there && requests.len() < count {
+        Ok(())
+    } else {
+        Err(Fail::new("it was not there"))
+    }
+}
+
+const LEFT: &[u8] = b"before\n# TYPE m counter\n# HELP m H\nm_total{method=\"PUT\"} 1\n# EOF\n";
+
+// Two clones of a family by texts, of whose three members the first and the last left.
+fn left<H: Wait + Copy + Drop>(
+    wait: H,
+    alloc: Global,
+    patience: &mut Patience,
+) -> Result<(Box<TextFamily<Counter, H>>, Box<TextFamily<Counter, H>>), Fail> {
+    let requests = patiently!(
+        *patience,
+        TextFamily::<Counter, H>::try_default(wait, alloc)
+    );
+    for method in ["GET", "PUT", "PATCH"] {
+        let labels = [("method", method)];
+        patiently!(
+            *patience,
+            with_texts(alloc, &requests, &labels, |count| count.inc())
+        );
+    }
+    remove(alloc, &requests, patience, "GET")?;
+    remove(alloc, &requests, patience, "PATCH")?;
+    let first = patiently!(*patience, boxed(alloc, &requests));
+    let second = patiently!(*patience, boxed(alloc, &requests));
+    Ok((first, second))
+}
+
+#[test]
+fn removals_without_refusals(rt: HostRuntime) -> Result<(), Fail> {
+    let mut patience = Patience::new(0);
+    let (metric, spare) = left(rt, rt.alloc(), &mut patience)?;
+    expect_document(rt.alloc(), &mut patience, metric, spare, LEFT)
+}
+
+#[test]
+fn removals_after_a_refusal(rt: HostRuntime) -> Result<(), Fail> {
+    let mut patience = Patience::new(1);
+    let (metric, spare) = left(rt, rt.alloc(), &mut patience)?;
+    expect_document(rt.alloc(), &mut patience, metric, spare, LEFT)
 }

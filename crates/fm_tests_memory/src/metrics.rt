@@ -4,10 +4,10 @@
 //! which the refused call is made again, and one that fails at the first refusal, so that the script knows when to stop.
 ghost use Rattle.fm_registry.specs.HasHistory.{HasHistory};
 
+use crate::both_ways::{expect_both_ways, found_no_memory};
 use fastmetrics::encoder::EncodeMetric;
-use fastmetrics::format::text::{EncodeError, encode};
 use fastmetrics::raw::MetricError;
-use fastmetrics::registry::{Registry, RegistryError};
+use fastmetrics::registry::Registry;
 use fm_test_support::support::Patience;
 use fm_test_support::trees::register;
 use std::alloc::{AllocError, Global};
@@ -34,8 +34,6 @@ mod histograms;
 mod observations;
 mod tallies;
 
-const BEFORE: &[u8] = b"before\n";
-
 // Tolerates a refusal for want of memory.
 fn bear(patience: &mut Patience, error: MetricError) -> Result<(), Fail> {
     if error != MetricError::Memory {
@@ -47,18 +45,6 @@ fn bear(patience: &mut Patience, error: MetricError) -> Result<(), Fail> {
 // A clone in a box.
 fn boxed<M: Clone + Drop>(alloc: Global, metric: &M) -> Result<Box<M>, AllocError> {
     Ok(Box::new(alloc, metric.clone()?)?)
-}
-
-// A writer with the line `before` that takes no memory for a short document.
-fn roomy(alloc: Global) -> Result<Vec<u8>, AllocError> {
-    let mut writer = Vec::with_capacity(alloc, 1000)?;
-    writer.extend_from_slice(BEFORE)?;
-    Ok(writer)
-}
-
-// Whether a call found no memory.
-fn found_no_memory(answer: Result<(), RegistryError>) -> bool {
-    matches!(answer, Err(RegistryError::Memory))
 }
 
 // Registers this metric as `m`, or the spare one where that finds no memory.
@@ -79,26 +65,7 @@ fn add_m(
     Ok(())
 }
 
-// Encodes after the line `before`. A refused call writes nothing.
-fn encode_patiently(
-    alloc: Global,
-    patience: &mut Patience,
-    writer: &mut Vec<u8>,
-    registry: &Registry,
-) -> Result<(), Fail>
-    requires { HasHistory registry.now }
-{
-    if let Err(error) = encode(alloc, writer, registry) {
-        patience.bear()?;
-        if error != EncodeError::Memory || writer.as_slice() != BEFORE {
-            return Err(Fail::new("want of memory wrote something"));
-        }
-        encode(alloc, writer, registry)?;
-    }
-    Ok(())
-}
-
-// Checks that a metric alone, or the spare one, has this document.
+// Checks that a metric alone, or the spare one, has this document, encoded and collected.
 fn expect_document(
     alloc: Global,
     patience: &mut Patience,
@@ -108,10 +75,5 @@ fn expect_document(
 ) -> Result<(), Fail> {
     let mut registry = Registry::default();
     add_m(alloc, patience, &mut registry, metric, spare)?;
-    let mut writer = patiently!(*patience, roomy(alloc));
-    encode_patiently(alloc, patience, &mut writer, &registry)?;
-    if writer.as_slice() != document {
-        return Err(Fail::new("another document"));
-    }
-    Ok(())
+    expect_both_ways(alloc, patience, &registry, document)
 }

@@ -1,7 +1,8 @@
 //! A document of 1,000 sample lines with a common label, for which writing asks for memory twice and no more: once for
 //! the document, and once for the common labels.
 
-use super::{BEFORE, Patience, add_up, collected, patient_root, write_patiently};
+use super::{Patience, add_up, patient_root};
+use crate::both_ways::{collect_patiently, roomy_writer, write_patiently};
 use fastmetrics::format::text::Exposition;
 use fm_test_support::members::OneMember;
 use fm_test_support::points::Repeated;
@@ -39,24 +40,7 @@ fn collected_lines(alloc: Global, patience: &mut Patience) -> Result<Exposition,
     let metric = patient_gauge_of_lines(alloc, patience)?;
     let spare = patient_gauge_of_lines(alloc, patience)?;
     add_up(alloc, patience, &mut registry, metric, spare)?;
-    collected(alloc, &registry, patience)
-}
-
-// A writer with the line `before` that takes no memory for the document.
-fn spacious(alloc: Global) -> Result<Vec<u8>, AllocError> {
-    let mut writer = Vec::with_capacity(alloc, 40000)?;
-    writer.extend_from_slice(BEFORE)?;
-    Ok(writer)
-}
-
-fn spacious_writer(alloc: Global, patience: &mut Patience) -> Result<Vec<u8>, Fail> {
-    match spacious(alloc) {
-        Ok(writer) => Ok(writer),
-        Err(_) => {
-            patience.bear()?;
-            Ok(spacious(alloc)?)
-        }
-    }
+    collect_patiently(alloc, patience, &registry)
 }
 
 // Whether these bytes are a thousand sample lines and the last line.
@@ -80,7 +64,7 @@ fn is_document(bytes: &[u8]) -> bool {
 fn print_lines(alloc: Global, refusals: u32) -> Result<(), Fail> {
     let mut patience = Patience::new(refusals);
     let exposition = collected_lines(alloc, &mut patience)?;
-    let mut writer = spacious_writer(alloc, &mut patience)?;
+    let mut writer = roomy_writer(alloc, &mut patience, 40000)?;
     write_patiently(alloc, &mut patience, &mut writer, &exposition)?;
     if !is_document(writer.as_slice()) {
         return Err(Fail::new("another document"));
@@ -93,7 +77,7 @@ fn print_lines(alloc: Global, refusals: u32) -> Result<(), Fail> {
 fn collects_without_refusals(rt: HostRuntime) -> Result<(), Fail> {
     let mut patience = Patience::new(0);
     let exposition = collected_lines(rt.alloc(), &mut patience)?;
-    let writer = spacious_writer(rt.alloc(), &mut patience)?;
+    let writer = roomy_writer(rt.alloc(), &mut patience, 40000)?;
     assert_eq!(rt; (exposition.families().len(), writer.len()), (1, 7));
     Ok(())
 }

@@ -1,9 +1,9 @@
 //! What the tests share: a set of two states, and metrics of the tests' own.
 ghost use Rattle.std.specs.Prelude.{◌≡◌, [], ◌∷◌, codes, replicate};
 ghost use Rattle.fm_grammar.specs.declared.MetricType.TheVariants.{Gauge};
-ghost use Rattle.fm_tests_calls.specs.declared.support.Job.TheVariants.{Pending, Running};
-ghost use Rattle.fm_tests_calls.specs.declared.support.Light.TheVariants.{Red, Yellow, Green, Blue};
-ghost use Rattle.fm_tests_calls.specs.declared.support.Crowd.TheVariants.{Inside};
+ghost use Rattle.fm_tests_metrics.specs.declared.support.Job.TheVariants.{Pending, Running};
+ghost use Rattle.fm_tests_metrics.specs.declared.support.Light.TheVariants.{Red, Yellow, Green, Blue};
+ghost use Rattle.fm_tests_metrics.specs.declared.support.Crowd.TheVariants.{Inside};
 
 use fastmetrics::encoder::{EncodeError, EncodeMetric, MetricEncoder};
 use fastmetrics::metrics::state_set::StateSetValue;

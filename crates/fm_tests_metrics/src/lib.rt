@@ -1,0 +1,34 @@
+//! Tests of counters, gauges, state sets and other metrics: every call at every type of number, clones, threads, documents, metrics that
+//! lie, what `Debug` shows, and laws.
+#![tactic(auto)]
+
+pub mod cases;
+#[cfg(test)]
+mod clones;
+#[cfg(test)]
+mod default_states;
+#[cfg(test)]
+mod laws;
+#[cfg(test)]
+mod liars;
+#[cfg(test)]
+mod shared;
+#[cfg(test)]
+mod shown;
+#[cfg(test)]
+mod single;
+#[cfg(test)]
+mod sources;
+#[cfg(test)]
+mod states;
+#[cfg(test)]
+mod steps;
+pub mod support;
+#[cfg(test)]
+mod threads;
+#[cfg(test)]
+mod told;
+#[cfg(test)]
+mod values;
+#[cfg(test)]
+mod words;
