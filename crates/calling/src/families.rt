@@ -1,6 +1,6 @@
 //! Counters by labels.
 ghost use Rattle.std.specs.Prelude.{[], ◌∷◌, codes, decimal};
-ghost use Rattle.fastmetrics.specs.Named.{label};
+ghost use Rattle.fastmetrics.specs.OwnLabels.{label};
 
 use fastmetrics::encoder::{
     EncodeError, EncodeLabelSet, LabelSetEncoder, LabelValue, StaticStr, encode_labels,

@@ -1,9 +1,9 @@
 //! What the program prints, and its status.
 ghost use Rattle.std.specs.Prelude.{◌≡◌, IfOk, IfErr, codes};
 ghost use Rattle.fm_raw.specs.MetricErrors.{error_number as metric_number};
-ghost use Rattle.fm_bucket.specs.BucketErrors.{error_number as bucket_number};
+ghost use Rattle.fm_raw.specs.BucketErrors.{error_number as bucket_number};
 ghost use Rattle.fm_tally.specs.TallyErrors.{error_number as tally_number};
-ghost use Rattle.fm_registry_calls.specs.RegistryErrors.{error_number as registry_number};
+ghost use Rattle.fm_registry_model.specs.RegistryErrors.{error_number as registry_number};
 ghost use Rattle.fm_encode_error.specs.EncodeErrors.{error_number as encode_number};
 ghost use Rattle.fm_encode_error.specs.declared.EncodeError.{EncodeError};
 ghost use Rattle.fastmetrics.specs.HasHistory.{HasHistory};

@@ -8,10 +8,10 @@ use Rattle.fm_grammar.specs.Reading.{IsNewName}
 use Rattle.fm_encode_error.specs.declared.EncodeError.{EncodeError}
 use Rattle.fm_encode_error.specs.declared.EncodeError.TheVariants.{Memory}
 use Rattle.fm_exposition.specs.Written.{IsWritersFault}
-use Rattle.fm_registry_calls.specs.History.{History}
-use Rattle.fm_registry_calls.specs.Tree.{Tree, Reads}
-use Rattle.fm_registry_calls.specs.Listing.{Listed, listed_name, IsListable, order}
-use Rattle.fm_registry_calls.proofs.NameLemmas.{printed_names-different}
+use Rattle.fm_registry_model.specs.History.{History}
+use Rattle.fm_registry_model.specs.Tree.{Tree, Reads}
+use Rattle.fm_registry_model.specs.Listing.{Listed, listed_name, IsListable, order}
+use Rattle.fm_registry_model.proofs.NameLemmas.{printed_names-different}
 use Rattle.fm_encoder.specs.Points.{Member}
 use Rattle.fm_encoder.specs.Gathered.{result_of}
 use Rattle.fm_encoder.proofs.FaultLemmas.{MetricHasFault-not_writing}

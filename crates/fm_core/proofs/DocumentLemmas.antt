@@ -5,8 +5,8 @@ use Rattle.fm_grammar.specs.Exposition.{Text, Sample, Family}
 use Rattle.fm_grammar.specs.Names.{AllDifferent}
 use Rattle.fm_grammar.specs.Reading.{IsNewName}
 use Rattle.fm_grammar.proofs.States.{exposition_push}
-use Rattle.fm_registry_calls.specs.Registration.{printed_unit}
-use Rattle.fm_registry_calls.specs.Listing.{listed_name, IsListable}
+use Rattle.fm_registry_model.specs.Registration.{printed_unit}
+use Rattle.fm_registry_model.specs.Listing.{listed_name, IsListable}
 use Rattle.fm_exposition.specs.Rows.{sample_rows}
 use Rattle.fm_exposition.specs.inside.DocumentRows.{family_rows, families_rows}
 use Rattle.fm_encode_error.specs.declared.EncodeError.{EncodeError}

@@ -4,8 +4,8 @@ use Rattle.fm_grammar.specs.Exposition.{Exposition}
 use Rattle.fm_raw.specs.declared.metadata.Metadata.{Metadata}
 use Rattle.fm_encode_error.specs.declared.EncodeError.{EncodeError}
 use Rattle.fm_encode_error.specs.declared.EncodeError.TheVariants.{Memory}
-use Rattle.fm_registry_calls.specs.Texts.{Text, Labels}
-use Rattle.fm_registry_calls.specs.Listing.{Listed}
+use Rattle.fm_registry_model.specs.Texts.{Text, Labels}
+use Rattle.fm_registry_model.specs.Listing.{Listed}
 use Rattle.fm_encoder.specs.Points.{Member}
 use Rattle.fm_registry.specs.View.{seen_metric}
 use Rattle.fm_core.specs.Admits.{AdmitsNext, FaultOf}

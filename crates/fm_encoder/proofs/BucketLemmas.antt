@@ -12,7 +12,7 @@ use Rattle.fm_grammar.specs.WellFormed.{ValueFits, IsSample, AreLabels, AreMilli
 use Rattle.fm_grammar.specs.Names.{IsLabelName}
 use Rattle.fm_exposition.specs.declared.exposition.Exemplar.{Exemplar}
 use Rattle.fm_exposition.specs.Samples.{exemplar_of}
-use Rattle.fm_bucket.specs.declared.bound.Bucket.{Bucket}
+use Rattle.fm_raw.specs.declared.bucket.bound.Bucket.{Bucket}
 use Rattle.fm_writer.specs.Output.{Output, appended}
 use Rattle.fm_writer.proofs.OutputLemmas.{appended-append}
 use Rattle.fm_encoder.specs.Labels.{IsReserved}

@@ -2,6 +2,7 @@ pub use Rattle.fm_grammar.specs.Exposition
 pub use Rattle.fm_grammar.specs.WellFormed
 pub use Rattle.fm_writer.specs.Output
 pub mod Labels
+pub mod OwnLabels
 pub mod Kept
 pub mod Points
 pub mod States

@@ -13,10 +13,10 @@ use Rattle.fm_grammar.specs.Numbers.{fixed_text}
 use Rattle.fm_grammar.specs.WellFormed.{label_code_points, IsSample}
 use Rattle.fm_encode_error.specs.declared.EncodeError.{EncodeError}
 use Rattle.fm_encode_error.specs.declared.EncodeError.TheVariants.{DuplicateLabel, KindMismatch, MissingValue, ValueTwice, ExemplarCountMismatch, BucketOverflow, ExemplarTwice, ExemplarTooLong}
-use Rattle.fm_bucket.specs.BoundTests.{bound_text}
-use Rattle.fm_bucket.specs.declared.bound.Bound.{Bound}
-use Rattle.fm_bucket.specs.declared.bound.Bucket.{Bucket}
-use Rattle.fm_bucket.specs.declared.quantile.Quantile.{Quantile}
+use Rattle.fm_raw.specs.BoundTests.{bound_text}
+use Rattle.fm_raw.specs.declared.bucket.bound.Bound.{Bound}
+use Rattle.fm_raw.specs.declared.bucket.bound.Bucket.{Bucket}
+use Rattle.fm_raw.specs.declared.quantile.Quantile.{Quantile}
 use Rattle.fm_encoder.specs.Labels.{HandedLabel, LabelsFault, LabelsClean, all_written, handed_again, label_names}
 
 -- the whole milliseconds of a duration

@@ -13,10 +13,11 @@ use crate::exemplar::EncodeExemplar;
 use crate::label_set::EncodeLabelSet;
 use crate::point::{EncodePoint, PointEncoder};
 use crate::value::{EncodeCounterValue, EncodeGaugeValue, EncodeUnknownValue};
-use fm_bucket::{Bucket, Quantile};
 use fm_encode_error::EncodeError;
 use fm_grammar::MetricType;
+use fm_raw::bucket::Bucket;
 use fm_raw::fixed::FixedSum;
+use fm_raw::quantile::Quantile;
 use std::marker::Model;
 use std::time::Duration;
 

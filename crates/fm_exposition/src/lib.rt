@@ -1,6 +1,7 @@
 //! Expositions and their parts, when two are equal, and the writing of a text.
 #![tactic(auto)]
 
+pub mod code_points;
 mod equality;
 pub mod exposition;
 pub mod make;

@@ -5,7 +5,11 @@ pub mod factory;
 pub mod family;
 mod kept_members;
 pub mod members;
+pub mod pairs;
+pub mod texts;
 
 pub use factory::{DefaultFactory, MetricFactory};
 pub use family::Family;
 pub use members::FamilyCore;
+pub use pairs::{PairFamily, with_pairs};
+pub use texts::{DefaultFamily, TextFamily, remove_texts, with_texts};

@@ -25,8 +25,8 @@ pub(crate) struct Kept<M> {
 }
 
 impl<M> Model for Kept<M> {
-    ghost use Rattle.fm_registry_calls.specs.Tree.{Tree};
-    ghost use Rattle.fm_registry_calls.specs.inside.TreeCode.{tree_code};
+    ghost use Rattle.fm_registry_model.specs.Tree.{Tree};
+    ghost use Rattle.fm_registry_model.specs.inside.TreeCode.{tree_code};
 
     ghost Value = { Tree M };
 

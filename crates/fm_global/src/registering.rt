@@ -1,7 +1,7 @@
 //! Values that register their metrics themselves.
 ghost use Rattle.std.specs.Prelude.{Result, ⊤};
-ghost use Rattle.fm_registry_calls.specs.Tree.{Tree};
-ghost use Rattle.fm_registry_calls.specs.declared.RegistryError.{RegistryError as Refusal};
+ghost use Rattle.fm_registry_model.specs.Tree.{Tree};
+ghost use Rattle.fm_registry_model.specs.declared.RegistryError.{RegistryError as Refusal};
 ghost use Rattle.fm_global.specs.Locked.{RegistersLocked};
 
 use crate::global::GlobalRegistry;

@@ -3,8 +3,8 @@ use Rattle.std.proofs.Common.{◌≡◌, ℕ, suc, zero, ◌+◌, ◌<◌, ◌�
 use Rattle.std.proofs.lemmas.Int.{ints}
 use Rattle.std.proofs.lemmas.Bool.Decides.{nat_tests}
 use Rattle.std.proofs.lemmas.List.Sums.{sum_by-append, count_by-le-length}
-use Rattle.fm_bucket.specs.declared.bound.Bucket.{Bucket}
-use Rattle.fm_bucket.specs.declared.bound.Bound.TheVariants.{Finite, Inf}
+use Rattle.fm_raw.specs.declared.bucket.bound.Bucket.{Bucket}
+use Rattle.fm_raw.specs.declared.bucket.bound.Bound.TheVariants.{Finite, Inf}
 use Rattle.fm_histogram.specs.Histogram.{is_above, is_between, buckets_above, rises, place_among}
 use Rattle.fm_histogram.specs.inside.Counting.{place, one_more}
 

@@ -5,7 +5,7 @@ use Rattle.std.proofs.lemmas.Int.{ints}
 use Rattle.std.specs.Int.RustNames.{FitsSigned}
 use Rattle.std.proofs.lemmas.List.{append-nil}
 use Rattle.std.proofs.lemmas.List.Elements.{filter-append}
-use Rattle.fm_bucket.specs.declared.bound.Bucket.{Bucket}
+use Rattle.fm_raw.specs.declared.bucket.bound.Bucket.{Bucket}
 use Rattle.fm_histogram.specs.Histogram.{Histogram, IsCounts, total, buckets_above}
 use Rattle.fm_histogram.specs.inside.Counting.{IsOfSome, place, one_more}
 use Rattle.fm_histogram.proofs.BucketLemmas.{observed, counts_within}

@@ -1,7 +1,7 @@
 -- The histogram of no values.
 use Rattle.std.proofs.Common.{◌≡◌, ℕ, ℤ, pos, List, [], ◌∷◌, ◌++◌, Option, Some, None, true, map, refl, ap, ◌∙◌}
-use Rattle.fm_bucket.specs.declared.bound.Bucket.{Bucket}
-use Rattle.fm_bucket.specs.declared.bound.Bound.TheVariants.{Finite, Inf}
+use Rattle.fm_raw.specs.declared.bucket.bound.Bucket.{Bucket}
+use Rattle.fm_raw.specs.declared.bucket.bound.Bound.TheVariants.{Finite, Inf}
 use Rattle.fm_histogram.specs.Histogram.{Histogram, IsCounts, rises, buckets_above}
 
 -- a bucket with no values

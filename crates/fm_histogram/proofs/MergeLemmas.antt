@@ -4,8 +4,8 @@ use Rattle.std.proofs.lemmas.Int.{ints}
 use Rattle.std.proofs.lemmas.List.{length-map}
 use Rattle.std.proofs.lemmas.List.Sums.{sum_by-append}
 use Rattle.std.proofs.lemmas.List.Elements.{filter-append}
-use Rattle.fm_bucket.specs.declared.bound.Bucket.{Bucket}
-use Rattle.fm_bucket.specs.declared.bound.Bound.TheVariants.{Finite, Inf}
+use Rattle.fm_raw.specs.declared.bucket.bound.Bucket.{Bucket}
+use Rattle.fm_raw.specs.declared.bucket.bound.Bound.TheVariants.{Finite, Inf}
 use Rattle.fm_histogram.specs.Histogram.{Histogram, IsCounts, IsHistogram, total, is_above, is_between, buckets_above, merged_buckets, merged, upper_bounds}
 
 -- sums and counts of two lists, one after the other

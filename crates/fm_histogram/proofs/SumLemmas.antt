@@ -2,8 +2,8 @@
 use Rattle.std.proofs.Common.{◌≡◌, ◌+◌, Bool, true, false, ◌&&◌, not, cond, ℤ, int_lt, List, [], ◌∷◌, Option, None, Some, length, count_by, refl, ◌∙◌, arith}
 use Rattle.std.proofs.lemmas.Int.{ints}
 use Rattle.std.proofs.lemmas.List.Sums.{sum_by-cons}
-use Rattle.fm_bucket.specs.declared.bound.Bucket.{Bucket}
-use Rattle.fm_bucket.specs.declared.bound.Bound.TheVariants.{Finite}
+use Rattle.fm_raw.specs.declared.bucket.bound.Bucket.{Bucket}
+use Rattle.fm_raw.specs.declared.bucket.bound.Bound.TheVariants.{Finite}
 use Rattle.fm_encoder.specs.Points.{values_in}
 use Rattle.fm_histogram.specs.Histogram.{Histogram, CountsTaken, is_above, is_between, buckets_above, rises}
 use Rattle.fm_histogram.proofs.BucketLemmas.{and_left, and_right}

@@ -1,8 +1,8 @@
 -- The histogram of a list of values: how many of them are in each interval between bounds, how many there are, and their sum.
 use Rattle.std.specs.Prelude.{ℕ, ◌+◌, Bool, true, not, ◌&&◌, ◌||◌, ◌≡◌, ℤ, pos, ◌+ℤ◌, ◌<◌, ◌^◌, List, [], ◌∷◌, Option, Some, None, length, count_by, filter, map, All, Contains, ◌↔◌, int_lt, suc, if◌then◌else◌}
-use Rattle.fm_bucket.specs.declared.bound.Bound.{Bound}
-use Rattle.fm_bucket.specs.declared.bound.Bound.TheVariants.{Finite, Inf}
-use Rattle.fm_bucket.specs.declared.bound.Bucket.{Bucket}
+use Rattle.fm_raw.specs.declared.bucket.bound.Bound.{Bound}
+use Rattle.fm_raw.specs.declared.bucket.bound.Bound.TheVariants.{Finite, Inf}
+use Rattle.fm_raw.specs.declared.bucket.bound.Bucket.{Bucket}
 
 -- x is above the bound before. The first interval has none
 abbrev pub is_above : Option ℤ → ℤ → Bool

@@ -1,5 +1,5 @@
 pub use Rattle.fm_raw.specs.Signed
-pub use Rattle.fm_bucket.specs.BoundTests
+pub use Rattle.fm_raw.specs.BoundTests
 pub use Rattle.fm_encoder.specs.Points
 pub use Rattle.fm_encoder.specs.Hands
 pub mod Histogram

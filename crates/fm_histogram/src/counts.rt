@@ -1,13 +1,13 @@
 //! Counts of values by bounds, for both kinds of histograms.
 ghost use Rattle.std.specs.Prelude.{◌≡◌, ℕ, ℤ, true, ◌+◌, ◌^◌, ◌<◌, ◌≤◌, ◌↔◌, List, [], ◌∷◌, ◌++◌, None, Err, IfOk, IfErr, OnOk, OnErr, length, ◌⊎◌, ◌≢◌, IsTrue, slice_index_or, slice_set};
 ghost use Rattle.fm_raw.specs.declared.error.MetricError.TheVariants.{Memory, CountFull, UnequalBounds};
-ghost use Rattle.fm_bucket.specs.declared.bound.Bucket.{Bucket as OneBucket};
-ghost use Rattle.fm_bucket.specs.Bounds.{default_bounds};
+ghost use Rattle.fm_raw.specs.declared.bucket.bound.Bucket.{Bucket as OneBucket};
+ghost use Rattle.fm_raw.specs.Bounds.{default_bounds};
 ghost use Rattle.fm_histogram.specs.Histogram.{IsCounts, rises, upper_bounds, merged, merged_buckets};
 ghost use Rattle.fm_histogram.specs.inside.Counting.{one_more};
 
 use crate::place::place_of;
-use fm_bucket::{Bound, Bucket, default_buckets};
+use fm_raw::bucket::{Bound, Bucket, default_buckets};
 use fm_raw::{Fixed, MetricError};
 use std::alloc::Global;
 use std::marker::{Brand, Model};

@@ -7,7 +7,7 @@ ghost use Rattle.std.specs.Fn.{FnOnceTakesAt, FnOnceReturnsAt};
 ghost use Rattle.fm_raw.specs.declared.error.MetricError.TheVariants.{Memory, CountFull};
 ghost use Rattle.fm_encoder.specs.Points.{millis};
 ghost use Rattle.fm_histogram.specs.Histogram.{Histogram as Counted, CountsTaken, IsHistogram, takes, is_taken, takes_all};
-ghost use Rattle.fm_bucket.specs.Bounds.{default_bounds};
+ghost use Rattle.fm_raw.specs.Bounds.{default_bounds};
 ghost use Rattle.fm_histogram.specs.Shown.{alone};
 ghost use Rattle.fm_histogram.specs.Shared.{histogram_created};
 

@@ -4,13 +4,11 @@
 mod counts;
 mod encode;
 pub mod histogram;
-mod law;
 mod place;
 mod rising;
 pub mod sign;
 pub mod snapshot;
 
 pub use histogram::{GaugeHistogram, Histogram};
-pub use law::merging_is_lawful;
 pub use sign::Sign;
 pub use snapshot::{GaugeHistogramSnapshot, HistogramSnapshot};

@@ -3,7 +3,7 @@ ghost use Rattle.std.specs.Prelude.{◌≡◌, ℤ, ◌+◌, ◌^◌, ◌<◌, �
 ghost use Rattle.std.specs.Option.{option_map};
 ghost use Rattle.std.specs.Iterator.{IsFinite, Drains};
 ghost use Rattle.fm_raw.specs.declared.error.MetricError.TheVariants.{Memory, CountFull, UnequalBounds};
-ghost use Rattle.fm_bucket.specs.Bounds.{default_bounds};
+ghost use Rattle.fm_raw.specs.Bounds.{default_bounds};
 ghost use Rattle.fm_encoder.specs.Points.{millis, values_in};
 ghost use Rattle.fm_encoder.specs.Hands.{HandsPoints};
 ghost use Rattle.fm_histogram.specs.Histogram.{IsHistogram, CountsTaken, IsBoundsOf, takes, upper_bounds, merged};
@@ -11,9 +11,9 @@ ghost use Rattle.fm_histogram.specs.Histogram.{IsHistogram, CountsTaken, IsBound
 use crate::counts::Counts;
 use crate::rising::rising_bounds;
 use crate::sign::{Any, NotNegative, Sign};
-use fm_bucket::Bucket;
 use fm_encode_error::EncodeError;
 use fm_encoder::PointEncoder;
+use fm_raw::bucket::Bucket;
 use fm_raw::{Fixed, FixedSum, MetricError};
 use std::alloc::{AllocError, Global};
 use std::marker::{Model, PhantomData};

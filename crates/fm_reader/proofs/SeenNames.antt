@@ -12,9 +12,9 @@ use Rattle.fm_grammar.specs.declared.MetricType.{MetricType}
 use Rattle.fm_grammar.specs.Exposition.{Text, Family}
 use Rattle.fm_grammar.specs.Reading.{IsNewName}
 use Rattle.fm_grammar.specs.inside.Lines.{State, Open, Headed, closed, Follows, type_line, help_line, unit_line, sample_line, last_line}
-use Rattle.fm_reader_lines.proofs.NameSets.{holds_more}
+use Rattle.fm_reader.proofs.NameSets.{holds_more}
 use Rattle.std.specs.Option.{option_map}
-use Rattle.fm_reader_lines.specs.inside.Lines.{FoundType, shown_type}
+use Rattle.fm_reader.specs.inside.Lines.{FoundType, shown_type}
 use Rattle.fm_reader.specs.inside.Steps.{reading_state, IsStep, FoundNewType}
 use Rattle.fm_reader.specs.inside.Names.{names_of, state_names, IsFresh, has, HasNames, IsNoted, with_found, FoundNoted}
 use Rattle.fm_reader.specs.declared.machine.Reading.{Reading}

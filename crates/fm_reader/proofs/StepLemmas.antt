@@ -11,7 +11,7 @@ use Rattle.fm_grammar.proofs.Runs.{one_run}
 use Rattle.fm_grammar.proofs.FamilyNames.{IsNameByte, snake_case_bytes}
 use Rattle.fm_grammar.specs.Kinds.{type_word}
 use Rattle.std.proofs.lemmas.List.{append_cancel_left}
-use Rattle.fm_reader_lines.specs.inside.Lines.{FoundHelp, FoundUnit, FoundSample}
+use Rattle.fm_reader.specs.inside.Lines.{FoundHelp, FoundUnit, FoundSample}
 use Rattle.fm_reader.specs.inside.Steps.{reading_state, IsStep, IsStepWithin, FoundNewType}
 use Rattle.fm_reader.specs.declared.machine.Reading.{Reading}
 use Rattle.fm_reader.specs.declared.error.ReadError.{ReadError}

@@ -2,7 +2,9 @@
 #![tactic(auto)]
 
 pub mod error;
+mod lines;
 mod machine;
+mod parts;
 mod reading;
 
 pub use error::ReadError;

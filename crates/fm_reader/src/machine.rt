@@ -2,17 +2,18 @@
 ghost use Rattle.std.specs.Prelude.{◌≡◌, ◌↔◌, IsTrue, IfOk, IfErr, IfSome, OnOk, None, [], string_bytes};
 ghost use Rattle.std.specs.Option.{option_map};
 ghost use Rattle.fm_grammar.specs.Document.{IsLastLine};
-ghost use Rattle.fm_reader_lines.specs.inside.Lines.{shown_type};
-ghost use Rattle.fm_reader_lines.specs.inside.Samples.{read_sample_of};
+ghost use Rattle.fm_reader.specs.inside.Lines.{shown_type};
+ghost use Rattle.fm_reader.specs.inside.Samples.{read_sample_of};
 ghost use Rattle.fm_grammar.specs.inside.Lines.{closed, with_unit, with_sample, Open as OpenState, Headed as HeadedState};
 ghost use Rattle.fm_reader.specs.inside.Steps.{reading_state, IsStep, IsStepWithin, IsEnding};
 ghost use Rattle.fm_reader.specs.inside.Names.{names_of, state_names, HasNames, IsNoted, FoundNoted};
 ghost use Rattle.fm_reader.specs.declared.error.ReadError.TheVariants.{Memory};
 
 use crate::error::ReadError;
+use crate::lines::heads::{read_help, read_type, read_unit};
+use crate::lines::sample::{ReadSample, read_sample};
 use fm_exposition::{FamilySamples, SampleStore, make};
 use fm_grammar::MetricType;
-use fm_reader_lines::{ReadSample, read_help, read_sample, read_type, read_unit};
 use std::alloc::Global;
 use std::collections::BTreeSet;
 use std::marker::Model;

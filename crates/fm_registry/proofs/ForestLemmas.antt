@@ -7,9 +7,9 @@ use Rattle.fm_registry.specs.Lists.{items_of}
 use Rattle.std.specs.List.{position_from}
 use Rattle.std.specs.Str.{bytes_eq}
 use Rattle.std.specs.String.{string_bytes}
-use Rattle.fm_registry_calls.specs.Texts.{Text}
-use Rattle.fm_registry_calls.specs.Tree.{Child}
-use Rattle.fm_registry_calls.specs.inside.Forests.{nth_in, nth_name, with_nth, place_from}
+use Rattle.fm_registry_model.specs.Texts.{Text}
+use Rattle.fm_registry_model.specs.Tree.{Child}
+use Rattle.fm_registry_model.specs.inside.Forests.{nth_in, nth_name, with_nth, place_from}
 use Rattle.fm_registry.specs.inside.TreeView.{forest_of}
 use Rattle.fm_registry.specs.declared.registry.Subsystem.{Subsystem}
 

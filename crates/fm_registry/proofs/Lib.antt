@@ -8,3 +8,4 @@ pub mod PushLemmas
 pub mod RootLemmas
 pub mod RequestLemmas
 pub mod GrowthLemmas
+pub mod AddsLemmas

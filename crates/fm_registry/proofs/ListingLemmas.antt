@@ -6,7 +6,7 @@ use Rattle.std.proofs.lemmas.List.{take_more, map-append}
 use Rattle.std.proofs.lemmas.Option.{get_or_from_slice_get, slice_get_within}
 use Rattle.fm_registry.specs.View.{seen_labels, seen_metric}
 use Rattle.fm_registry.specs.inside.TreeView.{seen_metrics, forest_of}
-use Rattle.fm_registry_calls.specs.Listing.{Listed, listed_with, own_metrics, listed_forest, listed_tree}
+use Rattle.fm_registry_model.specs.Listing.{Listed, listed_with, own_metrics, listed_forest, listed_tree}
 use Rattle.fm_registry.specs.Seen.{seen_list, seen_listed}
 use Rattle.fm_registry.specs.declared.listing.ListedMetric.{ListedMetric}
 use Rattle.fm_registry.specs.declared.names.Tailed.{Tailed}

@@ -12,8 +12,8 @@ use Rattle.fm_raw.specs.Units.{SeenUnit, seen_unit}
 use Rattle.fm_raw.specs.Metadata.{IsSameMetric}
 use Rattle.fm_raw.specs.declared.metadata.Metadata.{Metadata}
 use Rattle.fm_raw.proofs.MetadataLemmas.{types_decide}
-use Rattle.fm_registry_calls.specs.Registration.{is_same_metric, same_type, same_bool, same_unit}
-use Rattle.fm_registry_calls.proofs.MetricLemmas as history
+use Rattle.fm_registry_model.specs.Registration.{is_same_metric, same_type, same_bool, same_unit}
+use Rattle.fm_registry_model.proofs.MetricLemmas as history
 use Rattle.fm_registry.specs.View.{seen_metric}
 use Rattle.fm_registry.specs.inside.TreeView.{seen_metrics}
 use Rattle.fm_registry.specs.declared.names.Tailed.{Tailed}

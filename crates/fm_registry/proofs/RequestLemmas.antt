@@ -4,16 +4,16 @@ use Rattle.std.specs.Prelude.{reverse}
 use Rattle.std.specs.String.{string_bytes}
 use Rattle.std.proofs.lemmas.List.{map-append}
 use Rattle.fm_grammar.specs.declared.MetricType.{MetricType}
-use Rattle.fm_registry_calls.specs.Texts.{Text, Path}
-use Rattle.fm_registry_calls.specs.History.{Call, History, in_front}
-use Rattle.fm_registry_calls.specs.Tree.{Tree, Reads}
-use Rattle.fm_registry_calls.specs.inside.Forests.{place_in}
-use Rattle.fm_registry_calls.specs.Answer.{Refusal, NoSuchSubsystem, refusal_of, after}
-use Rattle.fm_registry_calls.specs.Running.{Runs, IsReply, after_reply}
-use Rattle.fm_registry_calls.specs.inside.Paths.{path_of}
-use Rattle.fm_registry_calls.specs.declared.RegistryError.{RegistryError}
-use Rattle.fm_registry_calls.proofs.ApplyLemmas.{apply-missing}
-use Rattle.fm_registry_calls.proofs.RunLemmas.{Runs-more, path_of-++, path_of-reversed}
+use Rattle.fm_registry_model.specs.Texts.{Text, Path}
+use Rattle.fm_registry_model.specs.History.{Call, History, in_front}
+use Rattle.fm_registry_model.specs.Tree.{Tree, Reads}
+use Rattle.fm_registry_model.specs.inside.Forests.{place_in}
+use Rattle.fm_registry_model.specs.Answer.{Refusal, NoSuchSubsystem, refusal_of, after}
+use Rattle.fm_registry_model.specs.Running.{Runs, IsReply, after_reply}
+use Rattle.fm_registry_model.specs.inside.Paths.{path_of}
+use Rattle.fm_registry_model.specs.declared.RegistryError.{RegistryError}
+use Rattle.fm_registry_model.proofs.ApplyLemmas.{apply-missing}
+use Rattle.fm_registry_model.proofs.RunLemmas.{Runs-more, path_of-++, path_of-reversed}
 use Rattle.fm_registry.specs.HasHistory.{HasHistory, Grows}
 use Rattle.fm_registry.specs.inside.Request.{call_at}
 use Rattle.fm_registry.specs.Calls.{IsCall, AreCalls, RunsCall, RunsCalls, seen_path}

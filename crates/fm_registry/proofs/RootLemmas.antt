@@ -9,9 +9,9 @@ use Rattle.fm_grammar.specs.Names.{IsSnakeCase}
 use Rattle.fm_grammar.specs.NameTests.{is_label_name}
 use Rattle.fm_raw.proofs.NameLemmas.{snake_case_is}
 use Rattle.fm_exposition.specs.Samples.{label_of, labels_of}
-use Rattle.fm_registry_calls.specs.Texts.{Text, Label, Labels, has_text}
-use Rattle.fm_registry_calls.specs.Answer.{Refusal, InvalidLabelName, DuplicateLabel, label_refusal_behind, labels_refusal_behind, root_labels_refusal, or_then}
-use Rattle.fm_registry_calls.proofs.RootLemmas.{labels_refusal_behind-++, root_labels_valid}
+use Rattle.fm_registry_model.specs.Texts.{Text, Label, Labels, has_text}
+use Rattle.fm_registry_model.specs.Answer.{Refusal, InvalidLabelName, DuplicateLabel, label_refusal_behind, labels_refusal_behind, root_labels_refusal, or_then}
+use Rattle.fm_registry_model.proofs.RootLemmas.{labels_refusal_behind-++, root_labels_valid}
 use Rattle.fm_registry.specs.HasHistory.{IsNewRoot, root_tree}
 use Rattle.fm_registry.specs.inside.RootLabels.{takes_namespace, takes_labels, label_fault, IsRefusedAt}
 use Rattle.fm_registry.proofs.SoundLemmas.{new_root}

@@ -4,16 +4,16 @@ use Rattle.std.specs.List.{AllByRecursion}
 use Rattle.fm_grammar.specs.Names.{IsSnakeCase}
 use Rattle.fm_grammar.specs.WellFormed.{AreLabels}
 use Rattle.fm_grammar.specs.declared.MetricType.{MetricType}
-use Rattle.fm_registry_calls.specs.Texts.{Text, Labels}
-use Rattle.fm_registry_calls.specs.Registration.{Registration}
-use Rattle.fm_registry_calls.specs.History.{History, root_history, history_below, Register}
-use Rattle.fm_registry_calls.specs.Answer.{after}
-use Rattle.fm_registry_calls.specs.Tree.{Tree}
-use Rattle.fm_registry_calls.specs.Loan.{LoanReads}
-use Rattle.fm_registry_calls.specs.Listing.{IsListable, listed_tree}
-use Rattle.fm_registry_calls.specs.declared.RegistryError.{RegistryError}
-use Rattle.fm_registry_calls.proofs.RootLemmas.{reads-root_history}
-use Rattle.fm_registry_calls.proofs.OrderLemmas.{listed_tree-fits}
+use Rattle.fm_registry_model.specs.Texts.{Text, Labels}
+use Rattle.fm_registry_model.specs.Registration.{Registration}
+use Rattle.fm_registry_model.specs.History.{History, root_history, history_below, Register}
+use Rattle.fm_registry_model.specs.Answer.{after}
+use Rattle.fm_registry_model.specs.Tree.{Tree}
+use Rattle.fm_registry_model.specs.Loan.{LoanReads}
+use Rattle.fm_registry_model.specs.Listing.{IsListable, listed_tree}
+use Rattle.fm_registry_model.specs.declared.RegistryError.{RegistryError}
+use Rattle.fm_registry_model.proofs.RootLemmas.{reads-root_history}
+use Rattle.fm_registry_model.proofs.OrderLemmas.{listed_tree-fits}
 use Rattle.fm_registry.specs.HasHistory.{HasHistory, IsNewRoot, root_tree}
 use Rattle.fm_registry.specs.Registers.{Registers}
 

@@ -12,13 +12,13 @@ use Rattle.std.proofs.lemmas.Option.{get_or_from_slice_get}
 use Rattle.std.proofs.lemmas.Slice.Eq.{bytes_eq-Decides}
 use Rattle.fm_grammar.specs.Names.{AllDifferent}
 use Rattle.fm_raw.specs.declared.metadata.Metadata.{Metadata}
-use Rattle.fm_registry_calls.specs.Texts.{Text, has_text}
-use Rattle.fm_registry_calls.specs.Registration.{Registration, is_same_metric}
-use Rattle.fm_registry_calls.specs.Taken.{tail_of, tails_of, is_below}
-use Rattle.fm_registry_calls.specs.Tree.{names_in}
-use Rattle.fm_registry_calls.specs.Answer.{AlreadyExists, NameTaken, first_of, has_metric}
-use Rattle.fm_registry_calls.specs.inside.Refusals.{standing_refusal}
-use Rattle.fm_registry_calls.proofs.MetricLemmas.{one_under_tail, absent_under_tail}
+use Rattle.fm_registry_model.specs.Texts.{Text, has_text}
+use Rattle.fm_registry_model.specs.Registration.{Registration, is_same_metric}
+use Rattle.fm_registry_model.specs.Taken.{tail_of, tails_of, is_below}
+use Rattle.fm_registry_model.specs.Tree.{names_in}
+use Rattle.fm_registry_model.specs.Answer.{AlreadyExists, NameTaken, first_of, has_metric}
+use Rattle.fm_registry_model.specs.inside.Refusals.{standing_refusal}
+use Rattle.fm_registry_model.proofs.MetricLemmas.{one_under_tail, absent_under_tail}
 use Rattle.fm_registry.specs.inside.Names.{refusal_beside}
 use Rattle.fm_registry.specs.View.{seen_metric}
 use Rattle.fm_registry.specs.inside.TreeView.{seen_metrics, forest_of}

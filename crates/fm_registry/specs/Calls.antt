@@ -4,13 +4,13 @@ use Rattle.std.specs.declared.alloc.Global.{Global}
 use Rattle.std.specs.String.{string_bytes}
 use Rattle.fm_grammar.specs.declared.MetricType.{MetricType}
 use Rattle.fm_exposition.specs.Samples.{labels_of}
-use Rattle.fm_registry_calls.specs.Texts.{Path}
-use Rattle.fm_registry_calls.specs.History as history
-use Rattle.fm_registry_calls.specs.History.{History, Call}
-use Rattle.fm_registry_calls.specs.Answer.{Refusal, refusal_of, after}
-use Rattle.fm_registry_calls.specs.Tree.{Tree, Reads}
-use Rattle.fm_registry_calls.specs.Running.{Runs, IsReply}
-use Rattle.fm_registry_calls.specs.declared.RegistryError.{RegistryError}
+use Rattle.fm_registry_model.specs.Texts.{Path}
+use Rattle.fm_registry_model.specs.History as history
+use Rattle.fm_registry_model.specs.History.{History, Call}
+use Rattle.fm_registry_model.specs.Answer.{Refusal, refusal_of, after}
+use Rattle.fm_registry_model.specs.Tree.{Tree, Reads}
+use Rattle.fm_registry_model.specs.Running.{Runs, IsReply}
+use Rattle.fm_registry_model.specs.declared.RegistryError.{RegistryError}
 use Rattle.fm_registry.specs.View.{asked_metric}
 use Rattle.fm_registry.specs.declared.registry.run.RegistryCall as given
 

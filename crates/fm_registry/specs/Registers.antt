@@ -1,12 +1,12 @@
 -- What the registration of a metric does, with the type that the metric declared.
 use Rattle.std.specs.Prelude.{◌≡◌, [], Result, OnOk, OnErr}
 use Rattle.fm_grammar.specs.declared.MetricType.{MetricType}
-use Rattle.fm_registry_calls.specs.Texts.{Path}
-use Rattle.fm_registry_calls.specs.Registration.{Registration}
-use Rattle.fm_registry_calls.specs.History.{History, Register}
-use Rattle.fm_registry_calls.specs.Answer.{IsAnswered, refusal_of, answer, after}
-use Rattle.fm_registry_calls.specs.Tree.{Tree, Reads}
-use Rattle.fm_registry_calls.specs.declared.RegistryError.{RegistryError}
+use Rattle.fm_registry_model.specs.Texts.{Path}
+use Rattle.fm_registry_model.specs.Registration.{Registration}
+use Rattle.fm_registry_model.specs.History.{History, Register}
+use Rattle.fm_registry_model.specs.Answer.{IsAnswered, refusal_of, answer, after}
+use Rattle.fm_registry_model.specs.Tree.{Tree, Reads}
+use Rattle.fm_registry_model.specs.declared.RegistryError.{RegistryError}
 
 module _ {M : Type 0} where
   -- The metric declared a type that it may declare. For every history that the registry read, the result is the history's for

@@ -2,7 +2,7 @@
 use Rattle.std.specs.Prelude.{List, map}
 use Rattle.std.specs.Option.{option_map}
 use Rattle.std.specs.String.{string_bytes}
-use Rattle.fm_registry_calls.specs.Listing.{Listed}
+use Rattle.fm_registry_model.specs.Listing.{Listed}
 use Rattle.fm_registry.specs.View.{seen_labels, seen_metric}
 use Rattle.fm_registry.specs.declared.listing.ListedMetric.{ListedMetric}
 

@@ -8,9 +8,11 @@ mod labels;
 pub mod listing;
 mod lists;
 mod names;
+pub mod registering;
 pub mod registry;
 
 pub use fm_raw::{MetricType, Unit};
-pub use fm_registry_calls::RegistryError;
+pub use fm_registry_model::RegistryError;
 pub use listing::ListedMetric;
+pub use registering::{add, add_with_unit};
 pub use registry::{Registry, RegistryBuilder, RegistryCall, RegistrySubsystemBuilder, Subsystem};

@@ -3,7 +3,7 @@ ghost use Rattle.std.specs.Prelude.{◌≡◌, ◌++◌, OnOk};
 ghost use Rattle.std.specs.Option.{option_map};
 ghost use Rattle.std.specs.String.{string_bytes};
 ghost use Rattle.fm_exposition.specs.Samples.{labels_of};
-ghost use Rattle.fm_registry_calls.specs.Listing.{listed_with};
+ghost use Rattle.fm_registry_model.specs.Listing.{listed_with};
 ghost use Rattle.fm_registry.specs.View.{seen_labels};
 ghost use Rattle.fm_registry.specs.inside.TreeView.{seen_metrics};
 ghost use Rattle.fm_registry.specs.Seen.{seen_list};

@@ -1,11 +1,11 @@
 //! Lists that may be absent: making one needs an allocator.
 ghost use Rattle.std.specs.Prelude.{◌≡◌, ◌<◌, ◌++◌, ◌∷◌, [], length, Some, None, IfOk, OnOk, OnErr, slice_get};
 ghost use Rattle.std.specs.Borrow.{sem};
-ghost use Rattle.fm_registry_calls.specs.Answer.{refusal_of, IsAnswered};
+ghost use Rattle.fm_registry_model.specs.Answer.{refusal_of, IsAnswered};
 ghost use Rattle.fm_registry.specs.Lists.{items_of};
 ghost use Rattle.fm_registry.specs.inside.LendsParts.{lends_element};
 
-use fm_registry_calls::RegistryError;
+use fm_registry_model::RegistryError;
 use std::alloc::Allocator;
 
 // A mutable reference to the element at an index.

@@ -1,7 +1,7 @@
 //! The names in one registry: which metric has which tail, and which names begin with a subsystem's.
 ghost use Rattle.std.specs.Prelude.{◌≡◌, IfOk, false};
 ghost use Rattle.std.specs.String.{string_bytes};
-ghost use Rattle.fm_registry_calls.specs.Taken.{is_below as below_test};
+ghost use Rattle.fm_registry_model.specs.Taken.{is_below as below_test};
 ghost use Rattle.fm_registry.specs.inside.Names.{metadata_tail};
 
 use fm_raw::Metadata;

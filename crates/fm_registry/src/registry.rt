@@ -11,7 +11,7 @@ use crate::listing::{ListedMetric, list_metrics};
 use crate::names::Tailed;
 pub use builder::RegistryBuilder;
 use fm_encoder::EncodeMetric;
-use fm_registry_calls::RegistryError;
+use fm_registry_model::RegistryError;
 use indexmap::IndexMap;
 pub use run::RegistryCall;
 use std::alloc::{AllocError, Global};
@@ -41,15 +41,15 @@ pub struct Subsystem<M = Box<dyn EncodeMetric>> {
 }
 
 impl<M> Model for Registry<M> {
-    ghost use Rattle.fm_registry_calls.specs.Tree.{Tree};
-    ghost use Rattle.fm_registry_calls.specs.inside.TreeCode.{tree_code};
+    ghost use Rattle.fm_registry_model.specs.Tree.{Tree};
+    ghost use Rattle.fm_registry_model.specs.inside.TreeCode.{tree_code};
 
     ghost Value = { Tree M };
 
     ghost coded = { tree_code M.code };
 
     ghost use Rattle.fm_registry.specs.inside.TreeView.{tree_of};
-    ghost use Rattle.fm_registry_calls.specs.inside.Forests.{tree_size};
+    ghost use Rattle.fm_registry_model.specs.inside.Forests.{tree_size};
 
     ghost view = { tree_of };
 
@@ -92,10 +92,10 @@ impl<M> Registry<M> {
     ghost use Rattle.std.specs.Prelude.{◌≡◌, ◌++◌, [], OnOk, IfOk, IfErr};
     ghost use Rattle.std.specs.Option.{option_map};
     ghost use Rattle.fm_exposition.specs.Samples.{labels_of};
-    ghost use Rattle.fm_registry_calls.specs.History.{namespace_at, labels_at};
-    ghost use Rattle.fm_registry_calls.specs.Tree.{Shows};
-    ghost use Rattle.fm_registry_calls.specs.Listing.{own_metrics, listed_tree, order};
-    ghost use Rattle.fm_registry_calls.specs.declared.RegistryError.{RegistryError};
+    ghost use Rattle.fm_registry_model.specs.History.{namespace_at, labels_at};
+    ghost use Rattle.fm_registry_model.specs.Tree.{Shows};
+    ghost use Rattle.fm_registry_model.specs.Listing.{own_metrics, listed_tree, order};
+    ghost use Rattle.fm_registry_model.specs.declared.RegistryError.{RegistryError};
     ghost use Rattle.fm_registry.specs.HasHistory.{HasHistory};
     ghost use Rattle.fm_registry.specs.Seen.{seen_list};
 

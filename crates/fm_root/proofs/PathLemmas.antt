@@ -5,14 +5,14 @@ use Rattle.std.proofs.lemmas.List.{nil_from_length}
 use Rattle.fm_grammar.specs.declared.MetricType.{MetricType}
 use Rattle.fm_raw.specs.declared.metadata.Unit as unit
 use Rattle.fm_exposition.specs.Samples.{labels_of}
-use Rattle.fm_registry_calls.specs.Texts.{Text, Path, Labels}
-use Rattle.fm_registry_calls.specs.History.{History, Call, Register, Subsystem}
-use Rattle.fm_registry_calls.specs.Answer.{Refusal, refusal_of, seen_error, after}
-use Rattle.fm_registry_calls.specs.Tree.{Tree, Reads}
-use Rattle.fm_registry_calls.specs.declared.RegistryError.{RegistryError}
+use Rattle.fm_registry_model.specs.Texts.{Text, Path, Labels}
+use Rattle.fm_registry_model.specs.History.{History, Call, Register, Subsystem}
+use Rattle.fm_registry_model.specs.Answer.{Refusal, refusal_of, seen_error, after}
+use Rattle.fm_registry_model.specs.Tree.{Tree, Reads}
+use Rattle.fm_registry_model.specs.declared.RegistryError.{RegistryError}
 use Rattle.fm_registry.specs.Calls.{RunsCall, IsCall, seen_path}
 use Rattle.fm_registry.specs.declared.registry.run.RegistryCall.{RegistryCall}
-use Rattle.fm_own.specs.Named.{named_metric}
+use Rattle.fm_registry.specs.Named.{named_metric}
 use Rattle.fm_root.specs.Paths.{Below, Replied, RegistersBelow, shown_path}
 use Rattle.fm_root.specs.inside.Requests.{Registering, Asking}
 use Rattle.fm_root.proofs.RootLemmas.{asked}

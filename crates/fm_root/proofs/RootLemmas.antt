@@ -5,16 +5,16 @@ use Rattle.std.specs.String.{string_bytes}
 use Rattle.fm_grammar.specs.declared.MetricType.{MetricType}
 use Rattle.fm_raw.specs.declared.metadata.Unit as unit
 use Rattle.fm_exposition.specs.Samples.{labels_of}
-use Rattle.fm_registry_calls.specs.Texts.{Text, Path, Labels}
-use Rattle.fm_registry_calls.specs.History.{History, Register, Subsystem}
-use Rattle.fm_registry_calls.specs.Answer.{IsAnswered, refusal_of, answer, after}
-use Rattle.fm_registry_calls.specs.Running.{IsReply}
-use Rattle.fm_registry_calls.specs.Tree.{Tree, Reads}
-use Rattle.fm_registry_calls.specs.declared.RegistryError.{RegistryError}
+use Rattle.fm_registry_model.specs.Texts.{Text, Path, Labels}
+use Rattle.fm_registry_model.specs.History.{History, Register, Subsystem}
+use Rattle.fm_registry_model.specs.Answer.{IsAnswered, refusal_of, answer, after}
+use Rattle.fm_registry_model.specs.Running.{IsReply}
+use Rattle.fm_registry_model.specs.Tree.{Tree, Reads}
+use Rattle.fm_registry_model.specs.declared.RegistryError.{RegistryError}
 use Rattle.fm_registry.specs.Calls.{seen_path, RunsCall}
 use Rattle.fm_registry.specs.HasHistory.{Grows}
 use Rattle.fm_registry.specs.declared.registry.run.RegistryCall.{RegistryCall}
-use Rattle.fm_own.specs.Named.{named_metric}
+use Rattle.fm_registry.specs.Named.{named_metric}
 use Rattle.fm_root.specs.Roots.{Adds, Enters}
 use Rattle.fm_root.specs.inside.Requests.{Registering, Asking}
 

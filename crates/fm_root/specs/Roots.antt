@@ -1,14 +1,14 @@
 -- How contracts see a root: its tree, and the subsystem in which it registers.
 use Rattle.std.specs.Prelude.{◌≡◌, ◌⊎◌, ◌++◌, ◌∷◌, [], Result, Ok, Err, OnOk, OnErr, MatchResult}
 use Rattle.fm_grammar.specs.declared.MetricType.{MetricType}
-use Rattle.fm_registry_calls.specs.Texts.{Text, Path, Labels}
-use Rattle.fm_registry_calls.specs.Registration.{Registration}
-use Rattle.fm_registry_calls.specs.declared.RegistryError.{RegistryError}
-use Rattle.fm_registry_calls.specs.declared.RegistryError.TheVariants.{Memory}
-use Rattle.fm_registry_calls.specs.History.{History, Subsystem}
-use Rattle.fm_registry_calls.specs.Answer.{refusal_of, after}
-use Rattle.fm_registry_calls.specs.Running.{IsReply}
-use Rattle.fm_registry_calls.specs.Tree.{Tree, Reads}
+use Rattle.fm_registry_model.specs.Texts.{Text, Path, Labels}
+use Rattle.fm_registry_model.specs.Registration.{Registration}
+use Rattle.fm_registry_model.specs.declared.RegistryError.{RegistryError}
+use Rattle.fm_registry_model.specs.declared.RegistryError.TheVariants.{Memory}
+use Rattle.fm_registry_model.specs.History.{History, Subsystem}
+use Rattle.fm_registry_model.specs.Answer.{refusal_of, after}
+use Rattle.fm_registry_model.specs.Running.{IsReply}
+use Rattle.fm_registry_model.specs.Tree.{Tree, Reads}
 use Rattle.fm_registry.specs.HasHistory.{Grows}
 use Rattle.fm_registry.specs.Registers.{RegistersAt}
 

@@ -2,11 +2,11 @@
 ghost use Rattle.std.specs.Prelude.{◌≡◌, ◌⊎◌, ◌++◌, ◌∷◌, [], None, Some, Err, Ok, IfOk, IfErr, OnOk, map, string_bytes};
 ghost use Rattle.std.specs.Option.{option_map};
 ghost use Rattle.fm_exposition.specs.Samples.{shown_label};
-ghost use Rattle.fm_registry_calls.specs.declared.RegistryError.TheVariants.{Memory};
+ghost use Rattle.fm_registry_model.specs.declared.RegistryError.TheVariants.{Memory};
 ghost use Rattle.fm_registry.specs.HasHistory.{HasHistory, IsNewRoot};
 ghost use Rattle.fm_registry.specs.View.{seen_labels};
 ghost use Rattle.fm_registry.specs.Calls.{seen_path};
-ghost use Rattle.fm_own.specs.Named.{named_metric};
+ghost use Rattle.fm_registry.specs.Named.{named_metric};
 ghost use Rattle.fm_root.specs.Roots.{AddsOrNot, Makes, Enters};
 ghost use Rattle.fm_root.specs.inside.Requests.{Registering, Asking};
 

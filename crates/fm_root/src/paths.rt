@@ -1,13 +1,13 @@
 //! Calls at a path of subsystems of a registry with boxes, which are made where they are missing.
 ghost use Rattle.std.specs.Prelude.{◌≡◌, ◌⊎◌, ◌++◌, ◌∷◌, [], None, Err, IfOk, map};
 ghost use Rattle.fm_exposition.specs.Samples.{shown_label};
-ghost use Rattle.fm_registry_calls.specs.declared.RegistryError.TheVariants.{Memory};
-ghost use Rattle.fm_registry_calls.specs.Answer.{refusal_of};
-ghost use Rattle.fm_registry_calls.specs.History.{Subsystem};
-ghost use Rattle.fm_registry_calls.specs.Tree.{Reads};
+ghost use Rattle.fm_registry_model.specs.declared.RegistryError.TheVariants.{Memory};
+ghost use Rattle.fm_registry_model.specs.Answer.{refusal_of};
+ghost use Rattle.fm_registry_model.specs.History.{Subsystem};
+ghost use Rattle.fm_registry_model.specs.Tree.{Reads};
 ghost use Rattle.fm_registry.specs.HasHistory.{HasHistory, Grows};
 ghost use Rattle.fm_registry.specs.Calls.{seen_path, IsCall};
-ghost use Rattle.fm_own.specs.Named.{named_metric};
+ghost use Rattle.fm_registry.specs.Named.{named_metric};
 ghost use Rattle.fm_root.specs.Paths.{Below, Replied, RegistersBelow, shown_path};
 
 use crate::at::{asking, registering};

@@ -5,14 +5,14 @@ ghost use Rattle.std.specs.Io.KnownBytes.{Keeps};
 ghost use Rattle.fm_exposition.specs.Samples.{shown_label};
 ghost use Rattle.fm_exposition.specs.Written.{IsWritersFault};
 ghost use Rattle.fm_encode_error.specs.declared.EncodeError.{EncodeError};
-ghost use Rattle.fm_registry_calls.specs.declared.RegistryError.TheVariants.{Memory};
-ghost use Rattle.fm_registry_calls.specs.Listing.{order};
-ghost use Rattle.fm_registry_calls.specs.Tree.{Shows};
+ghost use Rattle.fm_registry_model.specs.declared.RegistryError.TheVariants.{Memory};
+ghost use Rattle.fm_registry_model.specs.Listing.{order};
+ghost use Rattle.fm_registry_model.specs.Tree.{Shows};
 ghost use Rattle.fm_registry.specs.HasHistory.{IsNewRoot};
 ghost use Rattle.fm_registry.specs.View.{seen_labels};
 ghost use Rattle.fm_core.specs.Admits.{Admits, Fault};
 ghost use Rattle.fm_core.specs.Encoded.{WritesAdmitted, BeginsAdmitted};
-ghost use Rattle.fm_own.specs.Named.{named_metric};
+ghost use Rattle.fm_registry.specs.Named.{named_metric};
 ghost use Rattle.fm_root.specs.declared.kinds.Metric.TheVariants.{Own};
 ghost use Rattle.fm_root.specs.Roots.{AddsOrNot, AddsClone, Makes, Enters};
 

@@ -1,3 +1,4 @@
 pub mod TallyErrors
 pub mod Events
 pub mod Shares
+pub mod Pieces

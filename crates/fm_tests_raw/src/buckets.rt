@@ -1,7 +1,7 @@
 //! Lists of bounds, buckets and the search against values from outside.
 ghost use Rattle.std.specs.Prelude.{◌≡◌, ◌<◌};
 
-use fm_bucket::{
+use fm_raw::bucket::{
     BUCKET_LABEL, Bound, Bucket, BucketError, DEFAULT_BUCKETS, ExponentialBuckets, Probe, Steps,
     default_buckets, exponential_buckets, exponential_buckets_range, find_bucket, linear_buckets,
 };

@@ -5,7 +5,7 @@ ghost use Rattle.std.specs.Prelude.{◌≡◌, [], ◌∷◌, pos, codes, decima
 ghost use Rattle.fastmetrics.specs.Exposition.{Whole};
 ghost use Rattle.fastmetrics.specs.Points.{GaugePoint};
 ghost use Rattle.fm_grammar.specs.declared.MetricType.TheVariants.{Gauge};
-ghost use Rattle.fastmetrics.specs.Named.{label};
+ghost use Rattle.fastmetrics.specs.OwnLabels.{label};
 
 pub mod request;
 

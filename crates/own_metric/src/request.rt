@@ -1,6 +1,6 @@
 //! The labels of a request.
 ghost use Rattle.std.specs.Prelude.{◌≡◌, [], ◌∷◌, codes, decimal, if◌then◌else◌};
-ghost use Rattle.fastmetrics.specs.Named.{label};
+ghost use Rattle.fastmetrics.specs.OwnLabels.{label};
 ghost use Rattle.own_metric.specs.declared.request.Method.TheVariants.{Get, Put};
 
 use fastmetrics::encoder::{

@@ -5,8 +5,8 @@ use Rattle.fm_grammar.specs.WellFormed.{IsFamily}
 use Rattle.fm_grammar.specs.Reading.{IsExposition}
 use Rattle.fm_exposition.specs.Rows.{head_rows}
 use Rattle.fm_exposition.specs.inside.DocumentRows.{family_rows, families_rows}
-use Rattle.fm_registry_calls.specs.Registration.{printed_unit}
-use Rattle.fm_registry_calls.specs.Listing.{Listed, listed_name}
+use Rattle.fm_registry_model.specs.Registration.{printed_unit}
+use Rattle.fm_registry_model.specs.Listing.{Listed, listed_name}
 use Rattle.fm_writer.specs.Output.{Output, OutputSamples, OutputText}
 use Rattle.fm_encoder.specs.Points.{Member}
 use Rattle.fm_encoder.specs.Gathered.{GatheredMembers}

@@ -1,4 +1,4 @@
-//! The OpenMetrics text format: collecting a registry, and writing its document.
+//! The OpenMetrics text format: collecting a registry, writing its document, and reading documents back.
 ghost use Rattle.std.specs.Prelude.{◌≡◌, ◌⊎◌, None, OnOk, IfOk, IfErr};
 ghost use Rattle.std.specs.Option.{option_copied};
 ghost use Rattle.std.specs.Io.KnownBytes.{Keeps};
@@ -6,8 +6,8 @@ ghost use Rattle.fm_grammar.specs.Reading.{IsNewName};
 ghost use Rattle.fm_encode_error.specs.declared.EncodeError.{EncodeError};
 ghost use Rattle.fm_exposition.specs.Samples.{labels_of};
 ghost use Rattle.fm_exposition.specs.Written.{IsWritersFault};
-ghost use Rattle.fm_registry_calls.specs.Listing.{listed_name, order, IsListable};
-ghost use Rattle.fm_registry_calls.specs.Tree.{Shows};
+ghost use Rattle.fm_registry_model.specs.Listing.{listed_name, order, IsListable};
+ghost use Rattle.fm_registry_model.specs.Tree.{Shows};
 ghost use Rattle.fm_registry.specs.Seen.{seen_listed};
 ghost use Rattle.fm_registry.specs.HasHistory.{HasHistory};
 ghost use Rattle.fm_core.specs.Families.{heading_in, AddsFamily, FaultUnder};
@@ -21,10 +21,14 @@ use fm_encoder::EncodeMetric;
 pub use fm_exposition::{Exemplar, Exposition, FamilySamples, Sample, Value};
 pub use fm_grammar::SampleKind;
 use fm_raw::Metadata;
+pub use fm_reader::{ReadError, read};
 use fm_registry::{ListedMetric, Registry};
 pub use fm_writer::encode_exposition;
 use std::alloc::Global;
 use std::io::Write;
+
+/// The content type of a document, for the header of a server's answer (OpenMetrics 1.0.0, "Overall Structure").
+pub const CONTENT_TYPE: &str = "application/openmetrics-text; version=1.0.0; charset=utf-8";
 
 // Goes on to a registry, and takes a metric of it, which has a new name.
 fn encode_under<'a, M: EncodeMetric>(

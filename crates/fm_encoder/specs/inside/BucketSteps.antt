@@ -8,7 +8,7 @@ use Rattle.fm_grammar.specs.declared.SampleKind.TheVariants.{Count, Sum, GCount,
 use Rattle.fm_grammar.specs.WellFormed.{IsSample}
 use Rattle.fm_encode_error.specs.declared.EncodeError.{EncodeError}
 use Rattle.fm_encode_error.specs.declared.EncodeError.TheVariants.{KindMismatch, ExemplarCountMismatch, BucketOverflow}
-use Rattle.fm_bucket.specs.declared.bound.Bucket.{Bucket}
+use Rattle.fm_raw.specs.declared.bucket.bound.Bucket.{Bucket}
 use Rattle.fm_writer.specs.Output.{appended}
 use Rattle.fm_encoder.specs.Points.{HandedExemplar, ExemplarClean, ExemplarFault, values_in, BucketsFault, bucket_line, bucket_samples}
 use Rattle.fm_encoder.specs.Gathered.{GatheredPoints, OwnRefusal}

@@ -3,7 +3,7 @@ ghost use Rattle.std.specs.Prelude.{◌≡◌, [], ◌∷◌, IfOk, IsTrue};
 ghost use Rattle.fm_encoder.specs.Points.{bound_label};
 
 use crate::gathered::push_label;
-use fm_bucket::{BUCKET_LABEL, Bound, Bucket};
+use fm_raw::bucket::{BUCKET_LABEL, Bound, Bucket};
 use fm_raw::fixed::FixedBuffer;
 use fm_writer::LabelText;
 use std::alloc::{AllocError, Global};
@@ -18,7 +18,7 @@ pub(crate) struct BoundLabel {
 
 impl Model for BoundLabel {
     ghost use Rattle.std.specs.Prelude.{◌≡◌, [], ◌∷◌};
-    ghost use Rattle.fm_bucket.specs.declared.bound.Bound.{Bound};
+    ghost use Rattle.fm_raw.specs.declared.bucket.bound.Bound.{Bound};
     ghost use Rattle.fm_encoder.specs.Points.{bound_label};
 
     ghost Value = { Bound };

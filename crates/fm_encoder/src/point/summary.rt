@@ -8,11 +8,11 @@ ghost use Rattle.fm_encoder.specs.inside.Steps.{PushesSample, PushesSamples};
 
 use crate::gathered::push_label;
 use crate::point::PointEncoder;
-use fm_bucket::{QUANTILE_LABEL, Quantile};
 use fm_encode_error::EncodeError;
 use fm_exposition::Value;
 use fm_grammar::{MetricType, SampleKind};
 use fm_raw::fixed::{FixedBuffer, FixedSum};
+use fm_raw::quantile::{QUANTILE_LABEL, Quantile};
 use fm_writer::LabelText;
 use std::time::Duration;
 

@@ -1,7 +1,7 @@
 -- One value more in a list of counts.
 use Rattle.std.specs.Prelude.{ℕ, ◌+◌, ℤ, pos, neg_ℤ, ◌≤ℤ◌, ◌*◌, ◌^◌, List, [], ◌∷◌, int_lt, suc, if◌then◌else◌}
-use Rattle.fm_bucket.specs.BoundTests.{lies_below}
-use Rattle.fm_bucket.specs.declared.bound.Bucket.{Bucket}
+use Rattle.fm_raw.specs.BoundTests.{lies_below}
+use Rattle.fm_raw.specs.declared.bucket.bound.Bucket.{Bucket}
 use Rattle.fm_histogram.specs.Histogram.{Histogram, IsCounts}
 
 -- what counts by these bounds are: the histogram of some values of 64 bits

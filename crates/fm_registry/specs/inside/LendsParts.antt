@@ -10,8 +10,8 @@ use Rattle.std.specs.Option.{option_map}
 use Rattle.std.specs.String.{string_bytes}
 use Rattle.std.specs.Vec.{with_item}
 use Rattle.std.specs.Borrow.{Fml, RattleType, MutBor, Lends}
-use Rattle.fm_registry_calls.specs.Tree.{Tree}
-use Rattle.fm_registry_calls.specs.inside.Forests.{with_nth}
+use Rattle.fm_registry_model.specs.Tree.{Tree}
+use Rattle.fm_registry_model.specs.inside.Forests.{with_nth}
 use Rattle.fm_registry.specs.Lists.{items_of}
 use Rattle.fm_registry.specs.inside.TreeView.{forest_of}
 use Rattle.fm_registry.specs.contracts.registry.Registry.{the_row}

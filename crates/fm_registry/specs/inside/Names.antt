@@ -4,10 +4,10 @@ use Rattle.std.specs.Option.{option_map}
 use Rattle.std.specs.String.{string_bytes}
 use Rattle.fm_raw.specs.Units.{seen_unit}
 use Rattle.fm_raw.specs.declared.metadata.Metadata.{Metadata}
-use Rattle.fm_registry_calls.specs.Texts.{Text, has_text, suffixed_name}
-use Rattle.fm_registry_calls.specs.Taken.{tail_of, tails_of}
-use Rattle.fm_registry_calls.specs.Registration.{Registration, printed_unit}
-use Rattle.fm_registry_calls.specs.Answer.{Refusal, AlreadyExists, NameTaken, first_of, has_metric}
+use Rattle.fm_registry_model.specs.Texts.{Text, has_text, suffixed_name}
+use Rattle.fm_registry_model.specs.Taken.{tail_of, tails_of}
+use Rattle.fm_registry_model.specs.Registration.{Registration, printed_unit}
+use Rattle.fm_registry_model.specs.Answer.{Refusal, AlreadyExists, NameTaken, first_of, has_metric}
 
 -- the tail of a metric with this metadata
 abbrev pub metadata_tail : Metadata → Text

@@ -1,9 +1,9 @@
 -- A call at one registry, as a call of the history.
 use Rattle.std.specs.String.{string_bytes}
 use Rattle.fm_exposition.specs.Samples.{labels_of}
-use Rattle.fm_registry_calls.specs.Texts.{Path}
-use Rattle.fm_registry_calls.specs.History as history
-use Rattle.fm_registry_calls.specs.History.{Call}
+use Rattle.fm_registry_model.specs.Texts.{Path}
+use Rattle.fm_registry_model.specs.History as history
+use Rattle.fm_registry_model.specs.History.{Call}
 use Rattle.fm_registry.specs.View.{asked_metric}
 use Rattle.fm_registry.specs.declared.registry.run.Request as request
 

@@ -3,8 +3,8 @@ use Rattle.std.specs.Prelude.{◌≡◌, ℕ, Bool, true, List, Option, None, So
 use Rattle.std.specs.declared.alloc.Global.{Global}
 use Rattle.fm_grammar.specs.NameTests.{is_snake_case, is_label_name}
 use Rattle.fm_exposition.specs.Samples.{label_of, labels_of}
-use Rattle.fm_registry_calls.specs.Texts.{Text, Labels}
-use Rattle.fm_registry_calls.specs.Answer.{Refusal, InvalidLabelName, DuplicateLabel, root_labels_refusal}
+use Rattle.fm_registry_model.specs.Texts.{Text, Labels}
+use Rattle.fm_registry_model.specs.Answer.{Refusal, InvalidLabelName, DuplicateLabel, root_labels_refusal}
 
 -- whether a root accepts this namespace, or none
 abbrev pub takes_namespace : Option Text → Bool

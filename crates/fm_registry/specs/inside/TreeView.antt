@@ -3,8 +3,8 @@ use Rattle.std.specs.Prelude.{List, [], ◌∷◌, map, Option, None, Some}
 use Rattle.std.specs.Option.{option_map}
 use Rattle.std.specs.String.{string_bytes}
 use Rattle.indexmap.specs.IndexMap.{IndexMap}
-use Rattle.fm_registry_calls.specs.Registration.{Registration}
-use Rattle.fm_registry_calls.specs.Tree.{Facts, Forest, Leaf, Child, Tree}
+use Rattle.fm_registry_model.specs.Registration.{Registration}
+use Rattle.fm_registry_model.specs.Tree.{Facts, Forest, Leaf, Child, Tree}
 use Rattle.fm_registry.specs.Lists.{items_of}
 use Rattle.fm_registry.specs.declared.names.Tailed.{Tailed}
 use Rattle.fm_registry.specs.declared.registry.Registry.TheInside.{Inside}

@@ -4,12 +4,12 @@ ghost use Rattle.std.specs.Option.{option_map};
 ghost use Rattle.std.specs.String.{string_bytes};
 ghost use Rattle.fm_raw.specs.Units.{seen_unit};
 ghost use Rattle.indexmap.specs.IndexMap.{get};
-ghost use Rattle.fm_registry_calls.specs.Registration.{is_same_metric, takes_no_unit as has_no_unit};
-ghost use Rattle.fm_registry_calls.specs.Answer.{refusal_of, has_metric, metric_refusal, IsAnswered, answer, after};
-ghost use Rattle.fm_registry_calls.specs.inside.Refusals.{name_refusal, standing_refusal};
-ghost use Rattle.fm_registry_calls.specs.History.{Register};
-ghost use Rattle.fm_registry_calls.specs.Tree.{Reads, names_in};
-ghost use Rattle.fm_registry_calls.specs.inside.Forests.{with_metric};
+ghost use Rattle.fm_registry_model.specs.Registration.{is_same_metric};
+ghost use Rattle.fm_registry_model.specs.Answer.{refusal_of, has_metric, metric_refusal, IsAnswered, answer, after};
+ghost use Rattle.fm_registry_model.specs.inside.Refusals.{name_refusal, standing_refusal};
+ghost use Rattle.fm_registry_model.specs.History.{Register};
+ghost use Rattle.fm_registry_model.specs.Tree.{Reads, names_in};
+ghost use Rattle.fm_registry_model.specs.inside.Forests.{with_metric};
 ghost use Rattle.fm_registry.specs.inside.Names.{refusal_beside};
 ghost use Rattle.fm_registry.specs.contracts.names.TailedPartialEq.TheImpl.{ghosts as tailed};
 ghost use Rattle.fm_registry.specs.View.{seen_metric, asked, asked_metric};
@@ -21,23 +21,9 @@ use super::Registry;
 use crate::names::Tailed;
 use fm_encoder::EncodeMetric;
 use fm_raw::{Metadata, MetricType, Unit, is_snake_case, is_unit_text};
-use fm_registry_calls::RegistryError;
+use fm_registry_model::RegistryError;
 use indexmap::IndexMap;
 use std::alloc::Global;
-
-// Whether metrics of this type can't have a unit.
-fn takes_no_unit(metric_type: MetricType) -> bool
-    ensures { result ≡ has_no_unit metric_type }
-{
-    match metric_type {
-        MetricType::Unknown | MetricType::StateSet | MetricType::Info => true,
-        MetricType::Gauge
-        | MetricType::Counter
-        | MetricType::Histogram
-        | MetricType::GaugeHistogram
-        | MetricType::Summary => false,
-    }
-}
 
 // Tests a metric's name and unit.
 fn named_metric(
@@ -53,7 +39,7 @@ fn named_metric(
     if !is_snake_case(name.as_str()) {
         return Err(RegistryError::InvalidNameFormat { name });
     }
-    if unit.is_some() && takes_no_unit(metric_type) {
+    if unit.is_some() && !metric_type.takes_unit() {
         return Err(RegistryError::MustHaveAnEmptyUnitString { name });
     }
     let unit = match unit {

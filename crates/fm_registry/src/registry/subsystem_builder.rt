@@ -3,12 +3,12 @@ ghost use Rattle.std.specs.Prelude.{◌≡◌, true, IfOk, []};
 ghost use Rattle.std.specs.Borrow.{sem};
 ghost use Rattle.std.specs.String.{string_bytes};
 ghost use Rattle.fm_exposition.specs.Samples.{labels_of};
-ghost use Rattle.fm_registry_calls.specs.Answer.{refusal_of, name_or_depth_refusal, asking_refusal, subsystem_refusal, first_bad_label, after, IsAnswered};
-ghost use Rattle.fm_registry_calls.specs.History.{Subsystem as AskSubsystem};
-ghost use Rattle.fm_registry_calls.specs.Texts.{has_text};
-ghost use Rattle.fm_registry_calls.specs.Tree.{Reads, names_in};
-ghost use Rattle.fm_registry_calls.specs.Steps.{with_subsystem};
-ghost use Rattle.fm_registry_calls.specs.Loan.{LoanReads};
+ghost use Rattle.fm_registry_model.specs.Answer.{refusal_of, name_or_depth_refusal, asking_refusal, subsystem_refusal, first_bad_label, after, IsAnswered};
+ghost use Rattle.fm_registry_model.specs.History.{Subsystem as AskSubsystem};
+ghost use Rattle.fm_registry_model.specs.Texts.{has_text};
+ghost use Rattle.fm_registry_model.specs.Tree.{Reads, names_in};
+ghost use Rattle.fm_registry_model.specs.Steps.{with_subsystem};
+ghost use Rattle.fm_registry_model.specs.Loan.{LoanReads};
 ghost use Rattle.fm_registry.specs.Building.{rests_if_refused, builder_rests, lends_built};
 ghost use Rattle.fm_registry.specs.HasHistory.{HasHistory};
 
@@ -17,7 +17,7 @@ use super::{Registry, Subsystem};
 use crate::labels::tested_labels;
 use fm_encoder::EncodeMetric;
 use fm_raw::is_snake_case;
-use fm_registry_calls::RegistryError;
+use fm_registry_model::RegistryError;
 use std::alloc::Global;
 
 /// Sets up a subsystem of a registry. It borrows the registry until the subsystem is built.

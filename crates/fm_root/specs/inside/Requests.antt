@@ -4,7 +4,7 @@ use Rattle.std.specs.declared.alloc.Global.{Global}
 use Rattle.std.specs.String.{string_bytes}
 use Rattle.fm_exposition.specs.Samples.{labels_of}
 use Rattle.fm_raw.specs.declared.metadata.Unit as unit
-use Rattle.fm_registry_calls.specs.Texts.{Text, Path, Labels}
+use Rattle.fm_registry_model.specs.Texts.{Text, Path, Labels}
 use Rattle.fm_registry.specs.Calls.{seen_path}
 use Rattle.fm_registry.specs.declared.registry.run.RegistryCall as given
 

@@ -1,9 +1,9 @@
 -- How a root is stored.
 use Rattle.std.specs.Prelude.{refl}
 use Rattle.std.specs.Coded.{Coded, code_by, coded×, coded_ℕ, coded_list}
-use Rattle.fm_registry_calls.specs.Texts.{Path}
-use Rattle.fm_registry_calls.specs.Tree.{Tree}
-use Rattle.fm_registry_calls.specs.inside.TreeCode.{tree_code}
+use Rattle.fm_registry_model.specs.Texts.{Path}
+use Rattle.fm_registry_model.specs.Tree.{Tree}
+use Rattle.fm_registry_model.specs.inside.TreeCode.{tree_code}
 use Rattle.fm_root.specs.Roots.{RootState}
 
 -- the code of its tree, and that of its path

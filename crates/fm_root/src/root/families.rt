@@ -1,6 +1,6 @@
 //! Families by texts that a root makes and registers, a line each.
 ghost use Rattle.std.specs.Prelude.{◌≡◌, None, Some};
-ghost use Rattle.fm_own.specs.Named.{named_metric};
+ghost use Rattle.fm_registry.specs.Named.{named_metric};
 ghost use Rattle.fm_root.specs.Roots.{Makes};
 ghost use Rattle.fm_root.specs.declared.kinds.by_texts.ByTexts.TheVariants.{Counters, FixedCounters, Gauges, FixedGauges, Histograms, GaugeHistograms};
 ghost use Rattle.fm_root.specs.declared.kinds.Metric.TheVariants.{ByTexts};
@@ -9,11 +9,11 @@ use super::Root;
 use crate::kinds::Metric;
 use fm_encoder::EncodeMetric;
 use fm_histogram::{GaugeHistogram, Histogram};
-use fm_own::TextFamily;
+use fm_family::TextFamily;
 use fm_raw::{Fixed, TryDefault, Unit};
 use fm_registry::RegistryError;
-use fm_shared_metrics::counter::Counter;
-use fm_shared_metrics::gauge::Gauge;
+use fm_metrics::counter::Counter;
+use fm_metrics::gauge::Gauge;
 use std::sync::Wait;
 
 impl<H: Wait + Copy + Send + Sync + Drop, X: EncodeMetric> Root<H, X> {

@@ -2,8 +2,8 @@ use Rattle.std.proofs.Common.{◌<◌, ◌++◌, codes, List, length, arith, inl
 use Rattle.std.specs.List.{AllByRecursion}
 use Rattle.std.proofs.lemmas.List.{take_all}
 use Rattle.std.proofs.lemmas.Result.{err_from_is_err_and}
-use Rattle.fm_registry_calls.specs.Listing.{Listed, IsListable}
-use Rattle.fm_registry_calls.proofs.OrderLemmas.{listed_tree-fits}
+use Rattle.fm_registry_model.specs.Listing.{Listed, IsListable}
+use Rattle.fm_registry_model.proofs.OrderLemmas.{listed_tree-fits}
 use Rattle.fm_registry.specs.Seen.{seen_list, seen_listed}
 use Rattle.fm_grammar.specs.Exposition.{Text}
 use Rattle.fm_writer.specs.Output.{OutputText}

@@ -1,6 +1,6 @@
 use Rattle.std.proofs.Common.{◌≡◌, ℕ, refl, ◌+◌, ◌<◌, add-one, length, get_or, set, ap, sym, ◌∙◌, arith}
-use Rattle.fm_bucket.specs.declared.bound.Bucket.{Bucket}
-use Rattle.fm_bucket.specs.declared.bound.Bound.{Bound}
+use Rattle.fm_raw.specs.declared.bucket.bound.Bucket.{Bucket}
+use Rattle.fm_raw.specs.declared.bucket.bound.Bound.{Bound}
 use Rattle.fm_histogram.proofs.MergeLemmas.{merged_upto, merged_upto-get, merged_more, merged_all}
 use Rattle.fm_histogram.proofs.counts.add_counts.Goals as goal
 

@@ -1,6 +1,6 @@
 use Rattle.std.proofs.Common.{ap, string_bytes}
 use Rattle.std.specs.Option.{option_map}
-use Rattle.fm_reader_lines.specs.inside.Samples.{read_sample_of}
+use Rattle.fm_reader.specs.inside.Samples.{read_sample_of}
 use Rattle.fm_reader.proofs.StepLemmas.{unit_follows, sample_follows}
 use Rattle.fm_reader.proofs.machine.step_within.Goals as goal
 

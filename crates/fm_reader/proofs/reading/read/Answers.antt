@@ -1,5 +1,6 @@
 use Rattle.std.proofs.Common.{◌∷◌, length, ap, arith, rules, Some, None, lit<, length-append}
 use Rattle.std.proofs.lemmas.Str.Pattern.{split_parts}
+use Rattle.fm_grammar.proofs.Law.{one_reading}
 use Rattle.fm_reader.proofs.Place.{place_bound, line_of, place_next, bad_line, cut_short, fault_refuses, empty_text, not_empty_text, ended_place, given}
 use Rattle.fm_reader.proofs.reading.read.Goals as goal
 
@@ -57,4 +58,4 @@ returns-clause-read c = given _ _ _ c.exposition.ensures (ended_place _ _ _ _ _ 
 pub returns-clause-only : goal.returns-clause-only
 returns-clause-only c = λ f h d.
     let r = given _ _ _ c.exposition.ensures (ended_place _ _ _ _ _ c.loop-front.invariant.place (empty_text _ c.if-not-is_empty.ensures) c.in-Some-ended.ensures) in
-    c.unique_readability.ensures c.args.text.now f _ h.well_formed r.0.well_formed d r.1
+    one_reading c.args.text.now f _ h.well_formed r.0.well_formed d r.1

@@ -1,6 +1,6 @@
 use Rattle.std.proofs.Common.{◌≡◌, [], take, None}
 use Rattle.fm_exposition.specs.Samples.{labels_of}
-use Rattle.fm_registry_calls.specs.Answer.{labels_refusal_behind}
+use Rattle.fm_registry_model.specs.Answer.{labels_refusal_behind}
 use Rattle.fm_registry.proofs.labels.refused_place.Given as goal
 
 abbrev pub invariant-loop-place : goal.invariant-loop-place

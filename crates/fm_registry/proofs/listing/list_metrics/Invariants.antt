@@ -4,7 +4,7 @@ use Rattle.std.specs.String.{string_bytes}
 use Rattle.fm_registry.specs.View.{seen_labels}
 use Rattle.fm_registry.specs.inside.TreeView.{seen_metrics}
 use Rattle.fm_registry.specs.Seen.{seen_list}
-use Rattle.fm_registry_calls.specs.Listing.{listed_with}
+use Rattle.fm_registry_model.specs.Listing.{listed_with}
 use Rattle.fm_registry.proofs.listing.list_metrics.Given as goal
 
 abbrev pub invariant-loop-index : goal.invariant-loop-index

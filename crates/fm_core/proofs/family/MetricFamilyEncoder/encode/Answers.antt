@@ -1,7 +1,7 @@
 use Rattle.std.proofs.Common.{sym, subst}
 use Rattle.fm_grammar.specs.Reading.{IsExposition, IsNewName}
 use Rattle.fm_grammar.proofs.States.{exposition_push}
-use Rattle.fm_registry_calls.specs.Listing.{listed_name}
+use Rattle.fm_registry_model.specs.Listing.{listed_name}
 use Rattle.fm_core.specs.Families.{next_heading}
 use Rattle.fm_core.proofs.family.MetricFamilyEncoder.encode.Goals as goal
 

@@ -1,8 +1,8 @@
 use Rattle.std.proofs.Common.{◌<◌, List, length, arith, inl, inr, subst, ap, sym, ◌∙◌}
 use Rattle.std.specs.List.{AllByRecursion}
 use Rattle.std.proofs.lemmas.Result.{err_from_is_err_and}
-use Rattle.fm_registry_calls.specs.Listing.{Listed, IsListable}
-use Rattle.fm_registry_calls.proofs.OrderLemmas.{listed_tree-fits}
+use Rattle.fm_registry_model.specs.Listing.{Listed, IsListable}
+use Rattle.fm_registry_model.proofs.OrderLemmas.{listed_tree-fits}
 use Rattle.fm_registry.specs.Seen.{seen_list, seen_listed}
 use Rattle.fm_core.specs.Admits.{Fault}
 use Rattle.fm_core.proofs.CollectLemmas.{Admits-next, next_new, names_differ, Fault-at, IsListable-at, refusal-not_writing}

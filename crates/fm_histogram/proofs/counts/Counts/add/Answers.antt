@@ -4,7 +4,7 @@ use Rattle.std.proofs.lemmas.List.{with_items_is}
 use Rattle.std.specs.Int.{w64, w128}
 use Rattle.std.specs.Int.RustNames.{FitsSigned}
 use Rattle.std.specs.Vec.{with_items}
-use Rattle.fm_bucket.specs.declared.bound.Bucket.{Bucket}
+use Rattle.fm_raw.specs.declared.bucket.bound.Bucket.{Bucket}
 use Rattle.fm_histogram.specs.Histogram.{Histogram, IsCounts, place_among}
 use Rattle.fm_histogram.specs.inside.Counting.{IsOfSome, place, one_more}
 use Rattle.fm_histogram.proofs.BucketLemmas.{place_is, place_is_first, place_within, count_of_buckets}

@@ -2,7 +2,7 @@ use Rattle.std.proofs.Common.{◌≡◌, ℕ, ◌+◌, ◌<◌, ℤ, ◌+ℤ◌,
 use Rattle.std.specs.Int.{w128}
 use Rattle.std.specs.Vec.{with_items}
 use Rattle.std.proofs.lemmas.List.{with_items_is}
-use Rattle.fm_bucket.specs.declared.bound.Bucket.{Bucket}
+use Rattle.fm_raw.specs.declared.bucket.bound.Bucket.{Bucket}
 use Rattle.fm_histogram.specs.Histogram.{Histogram, IsCounts, upper_bounds, merged, merged_buckets}
 use Rattle.fm_histogram.specs.inside.Counting.{IsOfSome}
 use Rattle.fm_histogram.proofs.MergeLemmas.{merges, bounds_same, lengths_same}

@@ -1,7 +1,7 @@
 use Rattle.std.proofs.Common.{◌≡◌, ℕ, ◌≤◌, ℤ, pos, List, [], ◌∷◌, ◌++◌, None, true, map, take, length, refl, ap, ◌∙◌, arith, rules}
 use Rattle.std.proofs.lemmas.Int.{ints}
 use Rattle.std.proofs.lemmas.List.{take_all}
-use Rattle.fm_bucket.specs.declared.bound.Bucket.{Bucket}
+use Rattle.fm_raw.specs.declared.bucket.bound.Bucket.{Bucket}
 use Rattle.fm_histogram.specs.Histogram.{IsCounts, rises}
 use Rattle.fm_histogram.proofs.EmptyLemmas.{finite, endless, of_none}
 use Rattle.fm_histogram.proofs.counts.Counts.new.Goals as goal

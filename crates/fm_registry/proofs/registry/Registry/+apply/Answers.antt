@@ -1,11 +1,11 @@
 use Rattle.std.proofs.Common.{sym, ap, ◌∙◌}
 use Rattle.std.specs.String.{string_bytes}
-use Rattle.fm_registry_calls.specs.inside.Forests.{place_in}
-use Rattle.fm_registry_calls.specs.Answer.{refusal_of}
-use Rattle.fm_registry_calls.specs.inside.Paths.{path_of}
+use Rattle.fm_registry_model.specs.inside.Forests.{place_in}
+use Rattle.fm_registry_model.specs.Answer.{refusal_of}
+use Rattle.fm_registry_model.specs.inside.Paths.{path_of}
 use Rattle.fm_registry.specs.inside.Request.{call_at}
-use Rattle.fm_registry_calls.proofs.ForestLemmas.{place_in-IsPlace}
-use Rattle.fm_registry_calls.proofs.ApplyLemmas.{apply-reply, apply-ok, apply-err}
+use Rattle.fm_registry_model.proofs.ForestLemmas.{place_in-IsPlace}
+use Rattle.fm_registry_model.proofs.ApplyLemmas.{apply-reply, apply-ok, apply-err}
 use Rattle.fm_registry.proofs.RequestLemmas.{call_at-pop, request-missing}
 use Rattle.fm_registry.proofs.registry.Registry.+apply.Goals as goal
 

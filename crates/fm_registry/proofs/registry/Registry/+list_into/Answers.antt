@@ -1,6 +1,6 @@
 use Rattle.std.proofs.Common.{◌<◌, length, arith, ◌++◌}
 use Rattle.fm_registry.specs.Seen.{seen_list}
-use Rattle.fm_registry_calls.specs.Listing.{own_metrics}
+use Rattle.fm_registry_model.specs.Listing.{own_metrics}
 use Rattle.fm_registry.proofs.ListingLemmas.{listed-subsystem}
 use Rattle.fm_registry.proofs.registry.Registry.+list_into.Goals as goal
 

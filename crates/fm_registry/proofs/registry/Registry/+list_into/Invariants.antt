@@ -1,7 +1,7 @@
 use Rattle.std.proofs.Common.{◌≡◌, ◌++◌, take}
 use Rattle.fm_registry.specs.inside.TreeView.{forest_of}
 use Rattle.fm_registry.specs.Seen.{seen_list}
-use Rattle.fm_registry_calls.specs.Listing.{own_metrics, listed_forest}
+use Rattle.fm_registry_model.specs.Listing.{own_metrics, listed_forest}
 use Rattle.fm_registry.proofs.registry.Registry.+list_into.Given as goal
 
 abbrev pub invariant-loop-subsystem : goal.invariant-loop-subsystem

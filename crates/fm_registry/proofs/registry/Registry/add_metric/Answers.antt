@@ -1,6 +1,6 @@
 use Rattle.std.proofs.Common.{[]}
-use Rattle.fm_registry_calls.specs.History.{Register}
-use Rattle.fm_registry_calls.proofs.CallLemmas.{register-reads}
+use Rattle.fm_registry_model.specs.History.{Register}
+use Rattle.fm_registry_model.proofs.CallLemmas.{register-reads}
 use Rattle.fm_registry.specs.View.{asked_metric}
 use Rattle.fm_registry.proofs.GrowthLemmas.{Grows-answered, Grows-sound}
 use Rattle.fm_registry.proofs.registry.Registry.add_metric.Goals as goal

@@ -1,9 +1,9 @@
 use Rattle.std.proofs.Common.{sym, subst, inr}
 use Rattle.std.proofs.lemmas.Result.{err_from_is_err_and}
-use Rattle.fm_registry_calls.specs.Tree.{names_in}
-use Rattle.fm_registry_calls.specs.Answer.{IsAnswered, seen_error, refusal_of}
-use Rattle.fm_registry_calls.specs.inside.Refusals.{standing_refusal}
-use Rattle.fm_registry_calls.proofs.AnswerLemmas.{metric_refusal-named, metric_refusal-refused}
+use Rattle.fm_registry_model.specs.Tree.{names_in}
+use Rattle.fm_registry_model.specs.Answer.{IsAnswered, seen_error, refusal_of}
+use Rattle.fm_registry_model.specs.inside.Refusals.{standing_refusal}
+use Rattle.fm_registry_model.proofs.AnswerLemmas.{metric_refusal-named, metric_refusal-refused}
 use Rattle.fm_registry.specs.View.{asked_metric, seen_metric}
 use Rattle.fm_registry.proofs.registry.Registry.insert_here.Goals as goal
 

@@ -1,7 +1,7 @@
 use Rattle.std.proofs.Common.{◌∙◌, ap, refl, subst, inl}
-use Rattle.fm_registry_calls.specs.Tree.{names_in}
-use Rattle.fm_registry_calls.specs.Answer.{IsAnswered, refusal_of}
-use Rattle.fm_registry_calls.proofs.AnswerLemmas.{standing_may}
+use Rattle.fm_registry_model.specs.Tree.{names_in}
+use Rattle.fm_registry_model.specs.Answer.{IsAnswered, refusal_of}
+use Rattle.fm_registry_model.proofs.AnswerLemmas.{standing_may}
 use Rattle.fm_registry.specs.inside.Names.{refusal_beside}
 use Rattle.fm_registry.specs.View.{seen_metric}
 use Rattle.fm_registry.proofs.TailLemmas.{beside_standing}

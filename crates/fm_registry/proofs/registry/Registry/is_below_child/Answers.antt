@@ -1,4 +1,4 @@
-use Rattle.fm_registry_calls.specs.Taken.{is_below}
+use Rattle.fm_registry_model.specs.Taken.{is_below}
 use Rattle.fm_registry.proofs.TailLemmas.{any_child}
 use Rattle.fm_registry.proofs.registry.Registry.is_below_child.Goals as goal
 

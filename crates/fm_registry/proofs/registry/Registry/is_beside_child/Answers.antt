@@ -1,5 +1,5 @@
 use Rattle.std.proofs.Common.{◌||◌}
-use Rattle.fm_registry_calls.specs.Taken.{is_below}
+use Rattle.fm_registry_model.specs.Taken.{is_below}
 use Rattle.fm_registry.proofs.TailLemmas.{any_child}
 use Rattle.fm_registry.proofs.registry.Registry.is_beside_child.Goals as goal
 

@@ -1,10 +1,10 @@
 use Rattle.std.proofs.Common.{◌≡◌, ℕ, List, Some, sym, ap, ◌∙◌, inl}
 use Rattle.fm_exposition.specs.Samples.{labels_of}
-use Rattle.fm_registry_calls.specs.Tree.{find_child}
-use Rattle.fm_registry_calls.proofs.CallLemmas.{subsystem-loan}
+use Rattle.fm_registry_model.specs.Tree.{find_child}
+use Rattle.fm_registry_model.proofs.CallLemmas.{subsystem-loan}
 use Rattle.std.specs.String.{string_bytes}
-use Rattle.fm_registry_calls.specs.Steps.{with_named}
-use Rattle.fm_registry_calls.proofs.ForestLemmas.{place_in-IsPlace}
+use Rattle.fm_registry_model.specs.Steps.{with_named}
+use Rattle.fm_registry_model.proofs.ForestLemmas.{place_in-IsPlace}
 use Rattle.fm_registry.proofs.SoundLemmas.{LoanReads-sound}
 use Rattle.fm_registry.proofs.registry.Registry.labelled_subsystem.Goals as goal
 

@@ -1,7 +1,7 @@
 use Rattle.std.proofs.Common.{◌∙◌, ◌++◌, ap}
 use Rattle.fm_registry.specs.Seen.{seen_list}
-use Rattle.fm_registry_calls.specs.Listing.{listed_tree}
-use Rattle.fm_registry_calls.proofs.OrderLemmas.{shown-order}
+use Rattle.fm_registry_model.specs.Listing.{listed_tree}
+use Rattle.fm_registry_model.proofs.OrderLemmas.{shown-order}
 use Rattle.fm_registry.proofs.registry.Registry.listing.Goals as goal
 
 pub returns-clause-history : goal.returns-clause-history

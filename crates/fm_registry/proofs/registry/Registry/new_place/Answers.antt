@@ -2,8 +2,8 @@ use Rattle.std.proofs.Common.{◌≡◌, refl, ap, subst, ◌∙◌, sym, OnOk}
 use Rattle.fm_exposition.specs.Samples.{labels_of}
 use Rattle.std.specs.String.{string_bytes}
 use Rattle.fm_registry.specs.inside.TreeView.{forest_of, facts_of, tree_of}
-use Rattle.fm_registry_calls.specs.Steps.{with_subsystem}
-use Rattle.fm_registry_calls.specs.inside.Forests.{place_in, new_tree}
+use Rattle.fm_registry_model.specs.Steps.{with_subsystem}
+use Rattle.fm_registry_model.specs.inside.Forests.{place_in, new_tree}
 use Rattle.fm_registry.specs.Lists.{items_of}
 use Rattle.fm_registry.proofs.PushLemmas.{pushed-place, pushed-tree}
 use Rattle.fm_registry.proofs.registry.Registry.new_place.Goals as goal

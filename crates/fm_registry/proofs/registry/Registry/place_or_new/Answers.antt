@@ -1,12 +1,12 @@
 use Rattle.std.proofs.Common.{sym, ap, ◌∙◌, subst, inr, true≢false}
 use Rattle.fm_exposition.specs.Samples.{labels_of}
 use Rattle.std.specs.String.{string_bytes}
-use Rattle.fm_registry_calls.specs.Tree.{names_in}
-use Rattle.fm_registry_calls.specs.inside.Forests.{place_in}
-use Rattle.fm_registry_calls.specs.Answer.{IsAnswered, refusal_of}
-use Rattle.fm_registry_calls.proofs.AnswerLemmas.{child_refusal-there, child_refusal-new}
-use Rattle.fm_registry_calls.proofs.ApplyLemmas.{there_from_place, absent_from_place}
-use Rattle.fm_registry_calls.proofs.PushLemmas.{with_subsystem-there}
+use Rattle.fm_registry_model.specs.Tree.{names_in}
+use Rattle.fm_registry_model.specs.inside.Forests.{place_in}
+use Rattle.fm_registry_model.specs.Answer.{IsAnswered, refusal_of}
+use Rattle.fm_registry_model.proofs.AnswerLemmas.{child_refusal-there, child_refusal-new}
+use Rattle.fm_registry_model.proofs.ApplyLemmas.{there_from_place, absent_from_place}
+use Rattle.fm_registry_model.proofs.PushLemmas.{with_subsystem-there}
 use Rattle.fm_registry.proofs.registry.Registry.place_or_new.Goals as goal
 
 pub returns-in-Some-clause-ok : goal.returns-in-Some-clause-ok

@@ -1,6 +1,6 @@
 use Rattle.std.proofs.Common.{true, false, [], ◌∷◌, Some, string_bytes, ap, sym, ◌∙◌, inr}
 use Rattle.indexmap.proofs.CallerLemmas.{insert_entry-new}
-use Rattle.fm_registry_calls.specs.Answer.{AlreadyExists, NameTaken, first_of}
+use Rattle.fm_registry_model.specs.Answer.{AlreadyExists, NameTaken, first_of}
 use Rattle.fm_registry.specs.inside.TreeView.{seen_metrics}
 use Rattle.fm_registry.specs.contracts.names.TailedPartialEq.TheImpl as key
 use Rattle.fm_registry.proofs.MetricLemmas.{same_metric-test, seen_metrics-push}

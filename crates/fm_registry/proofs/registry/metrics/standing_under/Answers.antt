@@ -1,5 +1,5 @@
 use Rattle.std.proofs.Common.{sym, ap, ◌∙◌}
-use Rattle.fm_registry_calls.specs.Registration.{is_same_metric}
+use Rattle.fm_registry_model.specs.Registration.{is_same_metric}
 use Rattle.fm_registry.specs.View.{seen_metric}
 use Rattle.fm_registry.proofs.TailLemmas.{under_tail}
 use Rattle.fm_registry.proofs.registry.metrics.standing_under.Goals as goal

@@ -1,2 +1,0 @@
-pub mod LinearLemmas
-pub mod ExponentialLemmas

@@ -1,5 +1,0 @@
-use Rattle.fm_bucket.proofs.ExponentialLemmas.{large}
-use Rattle.fm_bucket.proofs.exponential.capped_power.Goals as goal
-
-pub returns-then-exponent-ge64 : goal.returns-then-exponent-ge64
-returns-then-exponent-ge64 c = large c.args.base c.args.exponent c.requires c.if-exponent-ge64.true

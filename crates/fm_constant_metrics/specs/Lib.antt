@@ -1,3 +1,0 @@
-pub use Rattle.fm_encoder.specs.Points
-pub use Rattle.fm_encoder.specs.Hands
-pub mod Constants

@@ -1,0 +1,8 @@
+pub use Rattle.fm_encoder.specs.Points
+pub use Rattle.fm_encoder.specs.Hands
+pub use Rattle.fm_encoder.specs.States
+pub mod Constants
+pub mod NumberOrder
+pub mod Counters
+pub mod StateSets
+pub mod KeptState

@@ -1,0 +1,69 @@
+//! Information that does not change.
+ghost use Rattle.std.specs.Prelude.{◌≡◌, [], ◌∷◌};
+ghost use Rattle.fm_grammar.specs.declared.MetricType.TheVariants.{Info as InfoType};
+ghost use Rattle.fm_encoder.specs.Points.{InfoPoint};
+ghost use Rattle.fm_metrics.specs.Constants.{label_set_of};
+
+use fm_encode_error::EncodeError;
+use fm_encoder::{EncodeLabelSet, EncodeMetric, EncodePoint, MetricEncoder, PointEncoder};
+use fm_raw::{MetricType, TypedMetric};
+use std::time::Duration;
+
+/// An info metric: a label set that does not change.
+#[derive(Clone, Debug, Drop)]
+pub struct Info<LS> {
+    labels: LS,
+}
+
+impl<LS> Info<LS> {
+    /// An info metric with this label set.
+    pub fn new(labels: LS) -> Info<LS>
+        ensures { label_set_of result ≡ labels }
+    {
+        Info { labels }
+    }
+
+    /// The label set.
+    pub fn get(&self) -> &LS
+        ensures { result.now ≡ label_set_of self.now }
+    {
+        &self.labels
+    }
+}
+
+impl<LS> TypedMetric for Info<LS> {
+    ghost TYPE = { InfoType };
+
+    const TYPE: MetricType = MetricType::Info;
+}
+
+impl<LS: EncodeLabelSet> EncodePoint for Info<LS> {
+    ghost points = { λ i ps. ps ≡ InfoPoint (LS.labels i.labels) ∷ [] };
+
+    ghost may_fault = { λ i. LS.may_fault i.labels };
+
+    fn encode(&self, points: &mut PointEncoder) -> Result<(), EncodeError> {
+        points.encode_info(&self.labels)
+    }
+}
+
+impl<LS: EncodeLabelSet + Send + Sync + Drop> EncodeMetric for Info<LS> {
+    ghost types = { λ _ t. t ≡ InfoType };
+
+    ghost offers = { λ i _ ms. ms
+        ≡ record { labels = []; point = InfoPoint (LS.labels i.labels) } ∷ [] };
+
+    ghost may_fault = { λ i. LS.may_fault i.labels };
+
+    fn encode(&self, encoder: &mut MetricEncoder) -> Result<(), EncodeError> {
+        encoder.encode(&(), self)
+    }
+
+    fn metric_type(&self) -> MetricType {
+        MetricType::Info
+    }
+
+    fn timestamp(&self) -> Option<Duration> {
+        None
+    }
+}

@@ -1,0 +1,18 @@
+//! The metrics of one label set: counters, gauges, state sets, infos and unknowns, those that threads share without a lock, those
+//! that keep the value they were made with, and those that ask for it.
+#![tactic(auto)]
+
+pub mod counter;
+pub mod gauge;
+pub mod info;
+pub mod labeled;
+pub mod source;
+pub mod state_set;
+pub mod unknown;
+
+pub use counter::{ConstCounter, Counter};
+pub use gauge::{ConstGauge, Gauge};
+pub use info::Info;
+pub use labeled::Labeled;
+pub use state_set::{ConstStateSet, StateSet, StateSetValue};
+pub use unknown::Unknown;

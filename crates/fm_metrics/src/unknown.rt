@@ -1,0 +1,72 @@
+//! Metrics of unknown type.
+ghost use Rattle.std.specs.Prelude.{◌≡◌, [], ◌∷◌};
+ghost use Rattle.fm_grammar.specs.declared.MetricType.TheVariants.{Unknown as UnknownType};
+ghost use Rattle.fm_encoder.specs.Points.{UnknownPoint};
+ghost use Rattle.fm_metrics.specs.Constants.{unknown_value};
+
+use fm_encode_error::EncodeError;
+use fm_encoder::{EncodeMetric, EncodePoint, EncodeUnknownValue, MetricEncoder, PointEncoder};
+pub use fm_raw::UnknownValue;
+use fm_raw::{MetricType, TypedMetric};
+use std::time::Duration;
+
+/// A metric of unknown type that keeps the value it was made with.
+///
+/// `T` is `i32`, `i64`, `isize`, `u32` or `Fixed`.
+#[derive(Clone, Debug, Drop)]
+pub struct Unknown<T: UnknownValue> {
+    value: T,
+}
+
+impl<T: UnknownValue> Unknown<T> {
+    /// A metric with this value.
+    pub fn new(value: T) -> Unknown<T>
+        ensures { unknown_value result ≡ value }
+    {
+        Unknown { value }
+    }
+
+    /// The metric's value.
+    pub fn get(&self) -> &T
+        ensures { result.now ≡ unknown_value self.now }
+    {
+        &self.value
+    }
+}
+
+impl<T: UnknownValue> TypedMetric for Unknown<T> {
+    ghost TYPE = { UnknownType };
+
+    const TYPE: MetricType = MetricType::Unknown;
+}
+
+impl<T: UnknownValue + EncodeUnknownValue> EncodePoint for Unknown<T> {
+    ghost points = { λ u ps. ps ≡ UnknownPoint (T.numbers u.value) ∷ [] };
+
+    ghost may_fault = { λ u. T.may_fault u.value };
+
+    fn encode(&self, points: &mut PointEncoder) -> Result<(), EncodeError> {
+        points.encode_unknown(&self.value)
+    }
+}
+
+impl<T: UnknownValue + EncodeUnknownValue + Drop> EncodeMetric for Unknown<T> {
+    ghost types = { λ _ t. t ≡ UnknownType };
+
+    ghost offers = { λ u _ ms. ms
+        ≡ record { labels = []; point = UnknownPoint (T.numbers u.value) } ∷ [] };
+
+    ghost may_fault = { λ u. T.may_fault u.value };
+
+    fn encode(&self, encoder: &mut MetricEncoder) -> Result<(), EncodeError> {
+        encoder.encode(&(), self)
+    }
+
+    fn metric_type(&self) -> MetricType {
+        MetricType::Unknown
+    }
+
+    fn timestamp(&self) -> Option<Duration> {
+        None
+    }
+}

@@ -1,5 +1,0 @@
-use Rattle.fm_own.proofs.AddsLemmas.{Adds-typed}
-use Rattle.fm_own.proofs.registering.add_metric.Goals as goal
-
-pub returns-clause-registers : goal.returns-clause-registers
-returns-clause-registers g c = Adds-typed _ _ _ _ _ _ c.type_of-metric_type.ensures c.add_typed.ensures.registers

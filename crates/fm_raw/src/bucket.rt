@@ -1,0 +1,16 @@
+//! The buckets of histograms: their bounds, their counts, and the search for the bucket of a value.
+
+pub mod bound;
+pub mod error;
+pub mod exponential;
+pub mod linear;
+pub mod search;
+
+pub use crate::fixed::DEFAULT_BUCKETS;
+pub use crate::quantile;
+pub use crate::quantile::{QUANTILE_LABEL, Quantile};
+pub use bound::{BUCKET_LABEL, Bound, Bucket, default_buckets};
+pub use error::BucketError;
+pub use exponential::{ExponentialBuckets, exponential_buckets, exponential_buckets_range};
+pub use linear::{LinearBuckets, linear_buckets};
+pub use search::{Probe, Steps, find_bucket};

@@ -1,0 +1,7 @@
+//! Reads the single lines of a document.
+
+mod exemplar;
+pub(crate) mod heads;
+mod labels;
+pub(crate) mod sample;
+mod values;

@@ -1,8 +1,0 @@
-use Rattle.std.proofs.Common.{None, take}
-use Rattle.std.specs.List.{All}
-use Rattle.fm_reader_lines.specs.inside.Parts.{IsBehindSuffix}
-use Rattle.fm_reader_lines.proofs.sample.read_kind.Given as goal
-
--- no kind so far fits
-abbrev pub invariant-loop-kind : goal.invariant-loop-kind
-invariant-loop-kind l = All (λ kind. IsBehindSuffix kind l.text None) (take l.kind-index l.kind-items)

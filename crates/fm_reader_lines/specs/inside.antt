@@ -1,4 +1,0 @@
--- What public contracts don't cite: views, stored forms, laws, and the words of private functions.
-pub mod Lines
-pub mod Parts
-pub mod Samples

@@ -1,3 +1,0 @@
--- What public contracts don't cite: views, stored forms, laws, and the words of private functions.
-pub mod Numbers
-pub mod Fronts

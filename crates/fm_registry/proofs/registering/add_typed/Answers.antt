@@ -1,0 +1,12 @@
+use Rattle.std.proofs.Common.{refl}
+use Rattle.fm_registry.proofs.GrowthLemmas.{Grows-same}
+use Rattle.fm_registry.proofs.AddsLemmas.{Adds-named}
+use Rattle.fm_registry.proofs.registering.add_typed.Goals as goal
+
+pub returns-in_err-name-clause-grows : goal.returns-in_err-name-clause-grows
+returns-in_err-name-clause-grows g c = Grows-same _ _ refl
+
+pub returns-clause-registers : goal.returns-clause-registers
+returns-clause-registers g c =
+    Adds-named _ c.in_ok-name.name c.in_ok-name.help _ _ _ _ _ _ _ c.in_ok-name.ensures.name c.in_ok-name.ensures.help
+    (record { metric_type = c.args.metric_type; declared = refl; answer = c.add_metric.ensures.answer; ok = c.add_metric.ensures.ok; err = c.add_metric.ensures.err })

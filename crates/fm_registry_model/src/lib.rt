@@ -1,0 +1,89 @@
+//! `RegistryError`, and the definitions of registry calls: histories of accepted calls, and the trees that read them.
+#![tactic(auto)]
+
+ghost use Rattle.std.specs.Prelude.{◌≡◌};
+ghost use Rattle.fm_registry_model.specs.RegistryErrors.{error_number};
+ghost use Rattle.fm_registry_model.specs.declared.RegistryError.TheVariants.{Memory};
+
+use std::alloc::{AllocError, AllocFailed};
+use thiserror::Error;
+
+/// Why a registry refuses a call. Each kind except `Memory` has the text that caused it.
+#[derive(Clone, Debug, PartialEq, Eq, Drop, Error)]
+pub enum RegistryError {
+    /// The name of a metric is not in snake case.
+    #[error("The name of metric '{name}' should be snake_case")]
+    InvalidNameFormat { name: String },
+    /// A metric whose type can't have a unit was given one.
+    #[error("The type of metric '{name}' must have an empty unit string")]
+    MustHaveAnEmptyUnitString { name: String },
+    /// The text of a unit is not one word of lowercase letters and digits.
+    #[error("The format of unit '{unit}' must be lowercase")]
+    OtherUnitFormatMustBeLowercase { unit: String },
+    /// The registry already has a metric with this name, type and unit.
+    #[error("The metric '{name}' to be registered already exists in the registry")]
+    AlreadyExists { name: String },
+    /// Memory could not be allocated.
+    #[error("Memory")]
+    Memory,
+    /// The namespace of a root is not in snake case.
+    #[error("InvalidNamespace")]
+    InvalidNamespace { namespace: String },
+    /// The name of a subsystem is not in snake case.
+    #[error("InvalidSubsystemName")]
+    InvalidSubsystemName { name: String },
+    /// The name of a label is not a letter or an underscore, followed by letters, digits and underscores.
+    #[error("InvalidLabelName")]
+    InvalidLabelName { name: String },
+    /// A label of a root has the name of an earlier one.
+    #[error("DuplicateLabel")]
+    DuplicateLabel { name: String },
+    /// A name on the path of a call is not that of a subsystem.
+    #[error("NoSuchSubsystem")]
+    NoSuchSubsystem { name: String },
+    /// The subsystem would be more than 64 registries below the root.
+    #[error("TooDeep")]
+    TooDeep { name: String },
+    /// The name is that of another metric here, where a unit is part of the name (`name_unit`); or a metric's or
+    /// another subsystem's name would begin with a subsystem's name and an underscore.
+    #[error("NameTaken")]
+    NameTaken { name: String },
+}
+
+impl RegistryError {
+    /// The error's number, from 1 to 12.
+    pub fn number(&self) -> u8
+        ensures { result ≡ error_number self.now }
+    {
+        match self {
+            RegistryError::InvalidNameFormat { .. } => 1,
+            RegistryError::MustHaveAnEmptyUnitString { .. } => 2,
+            RegistryError::OtherUnitFormatMustBeLowercase { .. } => 3,
+            RegistryError::AlreadyExists { .. } => 4,
+            RegistryError::Memory => 5,
+            RegistryError::InvalidNamespace { .. } => 6,
+            RegistryError::InvalidSubsystemName { .. } => 7,
+            RegistryError::InvalidLabelName { .. } => 8,
+            RegistryError::DuplicateLabel { .. } => 9,
+            RegistryError::NoSuchSubsystem { .. } => 10,
+            RegistryError::TooDeep { .. } => 11,
+            RegistryError::NameTaken { .. } => 12,
+        }
+    }
+}
+
+impl From<AllocError> for RegistryError {
+    ghost from_gives = { λ _ e. e ≡ Memory };
+
+    fn from(_: AllocError) -> RegistryError {
+        RegistryError::Memory
+    }
+}
+
+impl<T: Drop> From<AllocFailed<T>> for RegistryError {
+    ghost from_gives = { λ _ e. e ≡ Memory };
+
+    fn from(_: AllocFailed<T>) -> RegistryError {
+        RegistryError::Memory
+    }
+}

@@ -1,4 +1,0 @@
-pub use Rattle.fm_encoder.specs.Points
-pub use Rattle.fm_encoder.specs.Hands
-pub mod NumberOrder
-pub mod Counters

@@ -1,5 +1,0 @@
-pub use Rattle.fm_encoder.specs.Points
-pub use Rattle.fm_encoder.specs.Hands
-pub use Rattle.fm_encoder.specs.States
-pub mod StateSets
-pub mod KeptState
