@@ -3,10 +3,12 @@
 
     scripts/cases.py [CRATE..]        the programs of all crates that have such a file, or of these
 
-A case has a name, the program's words (`args`) and its input (`stdin`), and what it then writes: `stdout`, `stderr` and `status`, which are empty and 0
-where they are left out. `encoding` is that of its texts, in place of UTF-8; `to` is a file that standard output goes to. After it, in each case with status
-0, each request for memory is refused, one a run, by scripts/memory.c, which is loaded before the C library: each time the program ends with status 1, writes
-nothing to standard output, and one line to standard error, which is one of the lines that `no_memory` at the file's head matches.
+A case has a name, the program's words (`args`) and its input (`stdin`), and what it then writes: `stdout`, `stderr` and `status`, which are empty and
+0 where they are left out. `encoding` is that of its texts, in place of UTF-8; `to` is a file that standard output goes to. The run that `rt ci`
+makes, whose words, input and output are the files `args`, `stdin`, `stdout` and `status` beside cases.toml, is a case too, named `beside`. Then, in
+each case with status 0, each request for memory is refused, one a run, by scripts/memory.c, which is loaded before the C library: each time the
+program ends with status 1, writes nothing to standard output, and one line to standard error, which is one of the lines that `no_memory` at the
+file's head matches.
 
 It runs the programs as they were proved and built (`rt ci` and `rt run` leave crates/NAME/out/NAME); PROGRAMS=FOLDER takes FOLDER/NAME instead. Prints
 a line for each program and for each failure, and last 'N cases passed, M failed'; the status is 0 if M is 0.
@@ -49,11 +51,21 @@ class Case:
         return ended.returncode, ended.stdout or b"", ended.stderr
 
 
+def beside(crate):
+    """The run whose words, input, output and status are files of a crate."""
+    told = {}
+    for name in ("args", "stdin", "stdout", "status"):
+        if os.path.isfile(f"{TOP}/crates/{crate}/{name}"):
+            with open(f"{TOP}/crates/{crate}/{name}", encoding="utf-8", newline="") as file:
+                told[name] = file.read()
+    return Case("beside", {**told, "args": told.get("args", "").splitlines(), "status": int(told.get("status", "0"))})
+
+
 def cases_of(crate):
     """A crate's cases, and what a want of memory writes to standard error."""
     with open(f"{TOP}/crates/{crate}/cases.toml", "rb") as file:
         told = tomllib.load(file)
-    return [Case(name, it) for name, it in told.items() if name != "no_memory"], re.compile(told["no_memory"].encode())
+    return [beside(crate), *(Case(name, it) for name, it in told.items() if name != "no_memory")], re.compile(told["no_memory"].encode())
 
 
 def crates_with_cases():

@@ -8,6 +8,7 @@ mod place;
 mod rising;
 pub mod sign;
 pub mod snapshot;
+pub mod steps;
 
 pub use histogram::{GaugeHistogram, Histogram};
 pub use sign::Sign;

@@ -2,8 +2,9 @@
 ghost use Rattle.std.specs.Prelude.{◌≡◌, ℕ, ℤ, ◌≤◌, ◌<◌, length, int_lt, nat_lt, slice_index_or};
 ghost use Rattle.fm_histogram.specs.Histogram.{place_among};
 
+use crate::steps::Steps;
 use fm_raw::Fixed;
-use fm_raw::bucket::{Probe, Steps, find_bucket};
+use fm_raw::bucket::{Probe, find_bucket};
 use std::sync::ledger::{Blank, Ledger};
 
 // Whether a bound is at least the value. Each call is one comparison of the two, and one step.

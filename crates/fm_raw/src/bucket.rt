@@ -13,4 +13,4 @@ pub use bound::{BUCKET_LABEL, Bound, Bucket, default_buckets};
 pub use error::BucketError;
 pub use exponential::{ExponentialBuckets, exponential_buckets, exponential_buckets_range};
 pub use linear::{LinearBuckets, linear_buckets};
-pub use search::{Probe, Steps, find_bucket};
+pub use search::{Probe, find_bucket};

@@ -7,4 +7,6 @@ mod bounds;
 mod histograms;
 pub mod own_buckets;
 #[cfg(test)]
+mod search;
+#[cfg(test)]
 mod snapshots;

@@ -1,5 +1,5 @@
 //! Documents that are read and written again.
-use fastmetrics::format::text::{encode_exposition, read};
+use fastmetrics::format::text::{CONTENT_TYPE, encode_exposition, read};
 use std::alloc::Global;
 use std::test::Fail;
 
@@ -99,6 +99,15 @@ fn documents_of_other_tests(rt: HostRuntime) -> Result<(), Fail> {
         "# TYPE s summary\n# HELP s H\ns{quantile=\"0.5\"} 2.0\ns_count 20\ns_sum 100.0\ns_created 18446744073709551615.999\n# EOF\n",
     ] {
         expect_written_again(alloc, text)?;
+    }
+    Ok(())
+}
+
+// The media type of OpenMetrics 1.0.0 ("Overall Structure"), with its version and the encoding.
+#[test]
+fn the_content_type(_rt: HostRuntime) -> Result<(), Fail> {
+    if CONTENT_TYPE != "application/openmetrics-text; version=1.0.0; charset=utf-8" {
+        return Err(Fail::new("another content type"));
     }
     Ok(())
 }

@@ -5,9 +5,7 @@ ghost use Rattle.lint.specs.Documents.{PrintsAgain};
 #[cfg(test)]
 mod tests;
 
-use fm_encode_error::EncodeError;
-use fm_reader::{ReadError, read};
-use fm_writer::encode_exposition;
+use fm_core::format::text::{EncodeError, ReadError, encode_exposition, read};
 use std::alloc::Global;
 use std::io::Write;
 use std::str;

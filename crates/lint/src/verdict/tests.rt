@@ -1,6 +1,6 @@
 //! What is said where memory runs out.
 use super::refuse;
-use fm_reader::ReadError;
+use fm_core::format::text::ReadError;
 
 #[test]
 fn a_want_of_memory(rt: HostRuntime) {
