@@ -119,6 +119,18 @@ impl<H: Wait + Drop> Histogram<H> {
 }
 
 impl<H: Wait> Histogram<H> {
+    /// Counts a duration in seconds, with its whole microseconds. One that is longer than 292,000 years counts as that. It fails with
+    /// `CountFull` as `observe` does.
+    pub fn observe_duration(&self, duration: Duration) -> Result<(), MetricError>
+        ensures { IfErr result (λ e. e ≡ CountFull) }
+    {
+        let seconds = match Fixed::from_duration(duration) {
+            Some(seconds) => seconds,
+            None => Fixed::from_millionths(i64::MAX),
+        };
+        self.observe(seconds)
+    }
+
     /// Calls `f` with what was counted so far, under the lock, and returns its result. The snapshot has fewer than 2^64 values,
     /// and no value or bound of it is negative. The lock is a `Mutex`, with which `observe` is fastest: the calls of one
     /// histogram run one after another. `f` must not use the same histogram: it would wait for ever.

@@ -1,7 +1,7 @@
 //! The bounds of shared histograms, by value.
 
 use fastmetrics::metrics::histogram::{Bound, Histogram, HistogramSnapshot};
-use fastmetrics::raw::{Fixed, TryDefault};
+use fastmetrics::raw::{Fixed, FixedSum, TryDefault};
 use std::test::Fail;
 use std::time::Duration;
 
@@ -51,5 +51,29 @@ fn default_bounds(rt: HostRuntime) -> Result<(), Fail> {
     assert!(rt; sizes.with_snapshot(|all| has_bounds(all, &DEFAULTS)));
     let snapshot = HistogramSnapshot::try_default(rt, rt.alloc())?;
     assert!(rt; has_bounds(&snapshot, &DEFAULTS));
+    Ok(())
+}
+
+// Whether the snapshot has two values: one and a half seconds, and what is longer than a number can say.
+fn has_both_durations(all: &HistogramSnapshot) -> bool {
+    let counts = [0, 1, 1];
+    let sum = FixedSum::from_millionths(1_500_000 + i128::from(i64::MAX));
+    all.buckets()
+        .iter()
+        .zip(counts)
+        .all(|(bucket, count)| bucket.count() == count)
+        && all.sum() == sum
+}
+
+#[test]
+fn observed_durations(rt: HostRuntime) -> Result<(), Fail> {
+    let given = [
+        Fixed::from_millionths(1499999),
+        Fixed::from_millionths(1500000),
+    ];
+    let times = Histogram::new(rt, rt.alloc(), given.iter().copied())?;
+    times.observe_duration(Duration::from_millis(1500))?;
+    times.observe_duration(Duration::from_secs(u64::MAX))?;
+    assert!(rt; times.with_snapshot(has_both_durations));
     Ok(())
 }

@@ -1,6 +1,7 @@
 //! Texts, names and metadata against values from outside.
 ghost use Rattle.fm_grammar.specs.declared.MetricType.TheVariants.{Gauge};
 
+use fm_grammar::SampleKind;
 use fm_raw::{
     Fixed, FixedBuffer, FixedSum, Metadata, MetricError, MetricType, Number, TypedMetric, Unit,
     is_label_name, is_snake_case, is_unit_text,
@@ -8,6 +9,7 @@ use fm_raw::{
 use std::alloc::{AllocError, Global};
 use std::hash::{DefaultHasher, Hash, Hasher};
 use std::test::Fail;
+use std::time::Duration;
 
 // Whether a number is written as this text, by a buffer and after a text that is there.
 fn is_written(
@@ -69,6 +71,22 @@ fn whole_numbers(rt: HostRuntime) {
         );
     }
     assert!(rt; Fixed::from_millionths(-2) < Fixed::ZERO);
+}
+
+#[test]
+fn durations(rt: HostRuntime) {
+    for (seconds, nanos, millionths) in [
+        (0, 0, Some(0)),
+        (0, 999, Some(0)),
+        (0, 1_000, Some(1)),
+        (1, 500_000_999, Some(1_500_000)),
+        (9_223_372_036_854, 775_807_999, Some(i64::MAX)),
+        (9_223_372_036_854, 775_808_000, None),
+        (u64::MAX, 0, None),
+    ] {
+        let duration = Duration::new(seconds, nanos);
+        assert!(rt; Fixed::from_duration(duration).map(Fixed::millionths) == millionths);
+    }
 }
 
 #[test]
@@ -273,4 +291,77 @@ fn numbers_and_types(rt: HostRuntime) {
     let (zero, one) = zero_and_one::<Fixed>();
     assert!(rt; zero.millionths() == 0 && one.millionths() == 1_000_000);
     assert!(rt; type_and_timestamp(&Level) == (MetricType::Gauge, false));
+}
+
+// OpenMetrics, ABNF: `metric-type`. Unknown metrics, state sets and infos have no unit.
+const TYPES: [(&str, MetricType, bool, &[SampleKind]); 8] = [
+    ("unknown", MetricType::Unknown, false, &[SampleKind::Plain]),
+    ("gauge", MetricType::Gauge, true, &[SampleKind::Plain]),
+    (
+        "counter",
+        MetricType::Counter,
+        true,
+        &[SampleKind::Total, SampleKind::Created],
+    ),
+    (
+        "stateset",
+        MetricType::StateSet,
+        false,
+        &[SampleKind::Plain],
+    ),
+    ("info", MetricType::Info, false, &[SampleKind::Info]),
+    (
+        "histogram",
+        MetricType::Histogram,
+        true,
+        &[
+            SampleKind::Bucket,
+            SampleKind::Count,
+            SampleKind::Sum,
+            SampleKind::Created,
+        ],
+    ),
+    (
+        "gaugehistogram",
+        MetricType::GaugeHistogram,
+        true,
+        &[SampleKind::Bucket, SampleKind::GCount, SampleKind::GSum],
+    ),
+    (
+        "summary",
+        MetricType::Summary,
+        true,
+        &[
+            SampleKind::Plain,
+            SampleKind::Count,
+            SampleKind::Sum,
+            SampleKind::Created,
+        ],
+    ),
+];
+
+#[test]
+fn types_by_their_words(rt: HostRuntime) {
+    for (word, metric_type, takes_unit, kinds) in TYPES {
+        assert!(rt; metric_type.as_str() == word && MetricType::all().contains(&metric_type));
+        assert!(rt; MetricType::from_word(word) == Some(metric_type));
+        assert!(rt; metric_type.takes_unit() == takes_unit && metric_type.kinds() == kinds);
+    }
+    assert!(rt; MetricType::all().len() == 8 && MetricType::from_word("untyped").is_none());
+}
+
+#[test]
+fn kinds_with_exemplars(rt: HostRuntime) {
+    assert!(rt; SampleKind::Total.takes_exemplar() && SampleKind::Bucket.takes_exemplar());
+    for kind in [
+        SampleKind::Plain,
+        SampleKind::Created,
+        SampleKind::Count,
+        SampleKind::Sum,
+        SampleKind::GCount,
+        SampleKind::GSum,
+        SampleKind::Info,
+    ] {
+        assert!(rt; !kind.takes_exemplar());
+    }
 }
