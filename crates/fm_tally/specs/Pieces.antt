@@ -1,7 +1,7 @@
 -- The results of observing in pieces: that of one worker, and that of all.
 use Rattle.std.specs.Prelude.{ℕ, ◌<◌, ◌≤◌, ◌^◌, ℤ, Bool, List, [], ◌≡◌, ◌⊎◌, Result, Ok, Err, length, filter}
-use Rattle.fm_tally.specs.declared.TallyError.{TallyError}
-use Rattle.fm_tally.specs.declared.TallyError.TheVariants.{Memory, GateRefused, CountFull, SpawnFailed}
+use Rattle.fm_tally.specs.declared.error.TallyError.{TallyError}
+use Rattle.fm_tally.specs.declared.error.TallyError.TheVariants.{Memory, GateRefused, CountFull, SpawnFailed}
 use Rattle.fm_histogram.specs.Histogram.{Histogram, IsHistogram}
 
 -- how observing this number of pieces with these values together may fail: the gate refuses one of the pieces that it

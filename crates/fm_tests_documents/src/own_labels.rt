@@ -1,7 +1,15 @@
-//! Labels of a struct.
+//! Labels of structs.
+ghost use Rattle.std.specs.Prelude.{[], ◌∷◌, codes, decimal};
+ghost use Rattle.std.specs.Fmt.{signed_decimal};
+ghost use Rattle.fastmetrics.specs.Numbers.{fixed_text};
+ghost use Rattle.fastmetrics.specs.OwnLabels.{label};
 
+use fastmetrics::encoder::{
+    EncodeError, EncodeLabelSet, LabelSetEncoder, LabelValue, encode_labels,
+};
 use fastmetrics::metrics::gauge::ConstGauge;
 use fastmetrics::metrics::labeled::Labeled;
+use fastmetrics::raw::Fixed;
 use fm_test_support::support::expect_lines;
 use own_metric::request::{Method, Request};
 use std::test::Fail;
@@ -22,5 +30,51 @@ fn labels_of_a_struct(rt: HostRuntime) -> Result<(), Fail> {
         alloc,
         Box::new(alloc, metric)?,
         "t{method=\"PUT\",status=\"404\",failed=\"true\"} 2\n# EOF\n",
+    )
+}
+
+// Labels of each kind of number, with one that is left out between them.
+#[derive(Clone, Copy, PartialEq, Eq, Hash)]
+struct Reading {
+    floor: u64,
+    degrees: i64,
+    volts: Fixed,
+}
+
+impl EncodeLabelSet for Reading {
+    ghost labels = { λ r. label (codes "floor") (decimal r.floor)
+        ∷ label (codes "degrees") (signed_decimal r.degrees)
+        ∷ []
+        ∷ label (codes "volts") (fixed_text r.volts) ∷ [] };
+
+    fn encode(&self, encoder: &mut LabelSetEncoder) -> Result<(), EncodeError> {
+        encode_labels(
+            encoder,
+            &[
+                ("floor", LabelValue::Whole(self.floor)),
+                ("degrees", LabelValue::Signed(self.degrees)),
+                ("room", LabelValue::Absent),
+                ("volts", LabelValue::Millionths(self.volts)),
+            ],
+        )
+    }
+}
+
+#[test]
+fn labels_of_numbers(rt: HostRuntime) -> Result<(), Fail> {
+    let alloc = rt.alloc();
+    let labels = Reading {
+        floor: 12,
+        degrees: -3,
+        volts: Fixed::from_millionths(1500000),
+    };
+    let metric = Labeled {
+        labels,
+        point: ConstGauge::<u64>::new(2),
+    };
+    expect_lines(
+        alloc,
+        Box::new(alloc, metric)?,
+        "t{floor=\"12\",degrees=\"-3\",volts=\"1.5\"} 2\n# EOF\n",
     )
 }

@@ -1,5 +1,5 @@
 use Rattle.std.proofs.Common.{ℕ, ◌<◌, ℤ, Bool, List, Err, flat_map, ◌^◌, length, get_or, subst, sym, rules, inl, inr}
-use Rattle.fm_tally.specs.declared.TallyError.{TallyError}
+use Rattle.fm_tally.specs.declared.error.TallyError.{TallyError}
 use Rattle.fm_histogram.specs.Histogram.{Histogram}
 use Rattle.fm_tally.specs.Pieces.{MayFail, IsObserved}
 use Rattle.fm_tally.proofs.PieceLemmas.{joined_more, too_many, same_bounds, element}
