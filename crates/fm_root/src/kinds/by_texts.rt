@@ -3,11 +3,11 @@ ghost use Rattle.fm_root.specs.declared.kinds.by_texts.ByTexts.TheVariants.{Coun
 
 use fm_encode_error::EncodeError;
 use fm_encoder::{EncodeMetric, MetricEncoder};
-use fm_histogram::{GaugeHistogram, Histogram};
 use fm_family::TextFamily;
-use fm_raw::{Fixed, MetricType};
+use fm_histogram::{GaugeHistogram, Histogram};
 use fm_metrics::counter::Counter;
 use fm_metrics::gauge::Gauge;
+use fm_raw::{Fixed, MetricType};
 use std::sync::Wait;
 use std::time::Duration;
 

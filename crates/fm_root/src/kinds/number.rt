@@ -3,9 +3,9 @@ ghost use Rattle.fm_root.specs.declared.kinds.number.Number.TheVariants.{Counter
 
 use fm_encode_error::EncodeError;
 use fm_encoder::{EncodeMetric, MetricEncoder};
-use fm_raw::{Fixed, MetricType};
 use fm_metrics::counter::Counter;
 use fm_metrics::gauge::Gauge;
+use fm_raw::{Fixed, MetricType};
 use std::time::Duration;
 
 /// A counter or a gauge.

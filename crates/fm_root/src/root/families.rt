@@ -8,12 +8,12 @@ ghost use Rattle.fm_root.specs.declared.kinds.Metric.TheVariants.{ByTexts};
 use super::Root;
 use crate::kinds::Metric;
 use fm_encoder::EncodeMetric;
-use fm_histogram::{GaugeHistogram, Histogram};
 use fm_family::TextFamily;
-use fm_raw::{Fixed, TryDefault, Unit};
-use fm_registry::RegistryError;
+use fm_histogram::{GaugeHistogram, Histogram};
 use fm_metrics::counter::Counter;
 use fm_metrics::gauge::Gauge;
+use fm_raw::{Fixed, TryDefault, Unit};
+use fm_registry::RegistryError;
 use std::sync::Wait;
 
 impl<H: Wait + Copy + Send + Sync + Drop, X: EncodeMetric> Root<H, X> {
