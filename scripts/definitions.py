@@ -186,9 +186,8 @@ GHOST = re.compile(r"^    ghost (?!use )[\s\S]*?;$", re.M)
 def declared():
     """The lines of ghost members of impls of `Encode` traits, by file, and the definitions that they name."""
     lines, names = {}, []
-    for path in sorted(TOP.glob("crates/fm_*/src/**/*.rt")):
-        if "/fm_test" in str(path):
-            continue
+    crates = next(it for it in (TOP / "crates.txt").read_text().split("\n") if it.startswith("fastmetrics:")).split()[1:]
+    for path in sorted(it for crate in crates for it in TOP.glob(f"crates/{crate}/src/**/*.rt")):
         text = path.read_text()
         for found in IMPL.finditer(text):
             block = text[found.end() : text.index("\n}\n", found.end())]

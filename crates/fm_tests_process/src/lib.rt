@@ -1,0 +1,5 @@
+//! Tests of the metrics of the process, on the machine that they run on.
+#![tactic(auto)]
+
+#[cfg(test)]
+mod process;
