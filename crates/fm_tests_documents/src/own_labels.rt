@@ -1,6 +1,5 @@
 //! Labels of structs.
 ghost use Rattle.std.specs.Prelude.{[], ◌∷◌, codes, decimal};
-ghost use Rattle.std.specs.Fmt.{signed_decimal};
 ghost use Rattle.fastmetrics.specs.Numbers.{fixed_text};
 ghost use Rattle.fastmetrics.specs.OwnLabels.{label};
 
@@ -33,17 +32,15 @@ fn labels_of_a_struct(rt: HostRuntime) -> Result<(), Fail> {
     )
 }
 
-// Labels of each kind of number, with one that is left out between them.
+// Labels of a whole number and of one in millionths, with one that is left out between them.
 #[derive(Clone, Copy, PartialEq, Eq, Hash)]
 struct Reading {
     floor: u64,
-    degrees: i64,
     volts: Fixed,
 }
 
 impl EncodeLabelSet for Reading {
     ghost labels = { λ r. label (codes "floor") (decimal r.floor)
-        ∷ label (codes "degrees") (signed_decimal r.degrees)
         ∷ []
         ∷ label (codes "volts") (fixed_text r.volts) ∷ [] };
 
@@ -52,7 +49,6 @@ impl EncodeLabelSet for Reading {
             encoder,
             &[
                 ("floor", LabelValue::Whole(self.floor)),
-                ("degrees", LabelValue::Signed(self.degrees)),
                 ("room", LabelValue::Absent),
                 ("volts", LabelValue::Millionths(self.volts)),
             ],
@@ -65,7 +61,6 @@ fn labels_of_numbers(rt: HostRuntime) -> Result<(), Fail> {
     let alloc = rt.alloc();
     let labels = Reading {
         floor: 12,
-        degrees: -3,
         volts: Fixed::from_millionths(1500000),
     };
     let metric = Labeled {
@@ -75,6 +70,6 @@ fn labels_of_numbers(rt: HostRuntime) -> Result<(), Fail> {
     expect_lines(
         alloc,
         Box::new(alloc, metric)?,
-        "t{floor=\"12\",degrees=\"-3\",volts=\"1.5\"} 2\n# EOF\n",
+        "t{floor=\"12\",volts=\"1.5\"} 2\n# EOF\n",
     )
 }
