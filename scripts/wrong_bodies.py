@@ -49,7 +49,7 @@ class Function:
     def __init__(self, file, lines, at):
         fn = next((i for i in range(at, -1, -1) if FUNCTION.match(lines[i])), None)
         indent = "" if fn is None else re.match(" *", lines[fn])[0]
-        last = next((i for i in range(fn or 0, len(lines)) if lines[i] == indent + "}"), -1)
+        last = next((i for i in range(fn or 0, len(lines)) if lines[i] in (indent + "}", indent + "{}")), -1)
         # Outside functions, as in a constant, there is the line alone.
         is_within = fn is not None and fn <= at <= last
         self.file, self.first, self.last = file, fn if is_within else at, last if is_within else at

@@ -32,18 +32,24 @@ fn text_of<R: Files + AllocGlobal>(rt: &R, path: &str) -> Option<String> {
     }
 }
 
-// The number in `/proc/self/stat` that is the word with this index after the program's name, which ends with the last parenthesis.
-fn in_stat<R: Files + AllocGlobal>(rt: &R, index: usize) -> Option<u64> {
-    let text = text_of(rt, "/proc/self/stat")?;
-    let (_, words) = text.as_str().rsplit_once(')')?;
-    number_at(words, index)
+// The words of `/proc/self/stat` after the program's name, which ends with the last parenthesis.
+fn words_of(stat: &str) -> Option<&str> {
+    let (_, words) = stat.rsplit_once(')')?;
+    Some(words)
 }
 
-/// The seconds of processor time that the process took.
+// The number that is the word with this index there.
+fn in_stat<R: Files + AllocGlobal>(rt: &R, index: usize) -> Option<u64> {
+    let stat = text_of(rt, "/proc/self/stat")?;
+    number_at(words_of(stat.as_str())?, index)
+}
+
+/// The seconds of processor time that the process took, its own and the system's for it.
 pub(crate) fn cpu_seconds<R: Files + AllocGlobal>(rt: &R) -> Option<Fixed> {
-    let user = in_stat(rt, 11)?;
-    let system = in_stat(rt, 12)?;
-    seconds_of(user.checked_add(system)?)
+    let stat = text_of(rt, "/proc/self/stat")?;
+    let words = words_of(stat.as_str())?;
+    let own = number_at(words, 11)?;
+    seconds_of(own.checked_add(number_at(words, 12)?)?)
 }
 
 /// The bytes of memory that it can address.
