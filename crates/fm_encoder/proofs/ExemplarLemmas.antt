@@ -1,16 +1,17 @@
 -- The exemplars that a source of exemplars emits.
-use Rattle.std.proofs.Common.{◌≡◌, ◌≤◌, ◌^◌, ℤ, pos, negsuc, List, [], ◌∷◌, ◌++◌, map, length, Contains, Option, Some, None, IfSome, Err, ◌⊎◌, inl, inr, refl, sym, subst, ap, ◌∙◌, arith}
+use Rattle.std.proofs.Common.{◌≡◌, ◌≤◌, ◌^◌, ℤ, pos, negsuc, List, [], ◌∷◌, ◌++◌, map, length, Contains, Option, Some, None, IfSome, Err, ◌⊎◌, inl, inr, refl, sym, subst, ap, ◌∙◌, arith, append-nil}
 use Rattle.std.proofs.lemmas.Int.{ints}
 use Rattle.std.specs.Option.{option_to_list}
 use Rattle.std.specs.List.{AllByRecursion}
 use Rattle.std.proofs.lemmas.List.{length-map}
+use Rattle.fm_grammar.specs.declared.MetricType.{MetricType}
 use Rattle.fm_grammar.specs.declared.MetricType.TheVariants.{Unknown}
 use Rattle.fm_grammar.specs.Exposition.{Exemplar, Label}
 use Rattle.fm_grammar.specs.WellFormed.{IsBetween, AreMillis, IsExemplar, label_code_points}
 use Rattle.fm_encode_error.specs.declared.EncodeError.{EncodeError}
 use Rattle.fm_encode_error.specs.declared.EncodeError.TheVariants.{ExemplarTwice}
 use Rattle.fm_raw.specs.Signed.{IsSigned}
-use Rattle.fm_encoder.specs.Labels.{LabelsClean, all_written}
+use Rattle.fm_encoder.specs.Labels.{HandedLabel, LabelClean, LabelsClean, NamePiece, ValuePiece, written, all_written, handed_again}
 use Rattle.fm_encoder.specs.Gathered.{GatheredExemplars, OwnRefusal}
 use Rattle.fm_encoder.specs.Hands.{HandsExemplars}
 use Rattle.fm_encoder.proofs.NameLemmas.{AreLabels-written}
@@ -27,6 +28,16 @@ exemplars_clean (Some e) (x ∷ y ∷ exemplars) is clean = absurd cc
 pub exemplars_fault : (k : EncodeError) (exemplars : List HandedExemplar) → ((k ≡ ExemplarTwice) × (2 ≤ length (map written_as exemplars))) ⊎ ((exemplar : HandedExemplar) × Contains exemplars exemplar × ExemplarPartsFault k exemplar) → ExemplarFault k exemplars
 exemplars_fault k exemplars (inl (is, twice)) = inl (is, omega (arith, twice, length-map exemplars written_as))
 exemplars_fault k exemplars (inr one) = inr one
+
+-- valid labels are valid again as they are written
+pub LabelsClean-again : (type : MetricType) (before : List Label) (labels : List HandedLabel) → LabelsClean type before labels → LabelsClean type before (handed_again (all_written labels))
+LabelsClean-again type before [] clean = tt
+LabelsClean-again type before (label ∷ labels) (inl none, clean) =
+    subst (λ (l : HandedLabel). LabelsClean type before (handed_again (written l ++ all_written labels))) (sym none)
+    (LabelsClean-again type before labels (subst (λ (ls : List Label). LabelsClean type ls labels) (append-nil before) (subst (λ (l : HandedLabel). LabelsClean type (before ++ written l) labels) none clean)))
+LabelsClean-again type before (label ∷ labels) (inr (name, text, is, fits), clean) =
+    subst (λ (l : HandedLabel). LabelsClean type before (handed_again (written l ++ all_written labels))) (sym is)
+    (inr (name, text, refl, fits), LabelsClean-again type (before ++ record { name = name; value = text } ∷ []) labels (subst (λ (l : HandedLabel). LabelsClean type (before ++ written l) labels) is clean))
 
 -- an exemplar of valid labels that are not too many, of a value and of a time
 pub exemplar_whole : (handed : HandedExemplar) (labels : List Label) (made : Exemplar) → LabelsClean Unknown [] handed.labels → labels ≡ all_written handed.labels → label_code_points labels ≤ 128 → IsBetween (2 ^ 63) (2 ^ 63) handed.value → IfSome handed.time AreMillis → made ≡ record { labels = labels; value = handed.value; time = handed.time } → ExemplarPartsClean handed × (made ≡ written_as handed) × IsExemplar made

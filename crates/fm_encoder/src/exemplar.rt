@@ -23,8 +23,10 @@ use std::alloc::Global;
 use std::marker::Model;
 use std::time::Duration;
 
+mod exemplar_labels;
 mod labeled;
 
+pub use exemplar_labels::ExemplarLabels;
 pub use labeled::LabeledExemplar;
 
 /// A source of an exemplar, or of none.

@@ -30,7 +30,9 @@ pub mod collector {
     };
 }
 
-pub use exemplar::{EncodeExemplar, ExemplarEncoder, LabeledExemplar, whole_millis};
+pub use exemplar::{
+    EncodeExemplar, ExemplarEncoder, ExemplarLabels, LabeledExemplar, whole_millis,
+};
 pub use first_refusal::FirstRefusal;
 pub use fm_encode_error::EncodeError;
 pub use label::{EncodeLabel, EncodeLabelName, EncodeLabelValue, LabelEncoder, LabelSetEncoder};

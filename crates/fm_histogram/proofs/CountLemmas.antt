@@ -6,9 +6,9 @@ use Rattle.std.specs.Int.RustNames.{FitsSigned}
 use Rattle.std.proofs.lemmas.List.{append-nil}
 use Rattle.std.proofs.lemmas.List.Elements.{filter-append}
 use Rattle.fm_raw.specs.declared.bucket.bound.Bucket.{Bucket}
-use Rattle.fm_histogram.specs.Histogram.{Histogram, IsCounts, total, buckets_above}
+use Rattle.fm_histogram.specs.Histogram.{Histogram, IsCounts, total, buckets_above, place_among}
 use Rattle.fm_histogram.specs.inside.Counting.{IsOfSome, place, one_more}
-use Rattle.fm_histogram.proofs.BucketLemmas.{observed, counts_within}
+use Rattle.fm_histogram.proofs.BucketLemmas.{observed, counts_within, place_is}
 
 -- the sum of one value more
 total_more : (xs : List ℤ) (v : ℤ) → total (xs ++ v ∷ []) ≡ total xs +ℤ v
@@ -39,6 +39,10 @@ observes bounds xs s v at d h here =
 -- no bucket has more than all
 pub count_within : (bounds : List ℤ) (s : Histogram) (i : ℕ) (d : Bucket) → IsOfSome bounds s → i < length s.buckets → (get_or s.buckets i d).count ≤ s.count
 count_within bounds s i d some = rw some.is.is (λ h. counts_within None bounds some.values d i h)
+
+-- the index of a value among the buckets is that among the bounds
+pub place_here : (bounds : List ℤ) (s : Histogram) (v : ℤ) → IsOfSome bounds s → place v s.buckets ≡ place_among v bounds
+place_here bounds s v some = rw some.is.is (place_is None bounds some.values v)
 
 -- the sum of two sums fits if the counts do
 pub sums_fit : (s t : ℤ) (n m : ℕ) → neg_ℤ (pos (2 ^ 63 * n)) ≤ℤ s → s ≤ℤ pos (2 ^ 63 * n) → neg_ℤ (pos (2 ^ 63 * m)) ≤ℤ t → t ≤ℤ pos (2 ^ 63 * m) → n + m < 2 ^ 64

@@ -4,7 +4,7 @@ ghost use Rattle.fm_raw.specs.declared.error.MetricError.TheVariants.{Memory, Co
 ghost use Rattle.fm_raw.specs.declared.bucket.bound.Bucket.{Bucket as OneBucket};
 ghost use Rattle.fm_raw.specs.Bounds.{default_bounds};
 ghost use Rattle.fm_histogram.specs.Histogram.{IsCounts, rises, upper_bounds, merged, merged_buckets};
-ghost use Rattle.fm_histogram.specs.inside.Counting.{one_more};
+ghost use Rattle.fm_histogram.specs.inside.Counting.{one_more, place};
 
 use crate::place::place_of;
 use fm_raw::bucket::{Bound, Bucket, default_buckets};
@@ -82,6 +82,13 @@ impl Counts {
         self.sum
     }
 
+    // The index of the bucket in which a value lies.
+    pub(crate) fn index_of(&self, value: Fixed) -> usize
+        ensures { result ≡ place value self.now.buckets }
+    {
+        place_of::<Brand>(self.bounds.as_slice(), value, Blank::new(1))
+    }
+
     // Counts one value more.
     pub(crate) fn add(&mut self, value: Fixed) -> Result<(), MetricError>
         ensures counted { OnOk result
@@ -96,7 +103,7 @@ impl Counts {
         let Some(count) = self.count.checked_add(1) else {
             return Err(MetricError::CountFull);
         };
-        let place = place_of::<Brand>(self.bounds.as_slice(), value, Blank::new(1));
+        let place = self.index_of(value);
         count_at(self.buckets.as_mut_slice(), place);
         self.count = count;
         self.sum += i128::from(value.millionths());

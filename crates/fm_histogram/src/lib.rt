@@ -3,13 +3,17 @@
 
 mod counts;
 mod encode;
+pub mod exemplars;
 pub mod histogram;
 mod place;
 mod rising;
 pub mod sign;
 pub mod snapshot;
 pub mod steps;
+pub mod timer;
 
+pub use exemplars::ExemplarHistogram;
 pub use histogram::{GaugeHistogram, Histogram};
 pub use sign::Sign;
 pub use snapshot::{GaugeHistogramSnapshot, HistogramSnapshot};
+pub use timer::{Timer, TimerError};

@@ -6,6 +6,7 @@ ghost use Rattle.fm_raw.specs.declared.error.MetricError.TheVariants.{Memory, Co
 ghost use Rattle.fm_raw.specs.Bounds.{default_bounds};
 ghost use Rattle.fm_encoder.specs.Points.{millis, values_in};
 ghost use Rattle.fm_encoder.specs.Hands.{HandsPoints};
+ghost use Rattle.fm_histogram.specs.inside.Counting.{place};
 ghost use Rattle.fm_histogram.specs.Histogram.{IsHistogram, CountsTaken, IsBoundsOf, takes, upper_bounds, merged};
 
 use crate::counts::Counts;
@@ -93,6 +94,13 @@ impl<S: Sign> SnapshotOf<S> {
         ensures { CountsTaken (takes S.NEGATIVE) self.now }
     {
         let _ = &self.counts;
+    }
+
+    // The index of the bucket in which a value lies.
+    pub(crate) fn index_of(&self, value: Fixed) -> usize
+        ensures { result ≡ place value self.now.buckets }
+    {
+        self.counts.index_of(value)
     }
 
     // Emits the snapshot's point with this time of creation.

@@ -3,6 +3,7 @@
 #![tactic(auto)]
 
 pub mod counter;
+pub mod exemplar_counter;
 pub mod gauge;
 pub mod info;
 pub mod labeled;
@@ -11,6 +12,7 @@ pub mod state_set;
 pub mod unknown;
 
 pub use counter::{ConstCounter, Counter};
+pub use exemplar_counter::ExemplarCounter;
 pub use gauge::{ConstGauge, Gauge};
 pub use info::Info;
 pub use labeled::Labeled;

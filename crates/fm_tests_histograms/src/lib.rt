@@ -4,9 +4,13 @@
 #[cfg(test)]
 mod bounds;
 #[cfg(test)]
+mod exemplar_histograms;
+#[cfg(test)]
 mod histograms;
 pub mod own_buckets;
 #[cfg(test)]
 mod search;
 #[cfg(test)]
 mod snapshots;
+#[cfg(test)]
+mod timers;

@@ -8,6 +8,8 @@ mod clones;
 #[cfg(test)]
 mod default_states;
 #[cfg(test)]
+mod exemplar_counters;
+#[cfg(test)]
 mod laws;
 #[cfg(test)]
 mod liars;
