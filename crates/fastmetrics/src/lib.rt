@@ -20,7 +20,7 @@ pub mod metrics {
 
     pub mod counter {
         //! Counters: numbers that never fall.
-        pub use fm_metrics::{ConstCounter, Counter};
+        pub use fm_metrics::{ConstCounter, Counter, ExemplarCounter};
         pub use fm_raw::CounterValue;
     }
 
@@ -48,7 +48,9 @@ pub mod metrics {
 
     pub mod histogram {
         //! Histograms: counts of observed values by bounds.
-        pub use fm_histogram::{Histogram, HistogramSnapshot};
+        pub use fm_histogram::{
+            ExemplarHistogram, Histogram, HistogramSnapshot, Timer, TimerError,
+        };
         pub use fm_raw::bucket::{
             BUCKET_LABEL, Bound, Bucket, BucketError, DEFAULT_BUCKETS, ExponentialBuckets,
             LinearBuckets, Probe, default_buckets, exponential_buckets, exponential_buckets_range,

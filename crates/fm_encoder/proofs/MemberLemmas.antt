@@ -159,6 +159,19 @@ HandsMembers-then {A} {B} {F} old mid new first r a ok accepted b = record {
       ]);
 }
 
+pub HandsPoints-weaker : {A B : List Point → Type 0} {F G : Type 0} (old new : GatheredPoints) (r : Result (Unit {0}) EncodeError) → ((ps : List Point) → A ps → B ps) → (F → G) → HandsPoints A F old new r → HandsPoints B G old new r
+HandsPoints-weaker old new r admits weaker a = record {
+  place = a.place;
+  kept = a.kept;
+  handed = λ o n e. (let h = a.handed o n e in (h.0, admits h.0 h.1, h.2, h.3));
+  own = λ e n w. elim (a.own e n w) [ inl memory ↦ inl memory | inr fault ↦ inr (weaker fault) ];
+  refused = λ k o n. elim (a.refused k o n) [
+    | inl (inl memory) ↦ inl (inl memory)
+    | inl (inr fault) ↦ inl (inr (fault.0, weaker fault.1))
+    | inr (ps, admitted, fault) ↦ inr (ps, admits ps admitted, fault)
+  ];
+}
+
 pub HandsMembers-weaker : {A B : List Member → Type 0} {F G : Type 0} (old new : GatheredMembers) (r : Result (Unit {0}) EncodeError) → ((ms : List Member) → A ms → B ms) → (F → G) → HandsMembers A F old new r → HandsMembers B G old new r
 HandsMembers-weaker old new r admits weaker a = record {
   context = a.context;

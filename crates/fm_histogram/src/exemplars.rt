@@ -1,5 +1,5 @@
 //! Histograms that keep the last exemplar of each bucket.
-ghost use Rattle.std.specs.Prelude.{◌≡◌, true, List, [], ◌∷◌, length, ◌≤◌, Some, None, IfOk, IfErr};
+ghost use Rattle.std.specs.Prelude.{◌≡◌, true, List, [], ◌∷◌, length, map, Some, None, IfOk, IfErr};
 ghost use Rattle.std.specs.Option.{option_map};
 ghost use Rattle.std.specs.List.{AllByRecursion};
 ghost use Rattle.std.specs.Iterator.{IsFinite};
@@ -7,15 +7,15 @@ ghost use Rattle.std.specs.Arc.{arc_value};
 ghost use Rattle.fm_grammar.specs.declared.MetricType.TheVariants.{Histogram as HistogramType};
 ghost use Rattle.fm_raw.specs.declared.error.MetricError.TheVariants.{Memory, CountFull};
 ghost use Rattle.fm_encoder.specs.Points.{BucketsClean, ExemplarClean, HandedExemplar, HistogramPoint, millis};
-ghost use Rattle.fm_encoder.specs.Buckets.{slots_of};
 ghost use Rattle.fm_histogram.specs.Histogram.{Histogram as Counted, CountsTaken, is_taken};
 ghost use Rattle.fm_histogram.specs.Shown.{alone};
 ghost use Rattle.fm_histogram.specs.Shared.{exemplar_histogram_created};
+ghost use Rattle.fm_histogram.specs.inside.Slots.{emitted};
 
 use crate::snapshot::HistogramSnapshot;
 use fm_encode_error::EncodeError;
 use fm_encoder::{
-    EncodeExemplar, EncodeMetric, EncodePoint, ExemplarLabels, LabeledExemplar, MetricEncoder, PointEncoder,
+    EncodeMetric, EncodePoint, ExemplarLabels, LabeledExemplar, MetricEncoder, PointEncoder,
 };
 use fm_raw::{Fixed, MetricError, MetricType, TryDefault, TypedMetric};
 use std::alloc::{AllocError, Global};
@@ -38,7 +38,7 @@ impl Seen {
     {
         let mut last = Vec::with_capacity(alloc, snapshot.buckets().len())?;
         for _ in 0..snapshot.buckets().len() {
-            last.push_reserved(None);
+            last.push(None)?;
         }
         Ok(Seen {
             alloc,
@@ -48,10 +48,7 @@ impl Seen {
     }
 
     // Counts a value, and keeps the exemplar in the slot of its bucket.
-    fn observe_with(
-        &mut self,
-        exemplar: LabeledExemplar<ExemplarLabels>,
-    ) -> Result<(), MetricError>
+    fn observe_with(&mut self, exemplar: LabeledExemplar<ExemplarLabels>) -> Result<(), MetricError>
         ensures { IfErr result (λ e. (e ≡ CountFull) × (is_taken exemplar.value ≡ true)) }
     {
         self.snapshot.observe(exemplar.value)?;
@@ -65,22 +62,25 @@ impl Seen {
         Ok(())
     }
 
-    // For each bucket its exemplar, if it has one.
-    fn slots(&self) -> Result<Vec<Option<&LabeledExemplar<ExemplarLabels>>>, AllocError>
-        ensures { IfOk result (λ slots. (length slots.items ≡ length self.now.snapshot.buckets)
-            × AllByRecursion ExemplarClean
-            (slots_of ⟦<LabeledExemplar<ExemplarLabels> as EncodeExemplar>⟧.exemplars slots.items)) }
+    // The exemplar of a bucket, if it has one. It is valid.
+    fn slot(&self, index: usize) -> Option<&LabeledExemplar<ExemplarLabels>>
+        ensures { ExemplarClean (emitted result) }
     {
-        let mut slots = Vec::with_capacity(self.alloc, self.snapshot.buckets().len())?;
-        for i in 0..self.snapshot.buckets().len() {
-            let slot = match self.last.get(i) {
-                Some(Some(exemplar)) => {
-                    exemplar.labels.are_taken();
-                    Some(exemplar)
-                }
-                _ => None,
-            };
-            slots.push_reserved(slot);
+        let exemplar = self.last.get(index)?.as_ref()?;
+        exemplar.labels.are_taken();
+        Some(exemplar)
+    }
+
+    // The same for each bucket.
+    fn slots(&self) -> Result<Vec<Option<&LabeledExemplar<ExemplarLabels>>>, AllocError>
+        ensures { IfOk result
+            (λ slots. (length slots.items ≡ length self.now.snapshot.buckets)
+            × AllByRecursion ExemplarClean (map emitted slots.items)) }
+    {
+        let count = self.snapshot.buckets().len();
+        let mut slots = Vec::with_capacity(self.alloc, count)?;
+        for i in 0..count {
+            slots.push(self.slot(i))?;
         }
         Ok(slots)
     }
@@ -167,10 +167,7 @@ impl<H: Wait> ExemplarHistogram<H> {
 
     /// Counts the exemplar's value, as `observe` does, and then keeps the exemplar in place of the last one of the bucket in which
     /// the value lies. Where `observe` changes nothing, this changes nothing.
-    pub fn observe_with(
-        &self,
-        exemplar: LabeledExemplar<ExemplarLabels>,
-    ) -> Result<(), MetricError>
+    pub fn observe_with(&self, exemplar: LabeledExemplar<ExemplarLabels>) -> Result<(), MetricError>
         ensures { IfErr result (λ e. (e ≡ CountFull) × (is_taken exemplar.value ≡ true)) }
     {
         self.shared.seen.lock(&self.wait).observe_with(exemplar)

@@ -11,17 +11,18 @@ use std::time::{Clock, Duration, Instant};
 use thiserror::Error;
 
 /// Why a timer counted nothing.
-#[derive(Debug, Error)]
+#[derive(Debug, Drop, Error)]
 pub enum TimerError {
     /// The clock couldn't be read.
     #[error("{0}")]
-    Clock(#[from] io::Error),
+    Clock(io::Error),
     /// The histogram counted as many values as it can.
     #[error("{0}")]
-    Metric(#[from] MetricError),
+    Metric(MetricError),
 }
 
 /// A duration that is measured for a histogram, from the start until `stop`. A timer that is dropped counts nothing.
+#[derive(Drop)]
 pub struct Timer<'a, H: Wait, C: Clock> {
     histogram: &'a Histogram<H>,
     clock: &'a C,
@@ -46,8 +47,13 @@ impl<H: Wait, C: Clock> Timer<'_, H, C> {
     pub fn stop(self) -> Result<Duration, TimerError>
         ensures { IfErr result (λ e. (e ≡ MetricFault CountFull) ⊎ ((fault : _) × (e ≡ ClockFault fault))) }
     {
-        let elapsed = self.started.elapsed(self.clock)?;
-        self.histogram.observe_duration(elapsed)?;
-        Ok(elapsed)
+        let elapsed = match self.started.elapsed(self.clock) {
+            Ok(elapsed) => elapsed,
+            Err(fault) => return Err(TimerError::Clock(fault)),
+        };
+        match self.histogram.observe_duration(elapsed) {
+            Ok(()) => Ok(elapsed),
+            Err(fault) => Err(TimerError::Metric(fault)),
+        }
     }
 }

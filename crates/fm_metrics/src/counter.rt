@@ -19,9 +19,9 @@ use std::time::Duration;
 
 // What the clones of a counter share.
 #[derive(Drop)]
-struct Count<N: CounterValue> {
-    total: N::Atomic,
-    created: Option<Duration>,
+pub(crate) struct Count<N: CounterValue> {
+    pub(crate) total: N::Atomic,
+    pub(crate) created: Option<Duration>,
 }
 
 /// A total that only grows, except that it wraps at its type's greatest value. Its clones share it.
@@ -29,7 +29,7 @@ struct Count<N: CounterValue> {
 /// `N` is `u32`, `u64`, `usize` or `Fixed`. Each change is one atomic step. No call waits, and only making a counter
 /// and cloning it take memory.
 pub struct Counter<N: CounterValue = u64> {
-    count: Arc<Count<N>, Global>,
+    pub(crate) count: Arc<Count<N>, Global>,
 }
 
 impl<N: CounterValue> Drop for Counter<N> {

@@ -1,6 +1,6 @@
 //! Counters that keep their last exemplar.
 ghost use Rattle.std.specs.Prelude.{◌≡◌, List, [], ◌∷◌, Some, None, IfOk, IfErr};
-ghost use Rattle.std.specs.Option.{option_map};
+ghost use Rattle.std.specs.Option.{option_map, option_map_or};
 ghost use Rattle.std.specs.Arc.{arc_value};
 ghost use Rattle.fm_grammar.specs.declared.MetricType.TheVariants.{Counter as CounterType};
 ghost use Rattle.fm_raw.specs.declared.error.MetricError.TheVariants.{Memory, NegativeIncrement};
@@ -8,13 +8,13 @@ ghost use Rattle.fm_encoder.specs.Points.{CounterPoint, ExemplarClean, HandedExe
 ghost use Rattle.fm_metrics.specs.NumberOrder.{IsLess};
 ghost use Rattle.fm_metrics.specs.Counters.{counter_created};
 
-use crate::counter::Counter;
+use crate::counter::{Count, Counter};
 use fm_encode_error::EncodeError;
 use fm_encoder::{
-    EncodeCounterValue, EncodeMetric, EncodePoint, ExemplarLabels, LabeledExemplar, MetricEncoder,
-    PointEncoder,
+    EncodeCounterValue, EncodeExemplar, EncodeMetric, EncodePoint, ExemplarLabels, LabeledExemplar,
+    MetricEncoder, PointEncoder,
 };
-use fm_raw::{CounterValue, MetricError, MetricType, TryDefault, TypedMetric};
+use fm_raw::{Atomic, CounterValue, MetricError, MetricType, TryDefault, TypedMetric};
 use std::alloc::{AllocError, Global};
 use std::fmt::{self, Debug, Formatter};
 use std::sync::{Arc, Mutex, Wait};
@@ -41,23 +41,6 @@ impl<H: Wait + Drop, N: CounterValue> Drop for ExemplarCounter<H, N> {
 }
 
 impl<H: Wait + Drop, N: CounterValue> ExemplarCounter<H, N> {
-    // This counter, without an exemplar.
-    fn from_counter(
-        wait: H,
-        alloc: Global,
-        counter: Counter<N>,
-    ) -> Result<ExemplarCounter<H, N>, MetricError>
-        ensures counter { IfOk result (λ c. c.counter ≡ counter) }
-        ensures memory { IfErr result (λ e. e ≡ Memory) }
-    {
-        let last = Arc::new(alloc, Mutex::new(None))?;
-        Ok(ExemplarCounter {
-            counter,
-            last,
-            wait,
-        })
-    }
-
     /// Like `Counter::with_created`, without an exemplar.
     pub fn with_created(
         wait: H,
@@ -67,7 +50,13 @@ impl<H: Wait + Drop, N: CounterValue> ExemplarCounter<H, N> {
         ensures created { IfOk result (λ c. counter_created c.counter ≡ Some created) }
         ensures memory { IfErr result (λ e. e ≡ Memory) }
     {
-        ExemplarCounter::from_counter(wait, alloc, Counter::with_created(alloc, created)?)
+        let counter = Counter::with_created(alloc, created)?;
+        let last = Arc::new(alloc, Mutex::new(None))?;
+        Ok(ExemplarCounter {
+            counter,
+            last,
+            wait,
+        })
     }
 }
 
@@ -102,8 +91,15 @@ impl<H: Wait + Drop, N: CounterValue> TryDefault<H> for ExemplarCounter<H, N> {
     ghost is_default = { λ c. counter_created c.counter ≡ None };
 
     fn try_default(wait: H, alloc: Global) -> Result<ExemplarCounter<H, N>, MetricError> {
-        let counter = <Counter<N> as TryDefault<&H>>::try_default(&wait, alloc)?;
-        ExemplarCounter::from_counter(wait, alloc, counter)
+        let total = N::Atomic::default();
+        let created = None;
+        let count = Arc::new(alloc, Count { total, created })?;
+        let last = Arc::new(alloc, Mutex::new(None))?;
+        Ok(ExemplarCounter {
+            counter: Counter { count },
+            last,
+            wait,
+        })
     }
 }
 
@@ -140,6 +136,16 @@ impl<H: Wait, N: CounterValue> TypedMetric for ExemplarCounter<H, N> {
     const TYPE: MetricType = MetricType::Counter;
 }
 
+// The exemplar that was kept last, which is valid.
+fn lent(last: &Option<LabeledExemplar<ExemplarLabels>>) -> Option<&LabeledExemplar<ExemplarLabels>>
+    ensures { ExemplarClean (option_map_or
+        (λ e. ⟦<LabeledExemplar<ExemplarLabels> as EncodeExemplar>⟧.exemplars e.now) result []) }
+{
+    let exemplar = last.as_ref()?;
+    exemplar.labels.are_taken();
+    Some(exemplar)
+}
+
 /// The total, and the exemplar that was kept last, which is valid. What it was passed with is counted in the total.
 impl<H: Wait, N: CounterValue + EncodeCounterValue> EncodePoint for ExemplarCounter<H, N> {
     ghost points = { λ c ps. (total : N)
@@ -153,19 +159,14 @@ impl<H: Wait, N: CounterValue + EncodeCounterValue> EncodePoint for ExemplarCoun
 
     fn encode(&self, points: &mut PointEncoder) -> Result<(), EncodeError> {
         let last = self.last.lock(&self.wait);
-        let total = self.counter.total();
-        let created = self.counter.created();
-        let last: &Option<LabeledExemplar<ExemplarLabels>> = &last;
-        if let Some(exemplar) = last {
-            exemplar.labels.are_taken();
-        }
-        points.encode_counter(&total, last.as_ref(), created)
+        let total = self.counter.count.total.get();
+        let created = self.counter.count.created;
+        points.encode_counter(&total, lent(&last), created)
     }
 }
 
 impl<H: Wait + Send + Sync + Drop, N: CounterValue + EncodeCounterValue> EncodeMetric
-    for ExemplarCounter<H, N>
-{
+    for ExemplarCounter<H, N> {
     ghost types = { λ _ t. t ≡ CounterType };
 
     ghost offers = { λ c _ ms. (total : N)

@@ -10,10 +10,7 @@ use std::test::Fail;
 use std::time::Duration;
 
 // An exemplar of this value in millionths, without labels.
-fn bare(
-    alloc: Global,
-    millionths: i64,
-) -> Result<LabeledExemplar<ExemplarLabels>, EncodeError> {
+fn bare(alloc: Global, millionths: i64) -> Result<LabeledExemplar<ExemplarLabels>, EncodeError> {
     Ok(LabeledExemplar {
         labels: ExemplarLabels::new(alloc, &())?,
         value: Fixed::from_millionths(millionths),
@@ -57,8 +54,7 @@ fn each_bucket_keeps_its_last_exemplar(rt: HostRuntime) -> Result<(), Fail> {
     let alloc = rt.alloc();
     let bounds = [whole(1), whole(2), whole(3)];
     let created = Duration::from_secs(7);
-    let histogram =
-        ExemplarHistogram::with_created(rt, alloc, bounds.iter().copied(), created)?;
+    let histogram = ExemplarHistogram::with_created(rt, alloc, bounds.iter().copied(), created)?;
     assert_eq!(rt; histogram.created(), Some(created));
     let other = histogram.clone()?;
     for (trace, millionths) in [

@@ -56,11 +56,11 @@ fn a_refused_increment_keeps_the_exemplar(rt: HostRuntime) -> Result<(), Fail> {
     let created = Duration::from_secs(3);
     let counter: ExemplarCounter<_, Fixed> = ExemplarCounter::with_created(rt, alloc, created)?;
     assert_eq!(rt; counter.counter().created(), Some(created));
-    counter.inc_by_with(Fixed::from_millionths(250_000), traced(alloc, "a", 250_000, None)?)?;
-    let refused = counter.inc_by_with(
-        Fixed::from_millionths(-1),
-        traced(alloc, "b", -1, None)?,
-    );
+    counter.inc_by_with(
+        Fixed::from_millionths(250_000),
+        traced(alloc, "a", 250_000, None)?,
+    )?;
+    let refused = counter.inc_by_with(Fixed::from_millionths(-1), traced(alloc, "b", -1, None)?);
     assert_eq!(rt; refused, Err(MetricError::NegativeIncrement));
     expect_document(
         alloc,
@@ -95,10 +95,19 @@ fn refusal(
 fn labels_that_an_exemplar_may_have(rt: HostRuntime) -> Result<(), Fail> {
     let alloc = rt.alloc();
     assert_eq!(rt; refusal(alloc, "trace_id", 'a', 120)?, None);
-    assert_eq!(rt; refusal(alloc, "trace_id", 'a', 121)?, Some(EncodeError::ExemplarTooLong));
+    assert_eq!(rt;
+        refusal(alloc, "trace_id", 'a', 121)?,
+        Some(EncodeError::ExemplarTooLong)
+    );
     assert_eq!(rt; refusal(alloc, "v", 'é', 127)?, None);
-    assert_eq!(rt; refusal(alloc, "v", 'é', 128)?, Some(EncodeError::ExemplarTooLong));
-    assert_eq!(rt; refusal(alloc, "0", 'a', 1)?, Some(EncodeError::InvalidLabelName));
+    assert_eq!(rt;
+        refusal(alloc, "v", 'é', 128)?,
+        Some(EncodeError::ExemplarTooLong)
+    );
+    assert_eq!(rt;
+        refusal(alloc, "0", 'a', 1)?,
+        Some(EncodeError::InvalidLabelName)
+    );
     assert_eq!(rt; refusal(alloc, "le", 'a', 1)?, None);
     let twice = ExemplarLabels::new(alloc, &[("a", "1"), ("a", "2")]).err();
     assert_eq!(rt; twice, Some(EncodeError::DuplicateLabel));

@@ -1,15 +1,17 @@
 //! Constants, and metrics of two own types.
 
 use crate::support::expect_root;
-use fastmetrics::encoder::StaticStr;
-use fastmetrics::metrics::counter::{ConstCounter, Counter};
+use fastmetrics::encoder::{EncodeError, ExemplarLabels, LabeledExemplar, StaticStr};
+use fastmetrics::metrics::counter::{ConstCounter, Counter, ExemplarCounter};
 use fastmetrics::metrics::family::{PairFamily, with_pairs};
 use fastmetrics::metrics::gauge::ConstGauge;
+use fastmetrics::metrics::histogram::ExemplarHistogram;
 use fastmetrics::metrics::state_set::StateSet;
 use fastmetrics::metrics::unknown::Unknown;
 use fastmetrics::raw::{Fixed, TryDefault};
 use fastmetrics::registry::{Metric, OneOf, Registry, Root, Unit};
 use fm_test_support::jobs::Job;
+use std::alloc::Global;
 use std::test::Fail;
 
 // Counters by ports.
@@ -45,6 +47,16 @@ routes_total{port=\"80\"} 1\n\
 # HELP ways_bytes H\n\
 # UNIT ways_bytes bytes\n\
 ways_bytes_total{port=\"80\"} 1\n\
+# EOF\n";
+
+const TRACED: &str = "# TYPE requests counter\n\
+# HELP requests H\n\
+requests_total 2 # {trace_id=\"a\"} 0.5\n\
+# TYPE sizes histogram\n\
+# HELP sizes H\n\
+sizes_bucket{le=\"+Inf\"} 1 # {trace_id=\"a\"} 0.5\n\
+sizes_count 1\n\
+sizes_sum 0.5\n\
 # EOF\n";
 
 #[test]
@@ -88,4 +100,36 @@ fn one_own_type(rt: HostRuntime) -> Result<(), Fail> {
     with_pairs(&routes, &[(StaticStr("port"), 80)], |it| it.inc())?;
     root.add_own("ways", "H", Some(Unit::Bytes), &routes)?;
     expect_root(alloc, &root, ROUTES)
+}
+
+// The value 0.5 of this trace.
+fn half(alloc: Global, trace: &str) -> Result<LabeledExemplar<ExemplarLabels>, EncodeError> {
+    Ok(LabeledExemplar {
+        labels: ExemplarLabels::new(alloc, &[("trace_id", trace)])?,
+        value: Fixed::from_millionths(500_000),
+        timestamp: None,
+    })
+}
+
+#[test]
+fn metrics_with_exemplars(rt: HostRuntime) -> Result<(), Fail> {
+    let alloc = rt.alloc();
+    let mut root = Root::with_own(Registry::builder(), rt, alloc);
+    let requests: ExemplarCounter<_> = ExemplarCounter::try_default(rt, alloc)?;
+    root.register(
+        "requests",
+        "H",
+        None,
+        Metric::Own(OneOf::First(requests.clone()?)),
+    )?;
+    let sizes = ExemplarHistogram::new(rt, alloc, [].iter().copied())?;
+    root.register(
+        "sizes",
+        "H",
+        None,
+        Metric::Own(OneOf::Second(sizes.clone()?)),
+    )?;
+    requests.inc_by_with(2, half(alloc, "a")?)?;
+    sizes.observe_with(half(alloc, "a")?)?;
+    expect_root(alloc, &root, TRACED)
 }

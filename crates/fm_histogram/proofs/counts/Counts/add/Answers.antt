@@ -18,7 +18,7 @@ within bounds s v some = subst (λ n. n < length s.buckets) (sym (place_here bou
 
 pub count_at-requires-clause-inside : goal.count_at-requires-clause-inside
 count_at-requires-clause-inside c =
-    rw (c.as_mut_slice.ensures.value, c.index_of-place.ensures, c.self.view_is) (within _ _ c.args.value c.self.invariant)
+    rw (c.as_mut_slice.ensures.value, c.index_of-place.ensures, ← c.self.view_is) (within _ _ c.args.value c.self.invariant)
 
 pub count_at-requires-clause-small : goal.count_at-requires-clause-small
 count_at-requires-clause-small c d =
@@ -26,7 +26,7 @@ count_at-requires-clause-small c d =
     let bounds = c.self.inside.bounds.items in
     let here = within bounds s c.args.value c.self.invariant in
     let few = count_within bounds s (place c.args.value s.buckets) d c.self.invariant here in
-    rw (c.as_mut_slice.ensures.value, c.index_of-place.ensures, c.self.view_is) (omega (arith, few, c.in-Some.ensures.0))
+    rw (c.as_mut_slice.ensures.value, c.index_of-place.ensures, ← c.self.view_is) (omega (arith, few, c.in-Some.ensures.0))
 
 -- what the code added
 added_is : (sum v from given : ℤ) (count : ℕ) → (neg_ℤ (pos (2 ^ 63 * count)) ≤ℤ sum) × (sum ≤ℤ pos (2 ^ 63 * count)) → FitsSigned w64 given → from ≡ to_z w64 (of_z w64 given) → given ≡ v → count < 2 ^ 64
@@ -69,7 +69,7 @@ left c =
     (added_is c.self.inside.sum c.args.value c.from.result c.millionths.result c.self.inside.count (c.self.invariant.low, c.self.invariant.high) fits c.from.ensures c.millionths.ensures.exact small)
 
 here : (c : goal.After-self-4-1) → c.index_of-place.result ≡ place c.args.value c.self.inside.buckets.items
-here c = rw c.self.view_is at c.index_of-place.ensures
+here c = rw (← c.self.view_is) at c.index_of-place.ensures
 
 pub invariant_of-self : goal.invariant_of-self
 invariant_of-self c =
