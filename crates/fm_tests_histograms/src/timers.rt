@@ -9,6 +9,7 @@ use std::test::Fail;
 use std::time::{Clock, Duration};
 
 // A clock that tells these times in turn, in milliseconds, and then fails.
+#[derive(Drop)]
 struct Told {
     times: [u64; 2],
     next: Cell<usize>,
