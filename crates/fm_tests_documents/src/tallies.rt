@@ -76,12 +76,12 @@ fn replies_to_events(rt: HostRuntime) -> Result<(), Fail> {
 }
 
 #[test]
-fn three_hundred_events(rt: HostRuntime) -> Result<(), Fail> {
+fn seventy_thousand_events(rt: HostRuntime) -> Result<(), Fail> {
     let alloc = rt.alloc();
-    let events = vec![in alloc; Event::Add { who: 0, v: 1 }; 300]?;
+    let events = vec![in alloc; Event::Add { who: 0, v: 1 }; 70_000]?;
     let mut book = Book::new();
     let replies = book.run(alloc, events.as_slice())?;
     assert!(rt; replies.iter().all(|reply| *reply == Reply::Added));
-    assert!(rt; replies.len() == 300 && book.read() == 300);
+    assert!(rt; replies.len() == 70_000 && book.read() == 70_000);
     Ok(())
 }

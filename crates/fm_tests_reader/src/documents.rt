@@ -64,8 +64,8 @@ fn document_of_gauges(alloc: Global, count: u32) -> Result<String, Fail> {
 }
 
 #[test]
-fn three_hundred_families(rt: HostRuntime) -> Result<(), Fail> {
-    let text = document_of_gauges(rt.alloc(), 300)?;
+fn seventy_thousand_families(rt: HostRuntime) -> Result<(), Fail> {
+    let text = document_of_gauges(rt.alloc(), 70_000)?;
     expect_written_again(rt.alloc(), text.as_str())
 }
 
@@ -77,6 +77,23 @@ fn document_with_a_long_label(alloc: Global, tens: u32) -> Result<String, Fail> 
     }
     text.push_str("\"} 1\n# EOF\n")?;
     Ok(text)
+}
+
+// The document of a gauge with so many labels.
+fn document_with_labels(alloc: Global, count: u32) -> Result<String, Fail> {
+    let mut text = String::from_str(alloc, "# TYPE g gauge\n# HELP g H\ng{first=\"\"")?;
+    for number in 0..count {
+        let label = format!(in alloc; ",l{number}=\"{number}\"")?;
+        text.push_str(label.as_str())?;
+    }
+    text.push_str("} 1\n# EOF\n")?;
+    Ok(text)
+}
+
+#[test]
+fn seventy_thousand_labels(rt: HostRuntime) -> Result<(), Fail> {
+    let text = document_with_labels(rt.alloc(), 70_000)?;
+    expect_written_again(rt.alloc(), text.as_str())
 }
 
 #[test]

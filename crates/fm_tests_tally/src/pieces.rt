@@ -234,7 +234,7 @@ fn one_piece(rt: HostRuntime) -> Result<(), Fail> {
 }
 
 // So many pieces of the values 1 and 2.
-fn pairs(alloc: Global, count: u8) -> Result<Vec<Vec<Fixed>>, AllocError> {
+fn pairs(alloc: Global, count: u16) -> Result<Vec<Vec<Fixed>>, AllocError> {
     let mut pieces = Vec::new(alloc);
     for _ in 0..count {
         pieces.push(up_to(alloc, 2)?)?;
@@ -243,9 +243,9 @@ fn pairs(alloc: Global, count: u8) -> Result<Vec<Vec<Fixed>>, AllocError> {
 }
 
 #[test]
-fn forty_pieces(rt: HostRuntime) -> Result<(), Fail> {
+fn three_hundred_pieces(rt: HostRuntime) -> Result<(), Fail> {
     let alloc = rt.alloc();
-    let pieces = pairs(alloc, 40)?;
+    let pieces = pairs(alloc, 300)?;
     let all = observe_all(&rt, alloc, &[whole(1)], pieces.as_slice(), &OpenGate)?;
-    expect_counted(alloc, &all, &[40, 40], 80, "120.0")
+    expect_counted(alloc, &all, &[300, 300], 600, "900.0")
 }

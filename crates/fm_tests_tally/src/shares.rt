@@ -59,23 +59,23 @@ fn the_greatest_number_in_two_adds(rt: HostRuntime) -> Result<(), Fail> {
     Ok(())
 }
 
-// Closes a tally of three hundred, of which the last has added 5.
-fn three_hundred<K: TallyKey, R: Wait>(
+// Closes a tally of seventy thousand, of which the last has added 5.
+fn seventy_thousand<K: TallyKey, R: Wait>(
     rt: &R,
     alloc: Global,
     blank: Blank,
 ) -> Result<u64, TallyError>
     requires name { blank.name ≡ K.name }
     requires parts { blank.parts ≡ K.parts }
-    requires three_hundred_and_one { blank.parts ≡ 301 }
+    requires one_more { blank.parts ≡ 70001 }
 {
-    let (tally, mut shares) = Tally::<K>::new(alloc, blank, 300)?;
-    tally.add(rt, &mut shares[299], 5)?;
+    let (tally, mut shares) = Tally::<K>::new(alloc, blank, 70_000)?;
+    tally.add(rt, &mut shares[69_999], 5)?;
     tally.close(shares)
 }
 
 #[test]
-fn a_tally_of_three_hundred(rt: HostRuntime) -> Result<(), Fail> {
-    assert!(rt; three_hundred::<Brand, _>(&rt, rt.alloc(), Blank::new(301)) == Ok(5));
+fn a_tally_of_seventy_thousand(rt: HostRuntime) -> Result<(), Fail> {
+    assert!(rt; seventy_thousand::<Brand, _>(&rt, rt.alloc(), Blank::new(70_001)) == Ok(5));
     Ok(())
 }
