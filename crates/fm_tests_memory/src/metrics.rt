@@ -31,6 +31,7 @@ mod families;
 mod gauge_histograms;
 mod handles;
 mod histograms;
+mod kept_exemplars;
 mod observations;
 mod tallies;
 

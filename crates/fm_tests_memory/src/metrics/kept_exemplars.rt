@@ -1,0 +1,101 @@
+//! Counters and histograms that keep exemplars, under refused memory.
+use super::{bear, boxed, expect_document};
+use fastmetrics::encoder::{EncodeError, ExemplarLabels, LabeledExemplar};
+use fastmetrics::metrics::counter::ExemplarCounter;
+use fastmetrics::metrics::histogram::ExemplarHistogram;
+use fastmetrics::raw::{Fixed, MetricError, TryDefault};
+use fm_test_support::support::Patience;
+use std::alloc::Global;
+use std::sync::Wait;
+use std::test::Fail;
+
+const COUNTED: &[u8] =
+    b"before\n# TYPE m counter\n# HELP m H\nm_total 3 # {trace_id=\"a\"} 3.0\n# EOF\n";
+
+const OBSERVED: &[u8] = b"before\n# TYPE m histogram\n# HELP m H\n\
+    m_bucket{le=\"1.0\"} 1\nm_bucket{le=\"2.0\"} 1\nm_bucket{le=\"+Inf\"} 2 # {trace_id=\"a\"} 3.0\nm_count 2\nm_sum 4.0\n# EOF\n";
+
+fn whole(n: i8) -> Fixed {
+    Fixed::from_millionths(i64::from(n) * 1_000_000)
+}
+
+// An exemplar of 3, whose labels are made again if they find no memory.
+fn traced(alloc: Global, patience: &mut Patience) -> Result<LabeledExemplar<ExemplarLabels>, Fail> {
+    let labels = match ExemplarLabels::new(alloc, &[("trace_id", "a")]) {
+        Ok(labels) => labels,
+        Err(error) => {
+            if error != EncodeError::Memory {
+                return Err(Fail::new("another refusal"));
+            }
+            patience.bear()?;
+            ExemplarLabels::new(alloc, &[("trace_id", "a")])?
+        }
+    };
+    Ok(LabeledExemplar {
+        labels,
+        value: whole(3),
+        timestamp: None,
+    })
+}
+
+// Two clones of a counter that counted 3 with an exemplar.
+fn counted<H: Wait + Copy + Drop>(
+    wait: H,
+    alloc: Global,
+    patience: &mut Patience,
+) -> Result<(Box<ExemplarCounter<H>>, Box<ExemplarCounter<H>>), Fail> {
+    let counter = patiently!(
+        *patience,
+        <ExemplarCounter<H> as TryDefault<H>>::try_default(wait, alloc)
+    );
+    counter.inc_by_with(3, traced(alloc, patience)?)?;
+    let first = patiently!(*patience, boxed(alloc, &counter));
+    let second = patiently!(*patience, boxed(alloc, &counter));
+    Ok((first, second))
+}
+
+// Two clones of a histogram that observed 1, and 3 with an exemplar.
+fn observed<H: Wait + Copy + Drop>(
+    wait: H,
+    alloc: Global,
+    patience: &mut Patience,
+) -> Result<(Box<ExemplarHistogram<H>>, Box<ExemplarHistogram<H>>), Fail> {
+    let bounds = [whole(1), whole(2)];
+    let histogram = patiently!(
+        *patience,
+        ExemplarHistogram::new(wait, alloc, bounds.iter().copied())
+    );
+    histogram.observe(whole(1))?;
+    histogram.observe_with(traced(alloc, patience)?)?;
+    let first = patiently!(*patience, boxed(alloc, &histogram));
+    let second = patiently!(*patience, boxed(alloc, &histogram));
+    Ok((first, second))
+}
+
+#[test]
+fn counted_without_refusals(rt: HostRuntime) -> Result<(), Fail> {
+    let mut patience = Patience::new(0);
+    let (metric, spare) = counted(rt, rt.alloc(), &mut patience)?;
+    expect_document(rt.alloc(), &mut patience, metric, spare, COUNTED)
+}
+
+#[test]
+fn counted_after_a_refusal(rt: HostRuntime) -> Result<(), Fail> {
+    let mut patience = Patience::new(1);
+    let (metric, spare) = counted(rt, rt.alloc(), &mut patience)?;
+    expect_document(rt.alloc(), &mut patience, metric, spare, COUNTED)
+}
+
+#[test]
+fn observed_without_refusals(rt: HostRuntime) -> Result<(), Fail> {
+    let mut patience = Patience::new(0);
+    let (metric, spare) = observed(rt, rt.alloc(), &mut patience)?;
+    expect_document(rt.alloc(), &mut patience, metric, spare, OBSERVED)
+}
+
+#[test]
+fn observed_after_a_refusal(rt: HostRuntime) -> Result<(), Fail> {
+    let mut patience = Patience::new(1);
+    let (metric, spare) = observed(rt, rt.alloc(), &mut patience)?;
+    expect_document(rt.alloc(), &mut patience, metric, spare, OBSERVED)
+}
