@@ -1,11 +1,11 @@
 #!/usr/bin/env python3
-"""Fails where a page names a file, a crate or another page that isn't there.
+"""Fails where a page names a file, a crate, a call or another page that isn't there.
 
     scripts/named.py
 
 The pages are README.md, CONTRIBUTING.md and docs/*.md. Looked at are the words of what stands in backticks: a path, which has a `/` and an
 ending, or begins with a folder of the repository or with a crate's name; and a crate, `fm_..`. A path may begin at the top, in crates/ or in
-some crate, and a file of definitions may be without its ending. Left out are words with a placeholder (`NAME`), and what is made (`out/`). And
+some crate, and a file of definitions may be without its ending. A call is a word before a parenthesis, which some crate has to declare. Left out are words with a placeholder (`NAME`), and what is made (`out/`). And
 links, `[..](..)`, and each `docs/NAME.md`, also outside of backticks. Prints a line for each name that isn't there; the status is 0 if none is.
 """
 import re
@@ -19,7 +19,19 @@ BLOCK = re.compile(r"^```.*?^```$", re.M | re.S)
 TICKED = re.compile(r"(?<!`)(`+)(?!`)(.+?)(?<!`)\1(?!`)", re.S)
 LINK = re.compile(r"\[[^\]]*\]\(([^)\s]+)\)")
 PAGE = re.compile(r"\bdocs/\w+\.md\b")
+CALL = re.compile(r"\b(\w+)(?=\()")
+DECLARED = re.compile(r"\b(?:const fn|fn|struct|enum|trait|const|type) (\w+)|^    (\w+)(?:\(|,| =| \{)", re.M)
+# Calls of std, of the language and of the tool.
+FOREIGN = {"Fn", "error", "fn", "join_promised", "spawn_with", "tactic", "using", "_with_unit"}
 PLACEHOLDER = re.compile(r"\b(NAME|CRATE|FOLDER|FILE|MODULE|PID|NN)\b|\*$|\.\.$")
+
+
+def declared():
+    """What the crates' sources declare, with the variants of enums."""
+    found = set(FOREIGN)
+    for path in TOP.glob("crates/*/src/**/*.rt"):
+        found |= {first or second for first, second in DECLARED.findall(path.read_text())}
+    return found
 
 
 def is_path(word):
@@ -34,7 +46,7 @@ def is_there(path):
     return any(any(TOP.glob(place + ending)) for place in places for ending in ("", ".antt", ".rt"))
 
 
-def missing_in(page):
+def missing_in(page, calls):
     """What a page names and isn't there."""
     text = page.read_text()
     for name in PAGE.findall(text):
@@ -45,6 +57,7 @@ def missing_in(page):
         if not re.match(r"https?:|#", target) and not (page.parent / target.partition("#")[0]).is_file():
             yield target
     for _, ticked in TICKED.findall(prose):
+        yield from (f"{call}()" for call in CALL.findall(ticked) if call not in calls)
         for word in (it.strip("(),;:'\"").rstrip(".") for it in ticked.split()):
             if PLACEHOLDER.search(word) or word.startswith(("/", "out/", "..", "http")):
                 continue
@@ -57,7 +70,8 @@ def missing_in(page):
 
 def main():
     pages = [TOP / "README.md", TOP / "CONTRIBUTING.md", *sorted((TOP / "docs").glob("*.md"))]
-    wrong = [f"{page.relative_to(TOP)}: there is no {name}" for page in pages for name in dict.fromkeys(missing_in(page))]
+    calls = declared()
+    wrong = [f"{page.relative_to(TOP)}: there is no {name}" for page in pages for name in dict.fromkeys(missing_in(page, calls))]
     print("\n".join(wrong), end="\n" if wrong else "", file=sys.stderr)
     return 1 if wrong else 0
 

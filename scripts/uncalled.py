@@ -1,25 +1,31 @@
 #!/usr/bin/env python3
-"""Prints each public call of the library that no test and no program makes, and fails if there is one.
+"""Prints each public call of the library that no test and no program makes, or that docs/CALLS.md doesn't name, and fails if there is one.
 
     scripts/uncalled.py
 
-A public call is a function that `fastmetrics/src/lib.rt` names, or a `pub fn` of a type or a function of a trait that it names. It is made
+A public call is a function that `fastmetrics` has, or a `pub fn` of a type or a function of a trait that it has (scripts/names_by_crate.py). It is made
 where its name stands before a parenthesis, or at the end of a path, in a crate that is no library. That a name which two types have is called
-of both isn't seen.
+of both isn't seen. The page names calls for each unit and each whole number together.
 """
 import re
 import sys
 from pathlib import Path
+
+from names_by_crate import exported
 
 TOP = Path(__file__).resolve().parent.parent
 CALLED = re.compile(r"\b(\w+)(?:::<[^()]*?>)?\s*\(|::(\w+)\b")
 # Made by the library itself, so that tests see what they do by what calls them: by `collect`, `encode` and families, by roots, by `find_bucket` and
 # `observe_all`, and by the label values of each type.
 INSIDE = """
-    listing encode_members new_metric build_root run_call into_name pass reaches skip_encoding
+    listing encode_members new_metric build_root run_call into_name pass reaches skip_encoding variants are_taken
     encode_bool_value encode_fixed_value encode_i8_value encode_i16_value encode_i32_value encode_i64_value encode_i128_value encode_isize_value
     encode_u8_value encode_u16_value encode_u32_value encode_u64_value encode_u128_value encode_usize_value
 """.split()
+
+
+# Calls that docs/CALLS.md names by one of them.
+TOGETHER = re.compile(r"\w+_with_unit|encode_[iu]\w+_value")
 
 
 def without_comments(text):
@@ -37,7 +43,7 @@ def libraries():
 
 def public_calls():
     """Each public call, with its file."""
-    named = set(re.findall(r"\w+", without_comments((TOP / "crates/fastmetrics/src/lib.rt").read_text())))
+    named = exported()
     for name in libraries():
         for path in sorted((TOP / "crates" / name).glob("src/**/*.rt")):
             text = without_comments(path.read_text())
@@ -70,7 +76,11 @@ def main():
     missing = sorted({(name, str(path.relative_to(TOP))) for name, path in public_calls() if name not in made})
     for name, path in missing:
         print(f"no test and no program calls {name}: {path}")
-    sys.exit(1 if missing else 0)
+    page = set(re.findall(r"\w+", (TOP / "docs/CALLS.md").read_text()))
+    unnamed = sorted({(name, str(path.relative_to(TOP))) for name, path in public_calls() if name not in page and not TOGETHER.fullmatch(name)})
+    for name, path in unnamed:
+        print(f"docs/CALLS.md doesn't name {name}: {path}")
+    sys.exit(1 if missing or unnamed else 0)
 
 
 if __name__ == "__main__":

@@ -350,18 +350,22 @@ fn types_by_their_words(rt: HostRuntime) {
     assert!(rt; MetricType::all().len() == 8 && MetricType::from_word("untyped").is_none());
 }
 
+// What a sample's name ends with, by its kind, and whether it may have an exemplar.
+const KINDS: [(SampleKind, &str, bool); 9] = [
+    (SampleKind::Plain, "", false),
+    (SampleKind::Total, "_total", true),
+    (SampleKind::Created, "_created", false),
+    (SampleKind::Bucket, "_bucket", true),
+    (SampleKind::Count, "_count", false),
+    (SampleKind::Sum, "_sum", false),
+    (SampleKind::GCount, "_gcount", false),
+    (SampleKind::GSum, "_gsum", false),
+    (SampleKind::Info, "_info", false),
+];
+
 #[test]
-fn kinds_with_exemplars(rt: HostRuntime) {
-    assert!(rt; SampleKind::Total.takes_exemplar() && SampleKind::Bucket.takes_exemplar());
-    for kind in [
-        SampleKind::Plain,
-        SampleKind::Created,
-        SampleKind::Count,
-        SampleKind::Sum,
-        SampleKind::GCount,
-        SampleKind::GSum,
-        SampleKind::Info,
-    ] {
-        assert!(rt; !kind.takes_exemplar());
+fn kinds_of_samples(rt: HostRuntime) {
+    for (kind, suffix, takes_exemplar) in KINDS {
+        assert!(rt; kind.suffix() == suffix && kind.takes_exemplar() == takes_exemplar);
     }
 }
