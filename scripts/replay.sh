@@ -1,24 +1,40 @@
 #!/usr/bin/env bash
-# Runs the program of bench/replay on each script of bench/replay/scripts, and compares what it prints with the answer beside it, which is the
-# Rust crate's own. Prints a line for each script that differs; its last line is 'N agree, M differ', and its status is 0 if M is 0.
+# Runs the program of bench/replay on scripts, and compares what it prints with the answer beside each: the Rust crate's own in
+# bench/replay/scripts, and what the formats say in bench/replay/scripts/ours. Prints a line for each script that differs; its last line is
+# 'N agree, M differ'. The status is 0 if M is 0, and 2 if the program was not built or a script has a mistake.
 #
-#   scripts/replay.sh [FOLDER]       the scripts of another folder, in place of those of bench/replay/scripts
+#   scripts/replay.sh [--crates FOLDER] [--scripts FOLDER] [NAME..]        all scripts, or these
 #
-# The program is compiled with run-time checks by `rt try`, in a scratch copy of the crates, and not proved.
+# With --crates the program is built on the crates of another copy of the repository; with --scripts the scripts are those of another folder. The
+# program is compiled once, with run-time checks by `rt try`, in a scratch copy of the crates, and not proved.
 set -u
 
 top=$(cd "$(dirname "$0")/.." && pwd) || exit 2
-scripts=$(cd "${1:-$top/bench/replay/scripts}" && pwd) || exit 2
+crates=$top folders=("$top/bench/replay/scripts" "$top/bench/replay/scripts/ours")
+while [[ ${1:-} == --* ]]; do
+    case $1 in
+        --crates) crates=$(cd "$2" && pwd) || exit 2 ;;
+        --scripts) folders=("$2") ;;
+        *) sed -n '2,/^$/p' "$0" && exit 2 ;;
+    esac
+    shift 2
+done
 scratch=$(mktemp -d) || exit 2
 trap 'rm -rf "$scratch"' EXIT
 . "$top/scripts/scratch.sh"
-lay_out "$top" "$scratch/repository" without_proofs
-agree=0 differ=0
+lay_out "$crates" "$scratch/repository" without_proofs "$top/bench"
+agree=0 differ=0 mistakes=0
 
 mkdir "$scratch/cases"
-for script in "$scripts"/*.script; do
-    name=$(basename "$script" .script)
-    cp "$script" "$scratch/cases/$name" && cp "$scripts/$name.printed" "$scratch/cases/$name.stdout" || exit 2
+for folder in "${folders[@]}"; do
+    for script in "$folder"/*.script; do
+        name=$(basename "$script" .script)
+        [[ $# == 0 || " $* " == *" $name "* ]] || continue
+        cp "$script" "$scratch/cases/$name" && cp "$folder/$name.printed" "$scratch/cases/$name.stdout" || exit 2
+    done
+done
+for name in "$@"; do
+    [[ -f $scratch/cases/$name ]] || { echo "FAILED: there is no script $name" && exit 2; }
 done
 (cd "$scratch/repository/crates/replay" && rt try --cases "$scratch/cases") >"$scratch/said" 2>&1
 if ! grep -q '^case=' "$scratch/said"; then
@@ -28,12 +44,20 @@ if ! grep -q '^case=' "$scratch/said"; then
 fi
 for case in "$scratch"/cases/*.stdout; do
     name=$(basename "$case" .stdout)
-    if grep -qE "^case=$name run=ended status=0 .*output=expected" "$scratch/said"; then
+    said=$(grep -E "^case=$name " "$scratch/said" || echo "case=$name was not run: $(tail -n 1 "$scratch/said")")
+    if [[ $said == *" run=ended status=0 "*" output=expected"* ]]; then
         agree=$((agree + 1))
+    elif [[ $said == *" run=ended status=2 "* ]]; then
+        echo "MISTAKE: $said"
+        mistakes=$((mistakes + 1))
     else
-        echo "DIFFERS: $(grep -E "^case=$name " "$scratch/said" || echo "$name was not run: $(tail -n 1 "$scratch/said")")"
+        echo "DIFFERS: $said"
         differ=$((differ + 1))
     fi
 done
+if [[ $mistakes != 0 ]]; then
+    echo "FAILED: $mistakes scripts have mistakes"
+    exit 2
+fi
 echo "$agree agree, $differ differ"
 [[ $differ == 0 && $agree != 0 ]]

@@ -1,10 +1,10 @@
 # For the scripts beside it, which read it: lays the crates and those of bench/ in a scratch folder, so that the gate doesn't prove the latter
 # each time. What was proved is kept beside them, unless it is left out.
 #
-#   lay_out TOP FOLDER [without_proofs]
+#   lay_out TOP FOLDER [without_proofs [BENCH]]        BENCH is the folder bench/ of TOP, or another
 
 lay_out() {
-    local top=$1 folder=$2 proofs=${3:-} crate name file
+    local top=$1 folder=$2 proofs=${3:-} bench=${4:-$1/bench} crate name file
     mkdir -p "$folder/crates"
     cp "$top/HANDLES" "$folder/"
     # The crates, with the work that is kept beside them, and the bench's own, whose files get their true endings.
@@ -17,9 +17,9 @@ lay_out() {
             done
         [[ $proofs || -d $folder/crates/$name/out || ! -d $crate/out ]] || cp -a "$crate/out" "$folder/crates/$name/out"
     done
-    (cd "$top/bench" && find . -mindepth 2 -name "*.in") | while read -r file; do
-        cmp -s "$top/bench/$file" "$folder/crates/${file%.in}" || install -D -m 644 "$top/bench/$file" "$folder/crates/${file%.in}"
+    (cd "$bench" && find . -mindepth 2 -name "*.in") | while read -r file; do
+        cmp -s "$bench/$file" "$folder/crates/${file%.in}" || install -D -m 644 "$bench/$file" "$folder/crates/${file%.in}"
     done
-    grep -vE '^(fm_test|expose|first_use|global_use|worker_pool)' "$top/crates.txt" | cat - "$top/bench/crates.in" >"$folder/crates.txt"
+    grep -vE '^(fm_test|expose|first_use|global_use|worker_pool)' "$top/crates.txt" | cat - "$bench/crates.in" >"$folder/crates.txt"
     [[ -d $folder/.git ]] || git -C "$folder" init -q
 }
