@@ -1,9 +1,11 @@
 #!/usr/bin/env bash
-# Runs the tests of all crates with run-time checks, and proves nothing: the quick way to see whether a change breaks a test. It is not the gate.
+# Runs the tests of all crates with run-time checks, and the scripts of bench/replay, and proves nothing: the quick way to see whether a change breaks
+# a test. It is not the gate.
 #
-#   scripts/try_tests.sh [CRATE..]        those of all crates that have tests, or of these
+#   scripts/try_tests.sh [CRATE..]        those of all crates that have tests, and the scripts (scripts/replay.sh), or those of these crates alone
 #
-# Prints a line for each crate, and what was said where a test failed. Its last line is 'N crates passed, M failed'; the status is 0 if M is 0.
+# Prints a line for each crate, and what was said where a test failed. Its last line is 'N crates passed, M failed', and with the scripts '; scripts:
+# A agree, D differ' behind it; the status is 0 if M and D are 0.
 set -u
 cd "$(dirname "$0")/.." || exit 2
 said=$(mktemp -d) || exit 2
@@ -27,5 +29,11 @@ export said
 
 printf '%s\n' "${crates[@]}" | xargs -P "$(nproc)" -I{} bash -c 'one {}' | tee "$said/all"
 failed=$(grep -c ': FAILED$' "$said/all")
-echo "$((${#crates[@]} - failed)) crates passed, $failed failed"
-[[ $failed == 0 ]]
+scripts='' status=$((failed != 0))
+if [[ $# == 0 ]]; then
+    scripts/replay.sh | tee "$said/scripts"
+    [[ ${PIPESTATUS[0]} == 0 ]] || status=1
+    scripts="; scripts: $(tail -n 1 "$said/scripts")"
+fi
+echo "$((${#crates[@]} - failed)) crates passed, $failed failed$scripts"
+exit "$status"
