@@ -9,8 +9,10 @@ with run-time checks and run by `rt try --test`, which proves nothing: one of th
 planted together; if no test of one of them fails, each is tried alone, up to three times. With a line `tests: CRATE` a body is tried alone, and some
 test has to fail. A body with which a test never ends has a line `seconds: N`, after which a test has failed. A test `cases::NAME` of a program is a case
 of its cases.toml (scripts/cases.py), and `requests::N` that it asks for memory fewer than N times on the input beside it; `requests::N::TEST` says so of
-a test. Prints a line for each body, and then 'N refused, M not refused'; the status is 0 if M is 0.
+a test. With `tests: replay NAME..` scripts of bench/replay stand for tests, and one of them has to differ from its answer (scripts/replay.sh). Prints a
+line for each body, and then 'N refused, M not refused'; the status is 0 if M is 0.
 """
+import glob
 import os
 import re
 import shutil
@@ -21,7 +23,7 @@ from concurrent.futures import ThreadPoolExecutor
 
 import cases
 import kept
-from wrong_bodies import KIT, TOP, crates_of, listed
+from wrong_bodies import KIT, TOP, Crate, crates_of, listed
 
 # What one test may take beside other work, in seconds, and all with their compilation.
 MOST_RUN, MOST = "600", 3000
@@ -47,6 +49,11 @@ def tests_of(body):
 def are_cases(body):
     """Whether cases of a program have to refuse a body, and no tests."""
     return " cases::" in body.tests
+
+
+def are_scripts(body):
+    """Whether scripts of bench/replay have to refuse a body, and no tests."""
+    return tests_of(body)[0] == "replay"
 
 
 def request_of(body):
@@ -76,12 +83,22 @@ def batches(bodies):
     return found
 
 
+def differing(scripts, folder):
+    """The scripts of these that differ from their answers with the crates of this folder, or None if none does or none was run, and what was said."""
+    words = [f"{TOP}/scripts/replay.sh", "--crates", folder, *sorted(scripts)]
+    said = subprocess.run(words, stdin=subprocess.DEVNULL, stdout=subprocess.PIPE, stderr=subprocess.STDOUT, errors="replace").stdout
+    failed = re.findall(r"^DIFFERS: case=(\S+)", said, re.M)
+    return (failed if failed and re.search(r"^\d+ agree, \d+ differ$", said, re.M) else None), said
+
+
 def failing_with(bodies):
     """The tests that fail with these bodies, or None if none was run or fails, and what was said."""
     with tempfile.TemporaryDirectory(prefix="tested-bodies-") as folder:
         copied_to(folder)
         for body in bodies:
             body.stand_in(f"{folder}/crates/{body.crate.name}")
+        if are_scripts(bodies[0]):
+            return differing(set().union(*(tests_of(body)[1] for body in bodies)), folder)
         if are_cases(bodies[0]):
             failed, said = cases.failing(tests_of(bodies[0])[0], f"{folder}/crates")
             return ([f"cases::{it}" for it in failed] if failed else None), said
@@ -114,6 +131,8 @@ def tried_or_kept(bodies, crates):
     """The same, or what was refused before on this machine (scripts/kept.py)."""
     crate = crates[tests_of(bodies[0])[0]]
     scripts = [f"{TOP}/scripts/{name}.py" for name in ("tested_bodies", "wrong_bodies", "cases")]
+    if are_scripts(bodies[0]):
+        scripts += sorted(glob.glob(f"{TOP}/scripts/*.sh") + glob.glob(f"{TOP}/bench/replay/**/*.*", recursive=True))
     scripts += [f"{crate.folder}/cases.toml"] * are_cases(bodies[0]) + [f"{crate.folder}/stdin"] * request_of(bodies[0]).isdigit()
     key = kept.sum_of(KIT, scripts, [crate, *crate.below(crates)], bodies)
     found = kept.given(key)
@@ -127,6 +146,8 @@ def tried_or_kept(bodies, crates):
 
 def main():
     crates = crates_of()
+    # The program of bench/replay, which is no crate here.
+    crates["replay"] = Crate("replay", crates["fastmetrics"].libraries + ["fastmetrics"])
     bodies = [it for name, crate in crates.items() if not sys.argv[1:] or name in sys.argv[1:] for it in listed(crate, "tested_bodies")]
     with ThreadPoolExecutor(len(os.sched_getaffinity(0))) as pool:
         counts = {True: 0, False: 0}
