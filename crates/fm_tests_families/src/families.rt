@@ -1,19 +1,17 @@
-//! Families by their documents: members, labels that are left out, histograms, clones and threads.
+//! Families by their documents: members of each kind, and threads.
 use fastmetrics::encoder::{EncodeMetric, StaticStr};
 use fastmetrics::metrics::counter::{ConstCounter, Counter};
 use fastmetrics::metrics::family::{DefaultFactory, Family, PairFamily, with_pairs};
 use fastmetrics::metrics::gauge::{ConstGauge, Gauge};
-use fastmetrics::metrics::histogram::Histogram;
 use fastmetrics::metrics::info::Info;
-use fastmetrics::metrics::state_set::{ConstStateSet, StateSet};
+use fastmetrics::metrics::state_set::ConstStateSet;
 use fastmetrics::metrics::unknown::Unknown;
-use fastmetrics::raw::bucket::exponential_buckets;
-use fastmetrics::raw::{Fixed, MetricError, TryDefault};
+use fastmetrics::raw::{MetricError, TryDefault};
 use fastmetrics::registry::Registry;
 use fm_test_support::jobs::Job;
 use fm_test_support::replies::{Method, Outcome, Reply};
-use fm_test_support::support::{expect_document, expect_document_of};
-use fm_test_support::trees::{labels, register, register_with};
+use fm_test_support::support::expect_document_of;
+use fm_test_support::trees::register;
 use std::alloc::Global;
 use std::hash::{BuildHasherDefault, FoldHasher};
 use std::sync::Wait;
@@ -40,99 +38,6 @@ fn count<H: Wait + Clone + Drop>(
     replies.with_or_new(&reply, |count| count.inc())
 }
 
-#[test]
-fn no_members(rt: HostRuntime) -> Result<(), Fail> {
-    let alloc = rt.alloc();
-    let replies = Counters::<Reply, HostRuntime>::try_default(rt, alloc)?;
-    expect_document(alloc, "f", None, Box::new(alloc, replies)?, "# EOF\n")
-}
-
-// Counts three replies, the second through a clone.
-fn count_three<H: Wait + Clone + Drop>(replies: &Counters<Reply, H>) -> Result<(), MetricError> {
-    count(replies, reply(Method::Get, 200, None))?;
-    count(&replies.clone()?, reply(Method::Get, 404, Some(true)))?;
-    count(replies, reply(Method::Put, 200, None))?;
-    Ok(())
-}
-
-// Fails if this is not the document of a metric alone, with the help `Total HTTP requests`.
-fn expect_requests(alloc: Global, metric: Box<dyn EncodeMetric>, want: &str) -> Result<(), Fail> {
-    let mut registry = Registry::default();
-    let help = "Total HTTP requests";
-    register_with(alloc, &mut registry, "http_requests", help, None, metric)?;
-    expect_document_of(alloc, &registry, want)
-}
-
-#[test]
-fn three_members(rt: HostRuntime) -> Result<(), Fail> {
-    let replies = Counters::<Reply, HostRuntime>::try_default(rt, rt.alloc())?;
-    count_three(&replies)?;
-    expect_requests(
-        rt.alloc(),
-        Box::new(rt.alloc(), replies)?,
-        "# TYPE http_requests counter\n# HELP http_requests Total HTTP requests\n\
-         http_requests_total{method=\"GET\",status=\"200\"} 1\n\
-         http_requests_total{method=\"GET\",status=\"404\",error=\"true\"} 1\n\
-         http_requests_total{method=\"PUT\",status=\"200\"} 1\n# EOF\n",
-    )
-}
-
-#[test]
-fn members_that_counted_nothing(rt: HostRuntime) -> Result<(), Fail> {
-    let alloc = rt.alloc();
-    let outcomes = Counters::<Outcome, HostRuntime>::try_default(rt, alloc)?;
-    let outcome = Outcome { error: Some(false) };
-    assert!(rt; outcomes.with_or_new(&outcome, |count| count.total()) == Ok(0));
-    expect_document(
-        alloc,
-        "f",
-        None,
-        Box::new(alloc, outcomes)?,
-        "# TYPE f counter\n# HELP f H\nf_total{error=\"false\"} 0\n# EOF\n",
-    )
-}
-
-// Counters by outcome, of which one has counted once.
-fn counted_once<H: Wait + Clone + Drop>(
-    wait: H,
-    alloc: Global,
-    outcome: Outcome,
-) -> Result<Counters<Outcome, H>, MetricError> {
-    let outcomes = Counters::<Outcome, H>::try_default(wait, alloc)?;
-    outcomes.with_or_new(&outcome, |count| count.inc())?;
-    Ok(outcomes)
-}
-
-#[test]
-fn labels_that_are_left_out(rt: HostRuntime) -> Result<(), Fail> {
-    let outcomes = counted_once(rt, rt.alloc(), Outcome { error: None })?;
-    expect_document(
-        rt.alloc(),
-        "f",
-        None,
-        Box::new(rt.alloc(), outcomes)?,
-        "# TYPE f counter\n# HELP f H\nf_total 1\n# EOF\n",
-    )
-}
-
-// Fails if this is not the document of a metric alone, under the constant label `env`.
-fn expect_under_env(alloc: Global, metric: Box<dyn EncodeMetric>, want: &str) -> Result<(), Fail> {
-    let env = labels(alloc, &[("env", "prod")])?;
-    let mut registry = Registry::builder().with_const_labels(env)?.build()?;
-    register(alloc, &mut registry, "f", metric)?;
-    expect_document_of(alloc, &registry, want)
-}
-
-#[test]
-fn labels_left_out_after_constant_ones(rt: HostRuntime) -> Result<(), Fail> {
-    let outcomes = counted_once(rt, rt.alloc(), Outcome { error: None })?;
-    expect_under_env(
-        rt.alloc(),
-        Box::new(rt.alloc(), outcomes)?,
-        "# TYPE f counter\n# HELP f H\nf_total{env=\"prod\"} 1\n# EOF\n",
-    )
-}
-
 // Whether a reply has this total, or no member if there is none.
 fn has_total<H: Wait + Clone + Drop>(
     replies: &Counters<Reply, H>,
@@ -152,34 +57,6 @@ fn one_metric_a_label_set(rt: HostRuntime) -> Result<(), Fail> {
     assert!(rt; has_total(&replies, found, Some(2)) && has_total(&replies, lost, Some(1)));
     assert!(rt; has_total(&replies, reply(Method::Put, 404, None), None));
     Ok(())
-}
-
-#[test]
-fn histograms_by_labels(rt: HostRuntime) -> Result<(), Fail> {
-    let alloc = rt.alloc();
-    let factory = move || -> Result<Histogram<HostRuntime>, MetricError> {
-        match exponential_buckets(Fixed::from_millionths(5_000), 2, 10) {
-            Ok(bounds) => Histogram::new(rt, alloc, bounds),
-            Err(_) => Err(MetricError::CountFull),
-        }
-    };
-    let seconds = Family::<Outcome, Histogram<HostRuntime>, _, Hasher, HostRuntime>::new(
-        rt, alloc, factory,
-    )?;
-    let outcome = Outcome { error: None };
-    let tenth = Fixed::from_millionths(100_000);
-    seconds.with_or_new(&outcome, |seconds| seconds.observe(tenth))??;
-    expect_document(
-        alloc,
-        "h",
-        None,
-        Box::new(alloc, seconds)?,
-        "# TYPE h histogram\n# HELP h H\n\
-         h_bucket{le=\"0.005\"} 0\nh_bucket{le=\"0.01\"} 0\nh_bucket{le=\"0.02\"} 0\n\
-         h_bucket{le=\"0.04\"} 0\nh_bucket{le=\"0.08\"} 0\nh_bucket{le=\"0.16\"} 1\n\
-         h_bucket{le=\"0.32\"} 1\nh_bucket{le=\"0.64\"} 1\nh_bucket{le=\"1.28\"} 1\n\
-         h_bucket{le=\"2.56\"} 1\nh_bucket{le=\"+Inf\"} 1\nh_count 1\nh_sum 0.1\n# EOF\n",
-    )
 }
 
 // Counts a hundred replies of each of two kinds.
@@ -238,16 +115,6 @@ fn gauges_by_labels(rt: HostRuntime) -> Result<(), Fail> {
 }
 
 #[test]
-fn counters_by_labels(rt: HostRuntime) -> Result<(), Fail> {
-    let replies = counted_once(rt, rt.alloc(), FAILED)?;
-    expect_twice(
-        rt.alloc(),
-        Box::new(rt.alloc(), replies)?,
-        "# TYPE m counter\n# HELP m H\nm_total{error=\"true\"} 1\n# EOF\n",
-    )
-}
-
-#[test]
 fn names_that_other_types_reserve(rt: HostRuntime) -> Result<(), Fail> {
     let counters = PairFamily::<u8, Counter, HostRuntime, 1>::try_default(rt, rt.alloc())?;
     for name in ["le", "quantile"] {
@@ -257,22 +124,6 @@ fn names_that_other_types_reserve(rt: HostRuntime) -> Result<(), Fail> {
         rt.alloc(),
         Box::new(rt.alloc(), counters)?,
         "# TYPE m counter\n# HELP m H\nm_total{le=\"1\"} 1\nm_total{quantile=\"1\"} 1\n# EOF\n",
-    )
-}
-
-#[test]
-fn state_sets_by_labels(rt: HostRuntime) -> Result<(), Fail> {
-    let alloc = rt.alloc();
-    let jobs = Family::<Outcome, StateSet<Job>, _, Hasher, HostRuntime>::new(rt, alloc, move || {
-        StateSet::new(alloc, Job::Pending)
-    })?;
-    jobs.with_or_new(&FAILED, |job| job.set(Job::Completed))??;
-    expect_twice(
-        alloc,
-        Box::new(alloc, jobs)?,
-        "# TYPE m stateset\n# HELP m H\n\
-         m{error=\"true\",m=\"pending\"} 0\nm{error=\"true\",m=\"running\"} 0\n\
-         m{error=\"true\",m=\"completed\"} 1\nm{error=\"true\",m=\"failed\"} 0\n# EOF\n",
     )
 }
 

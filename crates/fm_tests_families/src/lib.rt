@@ -4,8 +4,6 @@
 #[cfg(test)]
 mod families;
 #[cfg(test)]
-mod histograms;
-#[cfg(test)]
 mod keys;
 #[cfg(test)]
 mod leaving;

@@ -6,16 +6,15 @@ ghost use Rattle.fm_registry.specs.HasHistory.{HasHistory};
 use crate::own_buckets::OwnBuckets;
 use fastmetrics::encoder::{EncodeMetric, EncodePoint, PointEncoder};
 use fastmetrics::format::text::{EncodeError, encode};
-use fastmetrics::metrics::gauge::ConstGauge;
 use fastmetrics::metrics::histogram::{Histogram, HistogramSnapshot};
 use fastmetrics::raw::bucket::{Bound, Bucket, linear_buckets};
 use fastmetrics::raw::{Fixed, FixedSum, MetricError, MetricType};
 use fastmetrics::registry::Registry;
 use fm_test_support::histograms::whole;
 use fm_test_support::members::OneMember;
-use fm_test_support::parts::{Faulty, Word};
+use fm_test_support::parts::Faulty;
 use fm_test_support::support::{expect_document, expect_refusal};
-use fm_test_support::trees::{build_below, labels, register, register_below};
+use fm_test_support::trees::{labels, register};
 use std::alloc::{AllocError, Global};
 use std::test::Fail;
 use std::time::Duration;
@@ -61,32 +60,6 @@ fn merges_of_other_bounds(rt: HostRuntime) -> Result<(), Fail> {
     assert!(rt; has_three_values(&twos, &[finite(1, 1), finite(2, 1), infinite(1)]));
     assert!(rt; has_three_values(&threes, &[finite(1, 1), finite(3, 2), infinite(0)]));
     Ok(())
-}
-
-#[test]
-fn negative_bounds_and_values(rt: HostRuntime) -> Result<(), Fail> {
-    let alloc = rt.alloc();
-    let bounds = [
-        Fixed::from_millionths(-273_150_000),
-        whole(-200),
-        whole(-100),
-        whole(0),
-        whole(100),
-        whole(200),
-    ];
-    let histogram = Histogram::new(rt, alloc, bounds.iter().copied())?;
-    for value in [-250, 0, 100, 1000] {
-        histogram.observe(whole(value))?;
-    }
-    expect_document(
-        alloc,
-        "t",
-        None,
-        Box::new(alloc, histogram)?,
-        "# TYPE t histogram\n# HELP t H\n\
-        t_bucket{le=\"0.0\"} 1\nt_bucket{le=\"100.0\"} 2\nt_bucket{le=\"200.0\"} 2\nt_bucket{le=\"+Inf\"} 3\n\
-        t_count 3\nt_sum 1100.0\n# EOF\n",
-    )
 }
 
 // Whether of 256 buckets the first has the bound 1 and counts two values, and each of the others one.
@@ -136,34 +109,6 @@ fn constant_label_of_bounds(rt: HostRuntime) -> Result<(), Fail> {
     expect_reserved_le(rt.alloc(), Box::new(rt.alloc(), histogram)?)?;
     let snapshot = HistogramSnapshot::new(rt.alloc(), bounds.iter().copied())?;
     expect_reserved_le(rt.alloc(), Box::new(rt.alloc(), snapshot)?)
-}
-
-// Fails where a document is not refused for a reserved label that has two subsystems: `a` under the constant label `le`, with this metric,
-// and `b` without labels, with the other one. A refusal writes nothing.
-fn expect_reserved_after_le(
-    alloc: Global,
-    labelled: Box<dyn EncodeMetric>,
-    refused: Box<dyn EncodeMetric>,
-) -> Result<(), Fail> {
-    let mut registry = Registry::default();
-    build_below(alloc, &mut registry, "a", &[("le", "5.0")])?;
-    register_below(alloc, &mut registry, "a", "t", labelled)?;
-    register_below(alloc, &mut registry, "b", "t", refused)?;
-    expect_reserved(alloc, &registry)
-}
-
-#[test]
-fn label_of_bounds_after_a_constant_one(rt: HostRuntime) -> Result<(), Fail> {
-    let alloc = rt.alloc();
-    let member = OneMember {
-        metric_type: MetricType::Histogram,
-        time: None,
-        labels: [(Word("le"), 1)],
-        point: HistogramSnapshot::new(alloc, [whole(1)].iter().copied())?,
-    };
-    let member = Box::new(alloc, member)?;
-    let gauge = Box::new(alloc, ConstGauge::new(5i64))?;
-    expect_reserved_after_le(alloc, gauge, member)
 }
 
 // Buckets of the bounds 0.5 and `Inf` that count these numbers of values, with a slot each, under the label `room`.
@@ -277,22 +222,4 @@ fn expect_refused_slot(alloc: Global, counts: [u64; 2], want: EncodeError) -> Re
 fn sums_before_exemplars(rt: HostRuntime) -> Result<(), Fail> {
     expect_refused_slot(rt.alloc(), MOST, EncodeError::BucketOverflow)?;
     expect_refused_slot(rt.alloc(), [1, 2], EncodeError::MetricFault)
-}
-
-#[test]
-fn a_time_of_creation(rt: HostRuntime) -> Result<(), Fail> {
-    let alloc = rt.alloc();
-    let since = Duration::from_millis(1005);
-    let sizes = Histogram::with_created(rt, alloc, [whole(1)].iter().copied(), since)?;
-    for value in [1, 3] {
-        sizes.observe(whole(value))?;
-    }
-    expect_document(
-        alloc,
-        "t",
-        None,
-        Box::new(alloc, sizes)?,
-        "# TYPE t histogram\n# HELP t H\nt_bucket{le=\"1.0\"} 1\nt_bucket{le=\"+Inf\"} 2\nt_count 2\nt_sum 4.0\n\
-        t_created 1.005\n# EOF\n",
-    )
 }

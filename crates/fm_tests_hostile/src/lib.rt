@@ -1,5 +1,5 @@
-//! Tests of hostile use: label values, helps and states of any text, metrics that lie, full counts, and the same beneath a
-//! subsystem with constant labels.
+//! Tests of hostile use: metrics that lie, full counts, the most states, and the same beneath a subsystem with constant labels. Hostile texts
+//! are scripts of bench/replay.
 #![tactic(auto)]
 
 #[cfg(test)]
@@ -7,14 +7,10 @@ mod beneath;
 #[cfg(test)]
 mod counts;
 #[cfg(test)]
-mod labels;
-#[cfg(test)]
 mod liars;
 #[cfg(test)]
 mod limits;
 #[cfg(test)]
 mod overflows;
-#[cfg(test)]
-mod points;
 #[cfg(test)]
 mod texts;

@@ -1,16 +1,13 @@
-//! Buckets of a user's own that don't fit, beneath a subsystem, and as the last lines of a document.
+//! Buckets of a user's own that don't fit, beneath a subsystem.
 ghost use Rattle.std.specs.Prelude.{[], ◌∷◌, ◌≡◌, None, pos};
 ghost use Rattle.fastmetrics.specs.Points.{HistogramPoint};
 
-use crate::beneath::{expect_refusal_beneath, expect_refused};
-use fastmetrics::encoder::{EncodeError, EncodeMetric, EncodePoint, PointEncoder};
-use fastmetrics::metrics::counter::ConstCounter;
+use crate::beneath::expect_refusal_beneath;
+use fastmetrics::encoder::{EncodeError, EncodePoint, PointEncoder};
 use fastmetrics::metrics::gauge::ConstGauge;
 use fastmetrics::raw::bucket::{Bound, Bucket};
 use fastmetrics::raw::{Fixed, FixedSum, MetricType};
-use fastmetrics::registry::{Registry, RegistryCall};
 use fm_test_support::members::OneMember;
-use fm_test_support::trees::{have_numbers, metric_at, subsystem_at};
 use std::alloc::{AllocError, Global};
 use std::test::Fail;
 
@@ -80,24 +77,4 @@ fn misfits(rt: HostRuntime) -> Result<(), Fail> {
     let point = ConstGauge::new(5i64);
     let gauge_point = Box::new(alloc, member(MetricType::Counter, point))?;
     expect_refusal_beneath(alloc, gauge_point, EncodeError::KindMismatch)
-}
-
-// A valid family, and then one whose last bucket overflows.
-fn calls(alloc: Global) -> Result<Vec<RegistryCall>, AllocError> {
-    let valid: Box<dyn EncodeMetric> = Box::new(alloc, ConstCounter::new(1u64))?;
-    let overflow: Box<dyn EncodeMetric> = overflowing(alloc)?;
-    let mut calls = Vec::new(alloc);
-    calls.push(metric_at(alloc, &[], "first", valid)?)?;
-    calls.push(subsystem_at(alloc, &[], "sub", &[("k", "v")])?)?;
-    calls.push(metric_at(alloc, &["sub"], "last", overflow)?)?;
-    Ok(calls)
-}
-
-#[test]
-fn overflow_in_the_last_family(rt: HostRuntime) -> Result<(), Fail> {
-    let alloc = rt.alloc();
-    let mut registry = Registry::default();
-    let answers = registry.run(alloc, calls(alloc)?)?;
-    assert!(rt; have_numbers(&answers, &[0, 0, 0]));
-    expect_refused(alloc, &registry, EncodeError::BucketOverflow)
 }

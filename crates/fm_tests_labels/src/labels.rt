@@ -1,4 +1,4 @@
-//! Labels of members: containers, wrappers, values of all types, skipped ones and hostile ones.
+//! Labels of members: containers, wrappers, values of all types, and labels that write nothing.
 
 use fastmetrics::encoder::{EncodeMetric, MetricEncoder};
 use fastmetrics::format::text::{EncodeError, encode};
@@ -8,7 +8,7 @@ use fastmetrics::metrics::histogram::HistogramSnapshot;
 use fastmetrics::raw::{Fixed, MetricType};
 use fastmetrics::registry::Registry;
 use fm_test_support::members::OneMember;
-use fm_test_support::parts::{HalfAndTrue, Perhaps, TwoNames, Unvisited, Visited, Word};
+use fm_test_support::parts::{HalfAndTrue, Perhaps, TwoNames, Unvisited, Visited};
 use fm_test_support::support::{expect_document, expect_document_of, expect_lines, expect_refusal};
 use fm_test_support::trees::{labels, register};
 use std::alloc::{AllocError, Global};
@@ -130,79 +130,6 @@ fn millionths_and_truth_values(rt: HostRuntime) -> Result<(), Fail> {
     let alloc = rt.alloc();
     let metric = Box::new(alloc, OneMember::gauge(HalfAndTrue, ConstGauge::new(5i64)))?;
     expect_lines(alloc, metric, "t{x=\"0.5\",y=\"true\"} 5\n# EOF\n")
-}
-
-#[test]
-fn skipped_labels(rt: HostRuntime) -> Result<(), Fail> {
-    let alloc = rt.alloc();
-    for (first, second, third, want) in [
-        (None, Some(2), Some(3), "t{b=\"2\",c=\"3\"} 5\n# EOF\n"),
-        (Some(1), None, Some(3), "t{a=\"1\",c=\"3\"} 5\n# EOF\n"),
-        (Some(1), Some(2), None, "t{a=\"1\",b=\"2\"} 5\n# EOF\n"),
-        (None, None, Some(3), "t{c=\"3\"} 5\n# EOF\n"),
-        (None, None, None, "t 5\n# EOF\n"),
-    ] {
-        let labels = [(Word("a"), first), (Word("b"), second), (Word("c"), third)];
-        let metric = Box::new(alloc, OneMember::gauge(labels, ConstGauge::new(5i64)))?;
-        expect_lines(alloc, metric, want)?;
-    }
-    Ok(())
-}
-
-#[test]
-fn skipped_labels_in_another_option(rt: HostRuntime) -> Result<(), Fail> {
-    let alloc = rt.alloc();
-    let nested: [(Word, Option<Option<i32>>); 1] = [(Word("k"), Some(None))];
-    let metric = Box::new(alloc, OneMember::gauge(nested, ConstGauge::new(5i64)))?;
-    expect_lines(alloc, metric, "t 5\n# EOF\n")
-}
-
-// Fails where this is not the line of a gauge with this value of its label.
-fn expect_value(alloc: Global, value: &str, want: &str) -> Result<(), Fail> {
-    let labels = vec![in alloc; (Word("v"), String::from_str(alloc, value)?)]?;
-    let metric = Box::new(alloc, OneMember::gauge(labels, ConstGauge::new(5i64)))?;
-    expect_lines(alloc, metric, want)
-}
-
-#[test]
-fn hostile_values(rt: HostRuntime) -> Result<(), Fail> {
-    for (value, want) in [
-        ("\"", "t{v=\"\\\"\"} 5\n# EOF\n"),
-        ("\\", "t{v=\"\\\\\"} 5\n# EOF\n"),
-        ("\n", "t{v=\"\\n\"} 5\n# EOF\n"),
-        ("\\n", "t{v=\"\\\\n\"} 5\n# EOF\n"),
-        ("a\"b\\c\nd", "t{v=\"a\\\"b\\\\c\\nd\"} 5\n# EOF\n"),
-        ("}", "t{v=\"}\"} 5\n# EOF\n"),
-        (",", "t{v=\",\"} 5\n# EOF\n"),
-        ("=\"", "t{v=\"=\\\"\"} 5\n# EOF\n"),
-        (" # {", "t{v=\" # {\"} 5\n# EOF\n"),
-        ("x\n# EOF\n", "t{v=\"x\\n# EOF\\n\"} 5\n# EOF\n"),
-        ("\0", "t{v=\"\0\"} 5\n# EOF\n"),
-        ("\u{2028}", "t{v=\"\u{2028}\"} 5\n# EOF\n"),
-        ("\r\t", "t{v=\"\r\t\"} 5\n# EOF\n"),
-        ("", "t{v=\"\"} 5\n# EOF\n"),
-    ] {
-        expect_value(rt.alloc(), value, want)?;
-    }
-    Ok(())
-}
-
-#[test]
-fn names_of_labels(rt: HostRuntime) -> Result<(), Fail> {
-    let alloc = rt.alloc();
-    let labels = [
-        (Word("le"), 1),
-        (Word("quantile"), 2),
-        (Word("_"), 3),
-        (Word("__A9"), 4),
-        (Word("t"), 5),
-    ];
-    let metric = Box::new(alloc, OneMember::gauge(labels, ConstGauge::new(5i64)))?;
-    expect_lines(
-        alloc,
-        metric,
-        "t{le=\"1\",quantile=\"2\",_=\"3\",__A9=\"4\",t=\"5\"} 5\n# EOF\n",
-    )
 }
 
 // Three labels, of which these are written.
@@ -332,38 +259,6 @@ fn expect_refused_under_le(
         Err(error) if error == want && bytes.is_empty() => Ok(()),
         _ => Err(Fail::new("it was not refused so, or wrote something")),
     }
-}
-
-#[test]
-fn duplicate_under_a_constant_label(rt: HostRuntime) -> Result<(), Fail> {
-    let alloc = rt.alloc();
-    let labels = [(Word("le"), 2)];
-    let metric = Box::new(alloc, OneMember::gauge(labels, ConstGauge::new(5i64)))?;
-    expect_refused_under_le(alloc, metric, EncodeError::DuplicateLabel)
-}
-
-#[test]
-fn reserved_before_duplicate(rt: HostRuntime) -> Result<(), Fail> {
-    let alloc = rt.alloc();
-    let metric = OneMember {
-        metric_type: MetricType::Histogram,
-        time: None,
-        labels: [(Word("le"), 2)],
-        point: HistogramSnapshot::new(alloc, [Fixed::ONE].iter().copied())?,
-    };
-    expect_refused_under_le(alloc, Box::new(alloc, metric)?, EncodeError::ReservedLabel)
-}
-
-#[test]
-fn a_constant_label_before_a_member_label(rt: HostRuntime) -> Result<(), Fail> {
-    let alloc = rt.alloc();
-    let metric = OneMember {
-        metric_type: MetricType::Histogram,
-        time: None,
-        labels: [(Word("1a"), 2)],
-        point: HistogramSnapshot::new(alloc, [Fixed::ONE].iter().copied())?,
-    };
-    expect_refused_under_le(alloc, Box::new(alloc, metric)?, EncodeError::ReservedLabel)
 }
 
 #[test]

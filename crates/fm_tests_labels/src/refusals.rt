@@ -16,35 +16,6 @@ use fm_test_support::support::{expect_document, expect_refusal};
 use std::alloc::{AllocError, Global};
 use std::test::Fail;
 
-#[test]
-fn names_that_do_not_fit(rt: HostRuntime) -> Result<(), Fail> {
-    let alloc = rt.alloc();
-    for (first, second, error) in [
-        ("a", "a", EncodeError::DuplicateLabel),
-        ("1a", "b", EncodeError::InvalidLabelName),
-        ("a", "é", EncodeError::InvalidLabelName),
-        ("a", "", EncodeError::InvalidLabelName),
-        ("1a", "1a", EncodeError::InvalidLabelName),
-        ("a-b", "a-b", EncodeError::InvalidLabelName),
-    ] {
-        let labels = [(Word(first), 1), (Word(second), 2)];
-        let metric = Box::new(alloc, OneMember::gauge(labels, ConstGauge::new(5i64)))?;
-        expect_refusal(alloc, metric, error)?;
-    }
-    Ok(())
-}
-
-#[test]
-fn names_twice_before_names_that_do_not_fit(rt: HostRuntime) -> Result<(), Fail> {
-    let twice_first = [(Word("a"), 1), (Word("a"), 2), (Word("1a"), 3)];
-    let metric = OneMember::gauge(twice_first, ConstGauge::new(5i64));
-    expect_refusal(
-        rt.alloc(),
-        Box::new(rt.alloc(), metric)?,
-        EncodeError::DuplicateLabel,
-    )
-}
-
 // Labels whose parts come in another order, or are missing. Each has a name.
 #[derive(Clone, Copy)]
 enum Disorder {

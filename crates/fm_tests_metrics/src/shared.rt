@@ -1,15 +1,14 @@
 //! Counters and gauges that clones and threads share, by their values and by their documents, and the words that hold them.
 
 use fastmetrics::encoder::EncodeMetric;
-use fastmetrics::metrics::counter::{Counter, CounterValue};
+use fastmetrics::metrics::counter::Counter;
 use fastmetrics::metrics::gauge::Gauge;
-use fastmetrics::raw::{Atomic, Fixed, MetricError, Number, TryDefault};
-use fm_test_support::support::{document_alone, expect_document, expect_text};
+use fastmetrics::raw::{Atomic, Fixed, Number, TryDefault};
+use fm_test_support::support::{document_alone, expect_text};
 use std::alloc::Global;
 use std::sync::atomic::{AtomicI32, AtomicI64, AtomicIsize, AtomicU32, AtomicU64, AtomicUsize};
 use std::test::Fail;
 use std::thread;
-use std::time::Duration;
 
 #[test]
 fn counters_of_two_threads(rt: HostRuntime) -> Result<(), Fail> {
@@ -126,60 +125,6 @@ fn counters_that_wrap(rt: HostRuntime) -> Result<(), Fail> {
     hits.set(4294967295)?;
     assert!(rt; hits.inc() == 4294967295 && hits.total() == 0);
     expect_counter(alloc, Box::new(alloc, hits)?, "0")
-}
-
-// Whether a new counter takes a total, and then refuses a lesser one.
-fn only_rises<N: CounterValue>(counter: &Counter<N>, less: N, greater: N) -> bool {
-    counter.set(greater).is_ok()
-        && counter.set(less) == Err(MetricError::LessThanBefore)
-        && counter.total() == greater
-}
-
-#[test]
-fn refused_totals(rt: HostRuntime) -> Result<(), Fail> {
-    let alloc = rt.alloc();
-    let hits = Counter::<u64>::try_default(rt, alloc)?;
-    assert!(rt; only_rises(&hits, 10, 42));
-    expect_counter(alloc, Box::new(alloc, hits)?, "42")
-}
-
-#[test]
-fn refused_increments(rt: HostRuntime) -> Result<(), Fail> {
-    let alloc = rt.alloc();
-    let (less, more) = (Fixed::from_millionths(-1), Fixed::from_millionths(1500000));
-    let seconds = Counter::<Fixed>::try_default(rt, alloc)?;
-    seconds.inc_by(more)?;
-    assert!(rt; seconds.inc_by(less) == Err(MetricError::NegativeIncrement));
-    expect_counter(alloc, Box::new(alloc, seconds)?, "1.5")
-}
-
-#[test]
-fn totals_of_all_types_rise(rt: HostRuntime) -> Result<(), Fail> {
-    let alloc = rt.alloc();
-    assert!(rt; only_rises(&Counter::<u32>::try_default(rt, alloc)?, 10, 42));
-    assert!(rt; only_rises(&Counter::<usize>::try_default(rt, alloc)?, 10, 42));
-    let (less, greater) = (Fixed::from_millionths(10), Fixed::from_millionths(42));
-    assert!(rt; only_rises(&Counter::<Fixed>::try_default(rt, alloc)?, less, greater));
-    Ok(())
-}
-
-#[test]
-fn times_of_creation(rt: HostRuntime) -> Result<(), Fail> {
-    let alloc = rt.alloc();
-    for (created, want) in [
-        (
-            Duration::from_millis(1005),
-            "# TYPE c counter\n# HELP c H\nc_total 0\nc_created 1.005\n# EOF\n",
-        ),
-        (
-            Duration::MAX,
-            "# TYPE c counter\n# HELP c H\nc_total 0\nc_created 18446744073709551615.999\n# EOF\n",
-        ),
-    ] {
-        let metric = Box::new(alloc, Counter::<u64>::with_created(alloc, created)?)?;
-        expect_document(alloc, "c", None, metric, want)?;
-    }
-    Ok(())
 }
 
 // Whether a word keeps the greater of its value and another, and returns the value before.

@@ -1,16 +1,15 @@
 //! Gauge histograms: negative bounds and values, by a snapshot and under a lock.
 
 use crate::points::{TwoBuckets, TwoGaugeBuckets};
-use fastmetrics::encoder::{EncodeError, EncodeMetric, LabeledExemplar};
+use fastmetrics::encoder::{EncodeMetric, LabeledExemplar};
 use fastmetrics::metrics::gauge_histogram::{
     Bound, Bucket, GaugeHistogram, GaugeHistogramSnapshot,
 };
 use fastmetrics::raw::{Fixed, FixedSum, MetricError, MetricType, TryDefault, TypedMetric};
-use fastmetrics::registry::Registry;
 use fm_test_support::histograms::{expect_observed_gauge, have_counts, whole};
 use fm_test_support::members::OneMember;
-use fm_test_support::support::{expect_document, expect_document_of, expect_refusal};
-use fm_test_support::trees::{build_below, labels, register_below};
+use fm_test_support::support::expect_document;
+use fm_test_support::trees::labels;
 use std::sync::Wait;
 use std::test::Fail;
 use std::thread;
@@ -41,18 +40,6 @@ fn negative_values_in_a_snapshot(rt: HostRuntime) -> Result<(), Fail> {
     let sum = FixedSum::from_millionths(850_000_000);
     expect_observed_gauge(&all, &[0, 1, 0, 1, 1, 0, 1], 4, sum)?;
     expect_document(alloc, "t", None, Box::new(alloc, all)?, DOCUMENT)
-}
-
-#[test]
-fn negative_values_under_a_lock(rt: HostRuntime) -> Result<(), Fail> {
-    let alloc = rt.alloc();
-    let current = GaugeHistogram::new(rt, alloc, bounds().iter().copied())?;
-    for value in [-250, 0, 100, 1000] {
-        current.observe(whole(value))?;
-    }
-    let counted = current.with_snapshot(|all| have_counts(all.buckets(), &[0, 1, 0, 1, 1, 0, 1]));
-    assert!(rt; counted);
-    expect_document(alloc, "t", None, Box::new(alloc, current)?, DOCUMENT)
 }
 
 // Observes the whole numbers from -100 to -1 and from 1 to 100.
@@ -120,18 +107,6 @@ fn both_are_gauge_histograms(rt: HostRuntime) -> Result<(), Fail> {
 }
 
 #[test]
-fn label_of_bounds_is_reserved(rt: HostRuntime) -> Result<(), Fail> {
-    let alloc = rt.alloc();
-    let metric = OneMember {
-        metric_type: MetricType::GaugeHistogram,
-        time: None,
-        labels: labels(alloc, &[("le", "1")])?,
-        point: GaugeHistogramSnapshot::new(alloc, [].iter().copied())?,
-    };
-    expect_refusal(alloc, Box::new(alloc, metric)?, EncodeError::ReservedLabel)
-}
-
-#[test]
 fn exemplar_of_a_gauge_bucket(rt: HostRuntime) -> Result<(), Fail> {
     let alloc = rt.alloc();
     let exemplar = LabeledExemplar {
@@ -160,54 +135,5 @@ fn exemplar_of_a_gauge_bucket(rt: HostRuntime) -> Result<(), Fail> {
         Box::new(alloc, metric)?,
         "# TYPE t gaugehistogram\n# HELP t H\nt_bucket{le=\"-1.0\"} 3 # {trace_id=\"a\"} -3.0\n\
         t_bucket{le=\"+Inf\"} 5\nt_gcount 7\nt_gsum -12.5\n# EOF\n",
-    )
-}
-
-#[test]
-fn beneath_a_subsystem(rt: HostRuntime) -> Result<(), Fail> {
-    let alloc = rt.alloc();
-    let current = GaugeHistogram::new(rt, alloc, [whole(1), whole(-1)].iter().copied())?;
-    for value in [-3, 0, 2, 2] {
-        current.observe(whole(value))?;
-    }
-    let mut registry = Registry::default();
-    build_below(alloc, &mut registry, "sub", &[("k", "v")])?;
-    register_below(alloc, &mut registry, "sub", "t", Box::new(alloc, current)?)?;
-    expect_document_of(
-        alloc,
-        &registry,
-        "# TYPE sub_t gaugehistogram\n# HELP sub_t H\nsub_t_bucket{k=\"v\",le=\"-1.0\"} 1\n\
-        sub_t_bucket{k=\"v\",le=\"1.0\"} 2\nsub_t_bucket{k=\"v\",le=\"+Inf\"} 4\n\
-        sub_t_gcount{k=\"v\"} 4\nsub_t_gsum{k=\"v\"} 1.0\n# EOF\n",
-    )
-}
-
-#[test]
-fn both_ends_under_the_lock(rt: HostRuntime) -> Result<(), Fail> {
-    let current = GaugeHistogram::new(rt, rt.alloc(), [whole(1)].iter().copied())?;
-    for millionths in [-9223372036854775808, 9223372036854775807, 0] {
-        current.observe(Fixed::from_millionths(millionths))?;
-    }
-    assert!(rt; current.with_snapshot(|all| have_counts(all.buckets(), &[2, 1])));
-    let totals = current.with_snapshot(|all| (all.gcount(), all.gsum()));
-    assert!(rt; totals == (3, FixedSum::from_millionths(-1)));
-    Ok(())
-}
-
-#[test]
-fn a_hundred_values(rt: HostRuntime) -> Result<(), Fail> {
-    let alloc = rt.alloc();
-    let bounds = [whole(1), whole(2), whole(4), whole(8), whole(16)];
-    let current = GaugeHistogram::new(rt, alloc, bounds.iter().copied())?;
-    for n in 1..101 {
-        current.observe(whole(n))?;
-    }
-    expect_document(
-        alloc,
-        "t",
-        None,
-        Box::new(alloc, current)?,
-        "# TYPE t gaugehistogram\n# HELP t H\nt_bucket{le=\"1.0\"} 1\nt_bucket{le=\"2.0\"} 2\nt_bucket{le=\"4.0\"} 4\n\
-         t_bucket{le=\"8.0\"} 8\nt_bucket{le=\"16.0\"} 16\nt_bucket{le=\"+Inf\"} 100\nt_gcount 100\nt_gsum 5050.0\n# EOF\n",
     )
 }

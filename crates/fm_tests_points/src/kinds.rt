@@ -2,7 +2,6 @@
 
 use crate::points::FiveOf;
 use fastmetrics::encoder::EncodeError;
-use fastmetrics::metrics::gauge::ConstGauge;
 use fastmetrics::raw::MetricType;
 use fm_test_support::members::OneMember;
 use fm_test_support::support::{expect_document, expect_refusal};
@@ -42,23 +41,6 @@ fn each_kind_in_each_other_family(rt: HostRuntime) -> Result<(), Fail> {
                 let metric = Box::new(alloc, five_in(alloc, family, point))?;
                 expect_refusal(alloc, metric, EncodeError::KindMismatch)?;
             }
-        }
-    }
-    Ok(())
-}
-
-#[test]
-fn gauge_point_in_each_other_family(rt: HostRuntime) -> Result<(), Fail> {
-    let alloc = rt.alloc();
-    for metric_type in TYPES {
-        if metric_type != MetricType::Gauge {
-            let metric = OneMember {
-                metric_type,
-                time: None,
-                labels: (),
-                point: ConstGauge::new(5i64),
-            };
-            expect_refusal(alloc, Box::new(alloc, metric)?, EncodeError::KindMismatch)?;
         }
     }
     Ok(())

@@ -3,9 +3,7 @@
 use crate::points::{NameOnly, ValueOnly};
 use fastmetrics::encoder::EncodeError;
 use fastmetrics::metrics::info::Info;
-use fastmetrics::metrics::state_set::ConstStateSet;
 use fastmetrics::raw::MetricType;
-use fm_test_support::jobs::Job;
 use fm_test_support::members::OneMember;
 use fm_test_support::parts::{Unvisited, Word};
 use fm_test_support::support::{expect_document, expect_refusal};
@@ -60,22 +58,4 @@ fn labels_of_a_member_before_own_ones(rt: HostRuntime) -> Result<(), Fail> {
     expect_refusal(alloc, metric, EncodeError::DuplicateLabel)?;
     let metric = Box::new(alloc, info([(Word("1a"), 1)], [NameOnly]))?;
     expect_refusal(alloc, metric, EncodeError::InvalidLabelName)
-}
-
-#[test]
-fn labels_of_a_member_before_the_name_of_a_state_set(rt: HostRuntime) -> Result<(), Fail> {
-    let alloc = rt.alloc();
-    for (name, error) in [
-        ("1a", EncodeError::InvalidLabelName),
-        ("a", EncodeError::DuplicateLabel),
-    ] {
-        let metric = OneMember {
-            metric_type: MetricType::StateSet,
-            time: None,
-            labels: [(Word("t"), 1), (Word(name), 2)],
-            point: ConstStateSet::new(alloc, Job::Failed)?,
-        };
-        expect_refusal(alloc, Box::new(alloc, metric)?, error)?;
-    }
-    Ok(())
 }

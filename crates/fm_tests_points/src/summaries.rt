@@ -4,10 +4,9 @@ use crate::points::TwoQuantiles;
 use fastmetrics::encoder::EncodeError;
 use fastmetrics::metrics::summary::{QUANTILE_LABEL, Quantile};
 use fastmetrics::raw::{Fixed, FixedSum, MetricType};
-use fastmetrics::registry::Registry;
 use fm_test_support::members::OneMember;
-use fm_test_support::support::{document_of, expect_document, expect_refusal};
-use fm_test_support::trees::{build_below, labels, register_below};
+use fm_test_support::support::{expect_document, expect_refusal};
+use fm_test_support::trees::labels;
 use std::test::Fail;
 
 // The quantiles 0.5 with 2 and 0.99 with 7.25, of 20 values whose sum is 100.
@@ -37,19 +36,6 @@ fn summary<LS>(labels: LS) -> OneMember<LS, TwoQuantiles> {
 }
 
 #[test]
-fn quantiles_then_count_and_sum(rt: HostRuntime) -> Result<(), Fail> {
-    let alloc = rt.alloc();
-    expect_document(
-        alloc,
-        "s",
-        None,
-        Box::new(alloc, summary(()))?,
-        "# TYPE s summary\n# HELP s H\ns{quantile=\"0.5\"} 2.0\ns{quantile=\"0.99\"} 7.25\n\
-        s_count 20\ns_sum 100.0\n# EOF\n",
-    )
-}
-
-#[test]
 fn quantiles_under_member_labels(rt: HostRuntime) -> Result<(), Fail> {
     let alloc = rt.alloc();
     let metric = summary(labels(alloc, &[("le", "1")])?);
@@ -69,27 +55,5 @@ fn label_of_quantiles_is_reserved(rt: HostRuntime) -> Result<(), Fail> {
     let metric = Box::new(alloc, summary(labels(alloc, &[(QUANTILE_LABEL, "1")])?))?;
     expect_refusal(alloc, metric, EncodeError::ReservedLabel)?;
     assert!(rt; QUANTILE_LABEL == "quantile");
-    Ok(())
-}
-
-#[test]
-fn quantiles_under_a_subsystem(rt: HostRuntime) -> Result<(), Fail> {
-    let alloc = rt.alloc();
-    let mut registry = Registry::default();
-    build_below(alloc, &mut registry, "a", &[("k", "v")])?;
-    register_below(
-        alloc,
-        &mut registry,
-        "a",
-        "s",
-        Box::new(alloc, summary(()))?,
-    )?;
-    let document = document_of(alloc, &registry)?;
-    assert!(rt;
-        document.as_str().ends_with(
-            "\na_s{k=\"v\",quantile=\"0.5\"} 2.0\n\
-        a_s{k=\"v\",quantile=\"0.99\"} 7.25\na_s_count{k=\"v\"} 20\na_s_sum{k=\"v\"} 100.0\n# EOF\n"
-        )
-    );
     Ok(())
 }
