@@ -1,6 +1,4 @@
-//! Calls at the registries of a tree, one by one and as one list.
-ghost use Rattle.std.specs.Prelude.{IfOk};
-ghost use Rattle.fm_registry.specs.HasHistory.{HasHistory};
+//! Calls at the registries of a tree, as one list.
 
 use crate::boxed::{calls_at, root, six_calls};
 use fastmetrics::encoder::EncodeMetric;
@@ -8,10 +6,7 @@ use fastmetrics::raw::MetricType;
 use fastmetrics::registry::{Registry, RegistryCall, RegistryError};
 use fm_test_support::liars::Fickle;
 use fm_test_support::support::expect_document_of;
-use fm_test_support::trees::{
-    build_below, expect_refused, gauge, have_numbers, metric_at, refuses, register_below,
-    subsystem_at,
-};
+use fm_test_support::trees::{have_numbers, metric_at, refuses, subsystem_at};
 use std::alloc::{AllocError, Global};
 use std::test::Fail;
 
@@ -35,43 +30,6 @@ fn six_calls_as_a_list(rt: HostRuntime) -> Result<(), Fail> {
         &registry,
         "# TYPE myapp_db_up gauge\n# HELP myapp_db_up H\nmyapp_db_up 1\n# EOF\n",
     )
-}
-
-// A root with the subsystem `db` and a gauge in it, by single calls.
-fn built_one_by_one(alloc: Global) -> Result<Registry, Fail>
-    ensures { IfOk result HasHistory }
-{
-    let mut registry = root(alloc, "myapp", &[])?;
-    build_below(alloc, &mut registry, "db", &[])?;
-    register_below(alloc, &mut registry, "db", "up", gauge(alloc, 1)?)?;
-    Ok(registry)
-}
-
-#[test]
-fn calls_one_by_one(rt: HostRuntime) -> Result<(), Fail> {
-    let alloc = rt.alloc();
-    let mut registry = built_one_by_one(alloc)?;
-    let invalid = build_below(alloc, &mut registry, "db", &[("1x", "v")]);
-    expect_refused(invalid, 8, "1x")?;
-    build_below(alloc, &mut registry, "db", &[("k", "v")])?;
-    expect_document_of(
-        alloc,
-        &registry,
-        "# TYPE myapp_db_up gauge\n# HELP myapp_db_up H\nmyapp_db_up 1\n# EOF\n",
-    )
-}
-
-#[test]
-fn a_gauge_registered_again(rt: HostRuntime) -> Result<(), Fail> {
-    let alloc = rt.alloc();
-    let mut registry = built_one_by_one(alloc)?;
-    let again = register_below(alloc, &mut registry, "db", "up", gauge(alloc, 2)?);
-    expect_document_of(
-        alloc,
-        &registry,
-        "# TYPE myapp_db_up gauge\n# HELP myapp_db_up H\nmyapp_db_up 1\n# EOF\n",
-    )?;
-    expect_refused(again, 4, "up")
 }
 
 // Calls at paths that are there, and at others that are not.

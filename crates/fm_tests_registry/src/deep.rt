@@ -2,7 +2,7 @@
 
 use crate::calls::all_refused;
 use fastmetrics::registry::{Registry, RegistryCall};
-use fm_test_support::trees::{gauge, path_down};
+use fm_test_support::trees::path_down;
 use std::alloc::{AllocError, Global};
 use std::test::Fail;
 
@@ -39,28 +39,5 @@ fn missing_paths_before_depth(rt: HostRuntime) -> Result<(), Fail> {
     let mut registry = Registry::default();
     let answers = registry.run(alloc, calls)?;
     assert!(rt; all_refused(&answers, &[(64, 10, "b")]));
-    Ok(())
-}
-
-// The call that registers a gauge with the value 1 at a path.
-fn gauge_there(alloc: Global, path: Vec<String>, name: &str) -> Result<RegistryCall, AllocError> {
-    Ok(RegistryCall::Register {
-        path,
-        name: String::from_str(alloc, name)?,
-        help: String::from_str(alloc, "H")?,
-        unit: None,
-        metric: gauge(alloc, 1)?,
-    })
-}
-
-#[test]
-fn depth_before_taken_names(rt: HostRuntime) -> Result<(), Fail> {
-    let alloc = rt.alloc();
-    let mut calls = one_in_another(alloc)?;
-    calls.push(gauge_there(alloc, path_down(alloc, "a", 64)?, "b_c")?)?;
-    calls.push(subsystem(alloc, path_down(alloc, "a", 64)?, "b")?)?;
-    let mut registry = Registry::default();
-    let answers = registry.run(alloc, calls)?;
-    assert!(rt; all_refused(&answers, &[(65, 11, "b")]));
     Ok(())
 }

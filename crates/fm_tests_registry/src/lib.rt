@@ -1,5 +1,5 @@
-//! Tests of what a registry refuses, and of trees of registries: namespaces and labels, what roots refuse, depth, calls one by one and as
-//! a list, the order of a document, which names clash, and what a refused name leaves.
+//! Tests of registries: calls as a list, what roots and subsystems say, and the texts of refusals. What is refused, which names clash and
+//! the order of a document are scripts of bench/replay.
 #![tactic(auto)]
 
 #[cfg(test)]

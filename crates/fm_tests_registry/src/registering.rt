@@ -1,101 +1,13 @@
-//! Which names and units a registry refuses, and the numbers and texts of all refusals.
+//! The tests of names, and the numbers and texts of all refusals.
 
-use fastmetrics::encoder::EncodeMetric;
 use fastmetrics::format::text::EncodeError;
-use fastmetrics::metrics::gauge::ConstGauge;
 use fastmetrics::metrics::tally::TallyError;
-use fastmetrics::raw::{MetricType, Unit, is_label_name, is_snake_case, is_unit_text};
-use fastmetrics::registry::{Registry, RegistryError, SetRegistryError};
-use fm_test_support::members::OneMember;
-use fm_test_support::support::{document_of, expect_text};
-use fm_test_support::trees::{expect_refused, gauge, register_with};
+use fastmetrics::raw::{is_label_name, is_snake_case, is_unit_text};
+use fastmetrics::registry::{RegistryError, SetRegistryError};
+use fm_test_support::support::expect_text;
 use std::alloc::{AllocError, Global};
 use std::fmt::Display;
 use std::test::Fail;
-
-// Fails if registering one metric is not refused so, or at all if there is no refusal. A document has what was not refused.
-fn expect_answer(
-    alloc: Global,
-    name: &str,
-    unit: Option<Unit>,
-    metric: Box<dyn EncodeMetric>,
-    refusal: Option<(u8, &str)>,
-) -> Result<(), Fail> {
-    let mut registry = Registry::default();
-    let answer = register_with(alloc, &mut registry, name, "H", unit, metric);
-    let is_empty = document_of(alloc, &registry)?.as_str() == "# EOF\n";
-    if is_empty == answer.is_ok() {
-        return Err(Fail::new("the document does not fit the answer"));
-    }
-    match refusal {
-        Some((number, text)) => expect_refused(answer, number, text),
-        None => Ok(answer?),
-    }
-}
-
-#[test]
-fn names_of_metrics(rt: HostRuntime) -> Result<(), Fail> {
-    let alloc = rt.alloc();
-    for name in ["name1", "name_1", "name_1_2", "x", "a1_2b"] {
-        let gauge = gauge(alloc, 1)?;
-        expect_answer(alloc, name, None, gauge, None)?;
-    }
-    for name in [
-        "_", "1name", "name__1", "name_", "name!", "", "Bad", "é", "_name", "a:b", "a b",
-    ] {
-        let gauge = gauge(alloc, 1)?;
-        expect_answer(alloc, name, None, gauge, Some((1, name)))?;
-    }
-    Ok(())
-}
-
-// Fails if registering a gauge with this unit is not refused so.
-fn expect_unit(
-    alloc: Global,
-    name: &str,
-    unit: &str,
-    refusal: Option<(u8, &str)>,
-) -> Result<(), Fail> {
-    let gauge = gauge(alloc, 1)?;
-    let unit = Some(Unit::from(String::from_str(alloc, unit)?));
-    expect_answer(alloc, name, unit, gauge, refusal)
-}
-
-#[test]
-fn units_of_gauges(rt: HostRuntime) -> Result<(), Fail> {
-    let alloc = rt.alloc();
-    for unit in ["1a", "hertz", "0"] {
-        expect_unit(alloc, "ok", unit, None)?;
-    }
-    for unit in ["X", "", "a_b", "1A", "é", "a b"] {
-        expect_unit(alloc, "ok", unit, Some((3, unit)))?;
-    }
-    Ok(())
-}
-
-#[test]
-fn names_before_units(rt: HostRuntime) -> Result<(), Fail> {
-    expect_unit(rt.alloc(), "Bad", "X", Some((1, "Bad")))
-}
-
-#[test]
-fn types_without_units(rt: HostRuntime) -> Result<(), Fail> {
-    let alloc = rt.alloc();
-    for metric_type in [MetricType::Unknown, MetricType::StateSet, MetricType::Info] {
-        for (name, number) in [("Bad", 1), ("ok", 2)] {
-            let metric = OneMember {
-                metric_type,
-                time: None,
-                labels: (),
-                point: ConstGauge::new(1i64),
-            };
-            let metric = Box::new(alloc, metric)?;
-            let unit = Some(Unit::from(String::from_str(alloc, "X")?));
-            expect_answer(alloc, name, unit, metric, Some((number, name)))?;
-        }
-    }
-    Ok(())
-}
 
 // The refusal with this number, which names `ok`.
 fn refusal_of(alloc: Global, number: u8) -> Result<RegistryError, AllocError> {
