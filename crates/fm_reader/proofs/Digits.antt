@@ -7,8 +7,8 @@ use Rattle.std.proofs.lemmas.Int.{to_z-of_z}
 use Rattle.std.proofs.Math.IntN.{+ℤ_idl}
 use Rattle.std.specs.List.{AllByRecursion}
 use Rattle.std.specs.Str.Parse.{AllDigits, digits_value, ParsesUnsigned, ParsesSigned}
-use Rattle.std.proofs.lemmas.Fmt.{decimal_is_IsNumeral_wide}
-use Rattle.std.proofs.lemmas.Str.Parse.{IsNumeralModel, numerals_by_value, tells_digits, parse_gives, parse_signed_digits, parse_signed_minus}
+use Rattle.std.proofs.lemmas.Fmt.{decimal_is_IsNumeral_wide, decimal-digits_value}
+use Rattle.std.proofs.lemmas.Str.Parse.{IsNumeralModel, numerals_by_value, tells_digits, parse_gives, parse_plain, parse_signed_digits, parse_signed_minus}
 use Rattle.std.proofs.lemmas.Bool.Decides.{nat_tests}
 use Rattle.fm_grammar.specs.Exposition.{Text}
 use Rattle.fm_grammar.specs.Names.{IsDigit}
@@ -192,3 +192,11 @@ stored number z e h = ap (λ n. to_z w128 (of_z w128 n)) e ∙ to_z-of_z w128 z 
 pub whole_fits : (z : ℤ) → IsBetween (2 ^ 63) (2 ^ 64) z → FitsSigned w128 z
 whole_fits (pos n) h = omega (arith, h)
 whole_fits (negsuc n) h = omega (arith, h)
+
+-- digits that don't begin with a zero are the text of the number that they are parsed as
+pub unsigned_text : (text : Text) (n : ℕ) → ParsesUnsigned {E = ℕ} 64 10 text (Ok n) → 48 ≤ get_or text 0 0 → (get_or text 0 0 ≡ 48 → length text ≤ 1) → text ≡ decimal n
+unsigned_text text n parses least single =
+    let h = parse_plain digits_model {E = ℕ} 64 text (Ok n) parses (λ plus. omega arith) in
+    let is : n ≡ digits_value 10 text = h.1 in
+    let some : 0 < length text = h.0.1 in
+    sym (decimal-digits_value digits_model text h.0.0 some (λ zero. let few = single zero in omega arith) h.0.2) ∙ ap decimal (sym is)

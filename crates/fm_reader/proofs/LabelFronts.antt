@@ -4,7 +4,7 @@ use Rattle.std.specs.List.{AllByRecursion}
 use Rattle.fm_grammar.specs.Exposition.{Text, Label}
 use Rattle.fm_grammar.specs.Names.{IsLabelName, IsLabelByte}
 use Rattle.fm_grammar.specs.Spelling.{escaped, label_text}
-use Rattle.fm_grammar.proofs.Runs.{one_run, all_weaker, not_in_run}
+use Rattle.fm_grammar.proofs.Runs.{one_run, all_weaker}
 use Rattle.fm_grammar.proofs.Labels.{label_then, name_bytes}
 use Rattle.fm_reader.specs.inside.Fronts.{EndsEscaped}
 use Rattle.fm_reader.specs.inside.Fronts.{IsLabelFront}
@@ -28,17 +28,7 @@ label_cut text name behind label rest cut lacks named e =
     let k = r.1 in
     (r.0, cc)
 
-pub no_equals_no_label : (text : Text) → ((i : ℕ) → i < length text → get_or text i 0 ≢ 61) → (label : Label) (rest : Text) → IsLabelName label.name → text ≡ label_text label ++ rest → ⊥
-no_equals_no_label text lacks label rest named e =
-    not_in_run (λ b. b ≢ 61) text label.name 61 (34 ∷ (escaped label.value ++ (34 ∷ rest))) (all_from (λ b. b ≢ 61) text lacks) (e ∙ label_then label rest) refl
-
--- where an equals sign cuts the text, no label is at the front if the name before it is none,
-pub bad_name : (text name behind : Text) → (text ≡ name ++ (61 ∷ behind)) × ((i : ℕ) → i < length name → get_or name i 0 ≢ 61) → ¬ (IsLabelName name) → (label : Label) (rest : Text) → IsLabelName label.name → text ≡ label_text label ++ rest → ⊥
-bad_name text name behind cut bad label rest named e =
-    let h = label_cut text name behind label rest cut.0 (all_from (λ b. b ≢ 61) name cut.1) named e in
-    bad (subst IsLabelName (sym h.0) named)
-
--- if no quote comes after it,
+-- where an equals sign cuts the text, no label is at the front if no quote comes after it,
 pub no_quote : (text name behind : Text) → (text ≡ name ++ (61 ∷ behind)) × ((i : ℕ) → i < length name → get_or name i 0 ≢ 61) → ((quoted : Text) → behind ≢ 34 ∷ quoted) → (label : Label) (rest : Text) → IsLabelName label.name → text ≡ label_text label ++ rest → ⊥
 no_quote text name behind cut none label rest named e = none _ (label_cut text name behind label rest cut.0 (all_from (λ b. b ≢ 61) name cut.1) named e).1
 

@@ -1,5 +1,5 @@
 -- Sets of names that differ.
-use Rattle.std.proofs.Common.{◌≡◌, ◌≢◌, ℕ, zero, suc, ◌+◌, ◌-◌, ◌<◌, ◌≤◌, not, Bool, true, false, cond, List, [], ◌∷◌, ◌++◌, length, take, get_or, refl, sym, ap, subst, ◌∙◌, arith, map, Bor}
+use Rattle.std.proofs.Common.{◌≡◌, ◌≢◌, ℕ, zero, suc, ◌+◌, ◌<◌, not, Bool, true, false, cond, List, [], ◌∷◌, ◌++◌, length, take, get_or, refl, sym, ap, subst, ◌∙◌, arith, map, Bor}
 use Rattle.std.specs.List.{AllByRecursion, list_any}
 use Rattle.std.specs.BTreeSet.{BTreeSet, contains_by, Updates}
 use Rattle.std.specs.BTreeMap.{is_at}
@@ -117,3 +117,12 @@ name_new names key texts i d b added e holds within same all =
 pub name_held : (old new : BTreeSet (Bor Text)) (key : Bor Text) (texts : List Text) (i : ℕ) (d : Text) → Updates (λ x y. slice_cmp nat_cmp x.now y.now) old new key true → Holds old (take i texts) → i < length texts → get_or texts i d ≡ key.now → Holds new (take (i + 1) texts)
 name_held old new key texts i d updates holds within same =
     subst (Holds new) (sym (take_more texts i d within ∙ ap (λ x. take i texts ++ (x ∷ [])) same)) (holds_more old new key (take i texts) updates holds)
+
+-- one name among others
+
+pub not_fresh : (q : Text) (texts : List Text) (i : ℕ) → i < length texts → get_or texts i [] ≡ q → IsFresh q texts → ⊥
+not_fresh q texts i within is fresh = all_at q texts i [] within fresh is
+
+pub fresh_more : (q : Text) (texts : List Text) (i : ℕ) → i < length texts → get_or texts i [] ≢ q → IsFresh q (take i texts) → IsFresh q (take (i + 1) texts)
+fresh_more q texts i within other fresh =
+    subst (IsFresh q) (sym (take_more texts i [] within)) (all_append (λ name. name ≢ q) (take i texts) (get_or texts i [] ∷ []) fresh (other, tt))

@@ -1,5 +1,7 @@
 -- What public contracts don't cite: views, stored forms, laws, and the words of private functions.
 pub mod Numbers
+pub mod Plain
+pub mod Cuts
 pub mod Fronts
 pub mod Lines
 pub mod Parts

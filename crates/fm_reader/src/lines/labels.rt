@@ -1,5 +1,6 @@
 //! Reads label lists with different names.
-ghost use Rattle.std.specs.Prelude.{◌↔◌, IsTrue, IfOk, map};
+ghost use Rattle.std.specs.Prelude.{◌≢◌, ◌↔◌, IsTrue, IfOk, map};
+ghost use Rattle.std.specs.List.{AllByRecursion};
 ghost use Rattle.fm_grammar.specs.Names.{AllDifferent};
 ghost use Rattle.fm_exposition.specs.Samples.{labels_of};
 ghost use Rattle.fm_reader.specs.inside.Fronts.{front_labels};
@@ -8,6 +9,9 @@ ghost use Rattle.fm_reader.specs.inside.Parts.{IsBracesFront, IsBlockFront};
 use crate::parts::labels::read_labels;
 use std::alloc::{AllocError, Global};
 use std::collections::BTreeSet;
+
+// So many labels are compared without a set.
+const FEW: usize = 8;
 
 /// A sample's labels up to the space before its value, and the text after it; None if the text does not begin so.
 pub(crate) fn read_block(
@@ -51,12 +55,15 @@ pub(crate) fn read_braces(
     Ok(Some((labels, rest)))
 }
 
-// Whether no name comes twice.
+// Whether no name comes twice. Few names are compared with each other.
 fn are_different(alloc: Global, labels: &[(String, String)]) -> Result<bool, AllocError>
     ensures { IfOk result
         (λ different. IsTrue different
         ↔ AllDifferent (map (λ label. label.name) (labels_of labels.now))) }
 {
+    if labels.len() <= FEW {
+        return Ok(few_are_different(labels));
+    }
     let mut names = BTreeSet::new(alloc);
     for (name, _) in labels {
         if !names.insert(name.as_str())? {
@@ -64,4 +71,32 @@ fn are_different(alloc: Global, labels: &[(String, String)]) -> Result<bool, All
         }
     }
     Ok(true)
+}
+
+// Whether no name comes twice, where each is compared with those after it.
+fn few_are_different(labels: &[(String, String)]) -> bool
+    ensures { IsTrue result ↔ AllDifferent (map (λ label. label.name) (labels_of labels.now)) }
+{
+    let mut rest = labels;
+    while let Some((label, behind)) = rest.split_first() {
+        if has_name(behind, label.0.as_str()) {
+            return false;
+        }
+        rest = behind;
+    }
+    true
+}
+
+// Whether one of the labels has this name.
+fn has_name(labels: &[(String, String)], name: &str) -> bool
+    ensures { IsTrue result
+        ↔ (AllByRecursion (λ other. other ≢ name.now)
+        (map (λ label. label.name) (labels_of labels.now)) → ⊥) }
+{
+    for (other, _) in labels {
+        if other.as_str() == name {
+            return true;
+        }
+    }
+    false
 }

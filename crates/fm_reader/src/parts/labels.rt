@@ -2,7 +2,8 @@
 ghost use Rattle.std.specs.Prelude.{IfOk};
 ghost use Rattle.fm_reader.specs.inside.Fronts.{IsEscapedFront, IsLabelFront, IsLabelsFront, seen, seen_label, front_labels};
 
-use fm_raw::is_label_name;
+use crate::parts::names::split_name;
+use crate::parts::plain::plain_end;
 use std::alloc::{AllocError, Global};
 
 /// Reads an escaped text at the start, up to a quote, a line feed or the end, and returns it with the text after it;
@@ -10,8 +11,9 @@ use std::alloc::{AllocError, Global};
 pub(crate) fn read_escaped(alloc: Global, text: &str) -> Result<Option<(String, &str)>, AllocError>
     ensures { IfOk result (λ found. IsEscapedFront text.now (seen found)) }
 {
-    let mut value = String::new(alloc);
-    let mut rest = text;
+    let (plain, behind) = text.split_at(plain_end(text.as_bytes()));
+    let mut value = String::from_str(alloc, plain)?;
+    let mut rest = behind;
     loop {
         let mut chars = rest.chars();
         let Some(c) = chars.next() else {
@@ -45,12 +47,9 @@ pub(crate) fn read_label(
 ) -> Result<Option<((String, String), &str)>, AllocError>
     ensures { IfOk result (λ found. IsLabelFront text.now (seen_label found)) }
 {
-    let Some((name, behind)) = text.split_once('=') else {
+    let Some((name, behind)) = split_name(text) else {
         return Ok(None);
     };
-    if !is_label_name(name) {
-        return Ok(None);
-    }
     let Some(quoted) = behind.strip_prefix('"') else {
         return Ok(None);
     };

@@ -1,6 +1,6 @@
 //! Reads the texts of numbers.
-ghost use Rattle.std.specs.Prelude.{◌≡◌, ℕ, ℤ, ◌+◌, ◌*◌, ◌-◌, ◌^◌, ◌≤◌, get_or, Some};
-ghost use Rattle.std.specs.Fmt.{signed_decimal};
+ghost use Rattle.std.specs.Prelude.{◌≡◌, ℕ, ℤ, ◌+◌, ◌*◌, ◌-◌, ◌^◌, ◌≤◌, get_or, Some, IfSome};
+ghost use Rattle.std.specs.Fmt.{decimal, signed_decimal};
 ghost use Rattle.fm_grammar.specs.Numbers.{millionths_text, fixed_text, millis_text};
 ghost use Rattle.fm_grammar.specs.WellFormed.{IsBetween, AreMillis};
 ghost use Rattle.fm_reader.specs.inside.Numbers.{FoundWhole, FoundMillis, FoundFixed, places_3, places_6};
@@ -14,6 +14,9 @@ const MAX_MILLIS: u128 = 18_446_744_073_709_551_615_999;
 pub(crate) fn read_whole(text: &str) -> Option<i128>
     ensures { FoundWhole text.now result }
 {
+    if let Some(number) = unsigned_in(text) {
+        return Some(i128::from(number));
+    }
     let Some(number) = whole_in(text) else {
         return None;
     };
@@ -55,6 +58,22 @@ pub(crate) fn read_fixed(text: &str) -> Option<i128>
     if buffer.format(FixedSum::from_millionths(number)) != text {
         return None;
     }
+    Some(number)
+}
+
+// The number below 2^64 that has this text, if there is one.
+fn unsigned_in(text: &str) -> Option<u64>
+    ensures { IfSome result (λ n. text.now ≡ decimal n) }
+{
+    let Some(first) = text.as_bytes().first() else {
+        return None;
+    };
+    if *first < b'0' || *first == b'0' && text.len() > 1 {
+        return None;
+    }
+    let Ok(number) = text.parse::<u64>() else {
+        return None;
+    };
     Some(number)
 }
 

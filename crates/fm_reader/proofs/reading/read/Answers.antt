@@ -1,5 +1,4 @@
-use Rattle.std.proofs.Common.{◌∷◌, length, ap, arith, rules, Some, None, lit<, length-append}
-use Rattle.std.proofs.lemmas.Str.Pattern.{split_parts}
+use Rattle.std.proofs.Common.{◌∷◌, length, ap, arith, rules, length-append}
 use Rattle.fm_grammar.proofs.Law.{one_reading}
 use Rattle.fm_reader.proofs.Place.{place_bound, line_of, place_next, bad_line, cut_short, fault_refuses, empty_text, not_empty_text, ended_place, given}
 use Rattle.fm_reader.proofs.reading.read.Goals as goal
@@ -7,12 +6,12 @@ use Rattle.fm_reader.proofs.reading.read.Goals as goal
 pub overflow_add-line : goal.overflow_add-line
 overflow_add-line c =
     let bound = place_bound _ _ _ _ c.loop-front.invariant.place in
-    let p = split_parts 10 c.loop-front.rest.now (Some (c.in-Some.front, c.in-Some.behind)) c.in-Some.ensures.cases (lit< tt) in
+    let p = c.in-Some.ensures in
     omega (arith, bound, ap length p.0, length-append c.in-Some.front.now (10 ∷ c.in-Some.behind.now))
 
 pub returns-in_default-2-clause-fault : goal.returns-in_default-2-clause-fault
 returns-in_default-2-clause-fault c =
-    let p = split_parts 10 c.loop-front.rest.now (Some (c.in-Some.front, c.in-Some.behind)) c.in-Some.ensures.cases (lit< tt) in
+    let p = c.in-Some.ensures in
     bad_line _ _ c.in-Some.front.now c.in-Some.behind.now _ _ c.loop-front.invariant.place p.0 (line_of _ p.1) (rw c.in_default-2.is at c.in_ok-next.ensures.step)
 
 pub returns-in_default-2-clause-refused : goal.returns-in_default-2-clause-refused
@@ -20,7 +19,7 @@ returns-in_default-2-clause-refused c = fault_refuses _ _ (returns-in_default-2-
 
 pub loop-front-preserved : goal.loop-front-preserved
 loop-front-preserved c =
-    let p = split_parts 10 c.loop-front.rest.now (Some (c.in-Some.front, c.in-Some.behind)) c.in-Some.ensures.cases (lit< tt) in
+    let p = c.in-Some.ensures in
     record {
       is_text = search rules;
       place = place_next _ _ c.in-Some.front.now c.in-Some.behind.now _ _ _ c.loop-front.invariant.place p.0 (line_of _ p.1) (rw c.in-Some-2.is at c.in_ok-next.ensures.step);
@@ -35,7 +34,7 @@ overflow_add-result-in_default-ended c = omega (arith, place_bound _ _ _ _ c.loo
 
 pub returns-then-not-is_empty-clause-fault : goal.returns-then-not-is_empty-clause-fault
 returns-then-not-is_empty-clause-fault c =
-    let none = split_parts 10 c.loop-front.rest.now None c.in_default.ensures.cases (lit< tt) in
+    let none = c.in_default.ensures in
     cut_short _ _ _ _ c.loop-front.invariant.place (line_of _ none) (λ both. not_empty_text _ c.if-not-is_empty.ensures both.0)
 
 pub returns-then-not-is_empty-clause-refused : goal.returns-then-not-is_empty-clause-refused
@@ -43,7 +42,7 @@ returns-then-not-is_empty-clause-refused c = fault_refuses _ _ (returns-then-not
 
 pub returns-in_default-ended-clause-fault : goal.returns-in_default-ended-clause-fault
 returns-in_default-ended-clause-fault c =
-    let none = split_parts 10 c.loop-front.rest.now None c.in_default.ensures.cases (lit< tt) in
+    let none = c.in_default.ensures in
     cut_short _ _ _ _ c.loop-front.invariant.place (line_of _ none) (λ both. c.in_default-ended.ensures both.1)
 
 pub returns-in_default-ended-clause-refused : goal.returns-in_default-ended-clause-refused

@@ -1,7 +1,20 @@
-use Rattle.std.proofs.Common.{inl, inr, refl, sym, ap, ◌∙◌, ⊎_elim, string_bytes}
+use Rattle.std.proofs.Common.{inl, inr, length, refl, sym, ap, ◌∙◌, ⊎_elim, string_bytes, arith, rules}
+use Rattle.std.specs.List.{prefix_len}
+use Rattle.fm_reader.specs.inside.Plain.{is_plain}
+use Rattle.fm_reader.proofs.PlainRuns.{run_boundary, begun}
 use Rattle.fm_reader.proofs.Fronts.{read_pair, read_single, no_escape, no_such_escape, empty_is}
 use Rattle.fm_reader.proofs.parts.labels.read_escaped.Goals as goal
 use Rattle.fm_reader.proofs.parts.labels.read_escaped.Goals.{then-c-eq92+in-Some-next+then-escape-eq110+in_ok-push, then-c-eq92+in-Some-next+else-escape-eq110+then-escape-eq92+in_ok-push-2, then-escape-eq34, else-escape-eq34, else-c-eq92+in_ok-push-3}
+
+pub split_at-requires : goal.split_at-requires
+split_at-requires c =
+    run_boundary c.args.text.now c.plain_end.result (c.plain_end.ensures.value ∙ ap (prefix_len is_plain) c.as_bytes.ensures.value) (omega (arith, c.plain_end.ensures.bound, ap length c.as_bytes.ensures.value))
+
+pub loop-c-init : goal.loop-c-init
+loop-c-init c = record {
+  is_text = search rules;
+  so_far = begun c.args.text.now c.split_at.result.0.now c.split_at.result.1.now (string_bytes c.in_ok-value.value) c.plain_end.result (c.plain_end.ensures.value ∙ ap (prefix_len is_plain) c.as_bytes.ensures.value) c.split_at.ensures.front c.split_at.ensures.back c.in_ok-value.ensures.ok;
+}
 
 pub returns-in_default-next : goal.returns-in_default-next
 returns-in_default-next c =

@@ -1,28 +1,25 @@
-use Rattle.std.proofs.Common.{refl, sym, true≢false, string_bytes, Some, None, lit<}
-use Rattle.std.proofs.lemmas.Str.Pattern.{split_parts, strip_prefix_char}
-use Rattle.fm_reader.proofs.LabelFronts.{no_equals_no_label, bad_name, no_quote, no_value, no_last_quote, label_front_named}
+use Rattle.std.proofs.Common.{string_bytes, Some, None, lit<}
+use Rattle.std.proofs.lemmas.Str.Pattern.{strip_prefix_char}
+use Rattle.fm_reader.proofs.LabelFronts.{no_quote, no_value, no_last_quote, label_front_named}
 use Rattle.fm_reader.proofs.parts.labels.read_label.Goals as goal
 
 pub returns-in_default : goal.returns-in_default
-returns-in_default c = no_equals_no_label _ (split_parts 61 _ None c.in_default.ensures.cases (lit< tt))
-
-pub returns-then-not-is_label_name : goal.returns-then-not-is_label_name
-returns-then-not-is_label_name c = bad_name _ _ _ (split_parts 61 _ (Some (c.in-Some.name, c.in-Some.behind)) c.in-Some.ensures.cases (lit< tt)) (λ h. true≢false (sym (c.if-not-is_label_name.ensures.is.1 h)))
+returns-in_default c = c.in_default.ensures
 
 pub returns-in_default-strip_prefix : goal.returns-in_default-strip_prefix
 returns-in_default-strip_prefix c =
-    no_quote _ _ _ (split_parts 61 _ (Some (c.in-Some.name, c.in-Some.behind)) c.in-Some.ensures.cases (lit< tt))
+    no_quote _ _ _ c.in-Some.ensures.1
     (strip_prefix_char 34 _ None c.in_default-strip_prefix.ensures.cases (lit< tt))
 
 pub returns-in_default-2 : goal.returns-in_default-2
 returns-in_default-2 c =
-    no_value _ _ _ _ (split_parts 61 _ (Some (c.in-Some.name, c.in-Some.behind)) c.in-Some.ensures.cases (lit< tt))
+    no_value _ _ _ _ c.in-Some.ensures.1
     (strip_prefix_char 34 _ (Some c.in-Some-strip_prefix.quoted) c.in-Some-strip_prefix.ensures.cases (lit< tt))
     (rw c.in_default-2.is at c.in_ok-value.ensures)
 
 pub returns-in_default-strip_prefix-2 : goal.returns-in_default-strip_prefix-2
 returns-in_default-strip_prefix-2 c =
-    no_last_quote _ _ _ _ _ _ (split_parts 61 _ (Some (c.in-Some.name, c.in-Some.behind)) c.in-Some.ensures.cases (lit< tt))
+    no_last_quote _ _ _ _ _ _ c.in-Some.ensures.1
     (strip_prefix_char 34 _ (Some c.in-Some-strip_prefix.quoted) c.in-Some-strip_prefix.ensures.cases (lit< tt))
     (rw c.in-Some-2.is at c.in_ok-value.ensures)
     (strip_prefix_char 34 _ None c.in_default-strip_prefix-2.ensures.cases (lit< tt))
@@ -30,6 +27,6 @@ returns-in_default-strip_prefix-2 c =
 pub returns : goal.returns
 returns c =
     let found = rw c.in-Some-2.is at c.in_ok-value.ensures in
-    label_front_named _ _ _ _ _ _ _ (string_bytes c.in_ok-name.name) c.in_ok-name.ensures.ok (split_parts 61 _ (Some (c.in-Some.name, c.in-Some.behind)) c.in-Some.ensures.cases (lit< tt)).0 (c.if-not-is_label_name.ensures.is.0 refl)
+    label_front_named _ _ _ _ _ _ _ (string_bytes c.in_ok-name.name) c.in_ok-name.ensures.ok c.in-Some.ensures.1.0 c.in-Some.ensures.0
     (strip_prefix_char 34 _ (Some c.in-Some-strip_prefix.quoted) c.in-Some-strip_prefix.ensures.cases (lit< tt)) found.1
     (strip_prefix_char 34 _ (Some c.in-Some-strip_prefix-2.rest) c.in-Some-strip_prefix-2.ensures.cases (lit< tt))
