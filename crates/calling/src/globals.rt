@@ -13,7 +13,6 @@ use std::sync::Wait;
 /// Registers a metric that `main` boxed, on any thread. It waits for the lock.
 pub fn share<R: Wait>(
     rt: &R,
-    alloc: Global,
     global: &GlobalRegistry,
     name: String,
     help: String,
@@ -25,7 +24,7 @@ pub fn share<R: Wait>(
         |registry: &mut Registry| -> Result<(), RegistryError>
             requires { HasHistory registry.old }
             ensures { HasHistory registry.new }
-        { registry.register(alloc, name, help, metric) },
+        { registry.register(name, help, metric) },
     )
 }
 

@@ -27,7 +27,6 @@ pub fn production(alloc: Global) -> Result<RegistryBuilder, RegistryError> {
 
 /// Registers a metric in seconds in the subsystem of this name, which is made if it is not there.
 pub fn register_in_seconds(
-    alloc: Global,
     registry: &mut Registry,
     below: String,
     name: String,
@@ -38,8 +37,8 @@ pub fn register_in_seconds(
     ensures { HasHistory registry.new }
 {
     registry
-        .subsystem(alloc, below)?
-        .register_with_unit(alloc, name, help, Unit::Seconds, metric)
+        .subsystem(below)?
+        .register_with_unit(name, help, Unit::Seconds, metric)
 }
 
 /// Registers a metric two subsystems below the registry, of which the first has a label of its own. Both are made if they are not
@@ -86,7 +85,7 @@ pub fn run_two(
         metric,
     };
     let calls = vec![in alloc; subsystem, register]?;
-    for reply in registry.run(alloc, calls)? {
+    for reply in registry.run(calls)? {
         reply?;
     }
     Ok(())

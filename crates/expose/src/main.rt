@@ -54,7 +54,7 @@ fn main(rt: HostRuntime) -> ExitCode {
     };
     let made = match (root, calls) {
         (Ok(root), Ok(calls)) => match root.build() {
-            Ok(mut registry) => match all_accepted(registry.run(alloc, calls)) {
+            Ok(mut registry) => match all_accepted(registry.run(calls)) {
                 Ok(()) => Ok(registry),
                 Err(fault) => Err(fault),
             },

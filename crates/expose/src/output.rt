@@ -7,9 +7,7 @@ ghost use Rattle.fm_registry_model.specs.RegistryErrors.{error_number as registr
 ghost use Rattle.fm_encode_error.specs.EncodeErrors.{error_number as encode_number};
 ghost use Rattle.fm_encode_error.specs.declared.EncodeError.{EncodeError};
 ghost use Rattle.fastmetrics.specs.HasHistory.{HasHistory};
-ghost use Rattle.fastmetrics.specs.Tree.{Shows};
-ghost use Rattle.fastmetrics.specs.Listing.{order};
-ghost use Rattle.fastmetrics.specs.Admits.{Admits};
+ghost use Rattle.fastmetrics.specs.Admits.{AdmittedBy};
 ghost use Rattle.expose.specs.Outcome.{IsRefusal, status_of, PrintsDocument, Finishes};
 
 use fastmetrics::format::text::encode;
@@ -98,8 +96,7 @@ fn report<E: Write>(errors: &mut E, fault: Fault) -> u8
 fn print_document<W: Write>(alloc: Global, out: &mut W, registry: &Registry) -> Result<(), Fault>
     requires { HasHistory registry.now }
     ensures printed { PrintsDocument
-        (λ e. (b : _) → Shows registry.now b
-        → Admits (λ m. offers m) (λ m. stamps m) (λ m. may_be_empty m) (order b) e)
+        (AdmittedBy (λ m. offers m) (λ m. stamps m) (λ m. may_be_empty m) registry.now)
         (W.contents out.old) (W.contents out.new) result }
     ensures refused { IfErr result (λ fault. (error : EncodeError)
         × IsRefusal (codes "encode") (encode_number error) fault) }
@@ -123,8 +120,7 @@ pub fn finish<W: Write, E: Write>(
 ) -> u8
     requires { IfOk made (λ registry. HasHistory registry) }
     ensures { Finishes
-        (λ registry e. (b : _) → Shows registry b
-        → Admits (λ m. offers m) (λ m. stamps m) (λ m. may_be_empty m) (order b) e)
+        (AdmittedBy (λ m. offers m) (λ m. stamps m) (λ m. may_be_empty m))
         (W.contents out.old) (W.contents out.new) made result }
 {
     match made {

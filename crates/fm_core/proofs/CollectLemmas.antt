@@ -16,7 +16,7 @@ use Rattle.fm_encoder.specs.Points.{Member}
 use Rattle.fm_encoder.specs.Gathered.{result_of}
 use Rattle.fm_encoder.proofs.FaultLemmas.{MetricHasFault-not_writing}
 use Rattle.fm_registry.specs.Seen.{seen_list, seen_listed}
-use Rattle.fm_registry.specs.declared.listing.ListedMetric.{ListedMetric}
+use Rattle.fm_registry.specs.declared.listed.ListedMetric.{ListedMetric}
 use Rattle.fm_core.specs.Families.{Heading, FaultUnder}
 use Rattle.fm_core.specs.Admits.{IsFamilyOf, Admits, AdmitsNext, FaultOf, Fault}
 

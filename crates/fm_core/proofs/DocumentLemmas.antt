@@ -1,10 +1,14 @@
 -- One metric more in the text of a document.
-use Rattle.std.proofs.Common.{◌≡◌, ℕ, ◌<◌, ◌+◌, List, [], ◌∷◌, ◌++◌, map, Option, Some, None, Result, Ok, Err, MatchResult, ◌⊎◌, length, get_or, take, inl, inr, refl, sym, ap, subst, ◌∙◌, append_assoc, append-nil}
+use Rattle.std.proofs.Common.{◌≡◌, ℕ, ◌<◌, ◌+◌, List, [], ◌∷◌, ◌++◌, map, Option, Some, None, Result, Ok, Err, MatchResult, ◌⊎◌, length, get_or, take, inl, inr, refl, sym, ap, subst, ◌∙◌, append_assoc, append-nil, codes}
+use Rattle.std.specs.Option.{option_map, option_copied}
+use Rattle.std.specs.String.{string_bytes}
 use Rattle.std.proofs.lemmas.Grind.{flat_map-append}
 use Rattle.fm_grammar.specs.Exposition.{Text, Sample, Family}
 use Rattle.fm_grammar.specs.Names.{AllDifferent}
 use Rattle.fm_grammar.specs.Reading.{IsNewName}
 use Rattle.fm_grammar.proofs.States.{exposition_push}
+use Rattle.fm_raw.specs.Units.{seen_unit}
+use Rattle.fm_registry_model.specs.Texts.{prefixed_name, suffixed_name, printed_name}
 use Rattle.fm_registry_model.specs.Registration.{printed_unit}
 use Rattle.fm_registry_model.specs.Listing.{listed_name, IsListable}
 use Rattle.fm_exposition.specs.Rows.{sample_rows}
@@ -17,12 +21,23 @@ use Rattle.fm_encoder.specs.Offers.{context_at}
 use Rattle.fm_encoder.specs.Gathered.{GatheredMembers, own_refusal}
 use Rattle.fm_encoder.specs.Hands.{HandsMembers}
 use Rattle.fm_registry.specs.Seen.{seen_list, seen_listed}
-use Rattle.fm_registry.specs.declared.listing.ListedMetric.{ListedMetric}
+use Rattle.fm_registry.specs.declared.listed.ListedMetric.{ListedMetric}
 use Rattle.fm_core.specs.Families.{Heading, FaultUnder}
 use Rattle.fm_core.specs.inside.Offered.{Offered}
 use Rattle.fm_core.specs.inside.Documents.{heading_rows, text_in, HasLines, AddsRows, AddsNextRows, IsTextOf}
 use Rattle.fm_core.proofs.OfferedLemmas.{Ends, Makes, offered_made}
 use Rattle.fm_core.proofs.CollectLemmas.{Admits-next, next_new}
+
+-- a name in the exposition is the tail after the namespace
+printed-tail : (namespace : Option Text) (name : Text) (unit : Option Text) → prefixed_name namespace (suffixed_name name unit) ≡ printed_name namespace name unit
+printed-tail None name unit = refl
+printed-tail (Some outer) name None = refl
+printed-tail (Some outer) name (Some unit) = sym (append_assoc outer (codes "_" ++ name) (codes "_" ++ unit))
+
+pub listed-tail : {M : Type 0} (m : ListedMetric M) → prefixed_name (option_copied m.namespace) m.tail.now ≡ listed_name (seen_listed m)
+listed-tail m =
+    ap (prefixed_name (option_copied m.namespace)) m.fits
+    ∙ printed-tail (option_copied m.namespace) (string_bytes m.metadata.now.name) (printed_unit (option_map seen_unit m.metadata.now.unit))
 
 -- a heading's lines, and then those of the samples that the metric offered, are the lines of its family
 AddsRows-family : (Offers : Option ℕ → List Member → Type 0) (Stamps : Option ℕ → Type 0) (MayBeEmpty : Type 0) (heading : Heading) (old : Text) (output : Output) → IsListable heading → Offered Offers Stamps (listed_name heading) heading.registration.metric_type heading.labels (OutputText (old ++ heading_rows heading)) output → AddsRows Offers Stamps MayBeEmpty heading old (text_in output)

@@ -1,12 +1,11 @@
 // The text of a registry's document, which is rendered while its metrics are visited.
 ghost use Rattle.std.specs.Prelude.{◌≡◌, ◌⊎◌, ◌++◌, None, codes, MatchResult, IfOk, IfErr, IfSome, OnOk};
-ghost use Rattle.std.specs.Option.{option_copied};
+ghost use Rattle.std.specs.String.{string_bytes};
 ghost use Rattle.fm_grammar.specs.Exposition.{Exposition};
 ghost use Rattle.fm_grammar.specs.Reading.{IsExposition};
 ghost use Rattle.fm_grammar.specs.WellFormed.{AreMillis};
 ghost use Rattle.fm_encode_error.specs.declared.EncodeError.{EncodeError};
 ghost use Rattle.fm_exposition.specs.inside.DocumentRows.{document_rows};
-ghost use Rattle.fm_exposition.specs.Samples.{labels_of};
 ghost use Rattle.fm_exposition.specs.Written.{AppendsDocument, AppendsBeginningOfDocument, IsWritersFault};
 ghost use Rattle.fm_registry_model.specs.Listing.{listed_name, order, IsListable};
 ghost use Rattle.fm_registry_model.specs.Tree.{Shows};
@@ -14,36 +13,37 @@ ghost use Rattle.fm_registry.specs.Seen.{seen_listed};
 ghost use Rattle.fm_registry.specs.HasHistory.{HasHistory};
 ghost use Rattle.fm_writer.specs.Output.{with_lines};
 ghost use Rattle.fm_encoder.specs.Offers.{context_at};
-ghost use Rattle.fm_core.specs.Families.{heading_in, FaultUnder};
-ghost use Rattle.fm_core.specs.Admits.{Admits, FaultOf, Fault};
-ghost use Rattle.fm_core.specs.inside.Documents.{heading_rows, text_in, HasLines, AddsRows, AddsNextRows};
+ghost use Rattle.fm_core.specs.Admits.{AdmittedBy, FaultOf, Fault};
+ghost use Rattle.fm_core.specs.inside.Documents.{heading_of, heading_rows, text_in, HasLines, AddsNextRows};
 
 use crate::family::{join_name, text_of};
 use fm_encode_error::EncodeError;
 use fm_encoder::{EncodeMetric, MetricEncoder, collector, whole_millis};
 use fm_exposition::write_text;
-use fm_raw::Metadata;
 use fm_registry::{ListedMetric, Registry};
 use fm_writer::Lines;
 use std::alloc::{AllocError, Global};
 use std::io::Write;
 
-// Goes on to the family of a metric with this metadata, and appends the lines that come before its samples.
-fn begin_family(
+// Replaces a text by the printed name of a listed metric.
+fn print_name<M>(text: &mut String, listed: &ListedMetric<'_, M>) -> Result<(), AllocError>
+    ensures { OnOk result (string_bytes text.new ≡ listed_name (seen_listed listed.now)) }
+{
+    join_name(text, listed.namespace, listed.tail, None)
+}
+
+// Goes on to the family of a listed metric, and appends the lines that come before its samples.
+fn begin_family<M>(
     alloc: Global,
     encoder: &mut MetricEncoder,
     name: &mut String,
-    namespace: Option<&str>,
-    constants: &[(String, String)],
-    metadata: &Metadata,
+    listed: &ListedMetric<'_, M>,
     time: Option<u128>,
 ) -> Result<(), EncodeError>
-    requires heading { IsListable
-        (heading_in (option_copied namespace) (labels_of constants.now) metadata.now) }
+    requires listable { IsListable (seen_listed listed.now) }
     requires time { IfSome time AreMillis }
     requires accepting { encoder.old.refused ≡ None }
-    ensures begun { let heading =
-        heading_in (option_copied namespace.entry) (labels_of constants.now) metadata.now in
+    ensures begun { let heading = heading_of (seen_listed listed.now) in
         OnOk result (encoder.new ≡ record {
           context = context_at (listed_name heading)
               heading.registration.metric_type heading.labels time;
@@ -52,49 +52,17 @@ fn begin_family(
         }) }
     ensures memory { IfErr result (λ k. k ≡ EncodeError.Memory) }
 {
-    let unit = text_of(metadata.unit());
-    join_name(name, namespace, metadata.name(), unit)?;
+    print_name(name, listed)?;
     collector::begin_family(
         encoder,
         alloc,
         name,
-        metadata.metric_type(),
-        metadata.help(),
-        unit,
-        constants,
+        listed.metadata.metric_type(),
+        listed.metadata.help(),
+        text_of(listed.metadata.unit()),
+        listed.const_labels,
         time,
     )
-}
-
-// Appends the lines of a metric's family, unless the metric is empty, or returns the first refusal.
-fn add_family<M: EncodeMetric>(
-    alloc: Global,
-    encoder: &mut MetricEncoder,
-    name: &mut String,
-    namespace: Option<&str>,
-    constants: &[(String, String)],
-    metadata: &Metadata,
-    metric: &M,
-) -> Result<(), EncodeError>
-    requires heading { IsListable
-        (heading_in (option_copied namespace) (labels_of constants.now) metadata.now) }
-    requires lines { HasLines encoder.old }
-    ensures { MatchResult result
-        (λ _. HasLines encoder.new
-        × AddsRows (M.offers metric.now) (M.stamps metric.now) (M.may_be_empty metric.now)
-        (heading_in (option_copied namespace.entry) (labels_of constants.now) metadata.now)
-        (text_in encoder.old.output) (text_in encoder.new.output))
-        (λ k. (k ≡ EncodeError.Memory)
-        ⊎ FaultUnder (M.offers metric.now) (M.stamps metric.now) k (M.may_fault metric.now)
-        (heading_in (option_copied namespace.entry) (labels_of constants.now) metadata.now)) }
-{
-    if metric.is_empty() {
-        return Ok(());
-    }
-    let time = whole_millis(metric.timestamp());
-    begin_family(alloc, encoder, name, namespace, constants, metadata, time)?;
-    let visited = metric.encode(encoder);
-    collector::outcome(encoder, visited)
 }
 
 // Appends the lines of a listed metric's family, unless the metric is empty, or returns the first refusal.
@@ -114,15 +82,14 @@ fn add_listed<M: EncodeMetric>(
         (λ k. (k ≡ EncodeError.Memory)
         ⊎ FaultOf k (λ m. M.offers m) (λ m. M.stamps m) (λ m. M.may_fault m) (seen_listed listed.now)) }
 {
-    add_family(
-        alloc,
-        encoder,
-        name,
-        listed.namespace.as_deref(),
-        listed.constant_labels(),
-        listed.metadata,
-        listed.metric,
-    )
+    let metric = listed.metric;
+    if metric.is_empty() {
+        return Ok(());
+    }
+    let time = whole_millis(metric.timestamp());
+    begin_family(alloc, encoder, name, listed, time)?;
+    let visited = metric.encode(encoder);
+    collector::outcome(encoder, visited)
 }
 
 // The lines of an encoder, with the last one of a document.
@@ -147,8 +114,7 @@ pub(crate) fn document_lines<M: EncodeMetric>(
 ) -> Result<Lines, EncodeError>
     requires { HasHistory registry.now }
     ensures text { IfOk result (λ lines. (e : Exposition)
-        × ((b : _) → Shows registry.now b
-        → Admits (λ m. M.offers m) (λ m. M.stamps m) (λ m. M.may_be_empty m) (order b) e)
+        × AdmittedBy (λ m. M.offers m) (λ m. M.stamps m) (λ m. M.may_be_empty m) registry.now e
         × IsExposition e × (lines.text ≡ document_rows e)) }
     ensures fault { IfErr result (λ k. (k ≡ EncodeError.Memory)
         ⊎ ((b : _) → Shows registry.now b

@@ -9,7 +9,6 @@ use crate::global::{GlobalRegistry, Kept};
 use fm_encoder::EncodeMetric;
 use fm_encoder::metric_type::type_of;
 use fm_registry::{MetricType, RegistryError, Unit};
-use std::alloc::Global;
 use std::sync::Wait;
 use std::sync::atomic::Ordering::SeqCst;
 
@@ -17,7 +16,6 @@ impl<M: Drop> Kept<M> {
     // Registers a metric of this type in the registry. From then on none can be set.
     fn add_metric(
         &mut self,
-        alloc: Global,
         name: String,
         help: String,
         metric_type: MetricType,
@@ -30,7 +28,7 @@ impl<M: Drop> Kept<M> {
     {
         self.is_initialized.store(true, SeqCst);
         self.registry
-            .add_metric(alloc, name, help, metric_type, unit, metric)
+            .add_metric(name, help, metric_type, unit, metric)
     }
 }
 
@@ -38,7 +36,6 @@ impl<M: Drop> Kept<M> {
 /// lock is taken. It waits for the lock.
 pub fn register_metric<R: Wait>(
     rt: &R,
-    alloc: Global,
     global: &GlobalRegistry,
     name: String,
     help: String,
@@ -50,13 +47,12 @@ pub fn register_metric<R: Wait>(
 {
     let metric_type = type_of(&metric);
     let mut kept = global.kept.write(rt);
-    kept.add_metric(alloc, name, help, metric_type, unit, metric)
+    kept.add_metric(name, help, metric_type, unit, metric)
 }
 
 /// Like `register_metric`, with a unit.
 pub fn register_with_unit<R: Wait>(
     rt: &R,
-    alloc: Global,
     global: &GlobalRegistry,
     name: String,
     help: String,
@@ -66,13 +62,12 @@ pub fn register_with_unit<R: Wait>(
     ensures { RegistersLocked (Registers (λ t. types metric t)
         (asked_metric name help (Some unit) metric)) result }
 {
-    register_metric(rt, alloc, global, name, help, Some(unit), metric)
+    register_metric(rt, global, name, help, Some(unit), metric)
 }
 
 /// Like `register_metric`, without a unit.
 pub fn register<R: Wait>(
     rt: &R,
-    alloc: Global,
     global: &GlobalRegistry,
     name: String,
     help: String,
@@ -81,5 +76,5 @@ pub fn register<R: Wait>(
     ensures { RegistersLocked (Registers (λ t. types metric t)
         (asked_metric name help None metric)) result }
 {
-    register_metric(rt, alloc, global, name, help, None, metric)
+    register_metric(rt, global, name, help, None, metric)
 }

@@ -1,10 +1,9 @@
 -- A registration by texts of one's own is one by the texts that they were made of.
-use Rattle.std.proofs.Common.{◌≡◌, inl, inr, subst, sym, Option, Result, String, Global}
+use Rattle.std.proofs.Common.{◌≡◌, inr, subst, Option, Result, String, Global}
 use Rattle.std.specs.String.{string_bytes}
 use Rattle.fm_grammar.specs.declared.MetricType.{MetricType}
 use Rattle.fm_grammar.specs.Exposition.{Text}
 use Rattle.fm_raw.specs.declared.metadata.Unit as unit
-use Rattle.fm_registry_model.specs.Registration.{Registration}
 use Rattle.fm_registry_model.specs.Tree.{Tree}
 use Rattle.fm_registry_model.specs.declared.RegistryError.{RegistryError}
 use Rattle.fm_registry.specs.Registers.{Registers}
@@ -15,14 +14,3 @@ pub Adds-named : {M : Type 0} (Types : MetricType → Type 0) (name help : Strin
 Adds-named Types name help n h u metric old new r is_name is_help registers =
     let named = subst (λ (x : Text). Registers Types (named_metric x (string_bytes help) u metric) old new r) is_name registers in
     inr (subst (λ (x : Text). Registers Types (named_metric n x u metric) old new r) is_help named)
-
--- the same with a type that the metric may say it is of
-pub Adds-typed : {M : Type 0} (Types : MetricType → Type 0) (asked : MetricType → Registration M) (type : MetricType) (old new : Tree M) (r : Result (Unit {0}) RegistryError) → Types type → Adds (λ t. t ≡ type) asked old new r → Adds Types asked old new r
-Adds-typed Types asked type old new r declared (inl memory) = inl memory
-Adds-typed Types asked type old new r declared (inr registers) = inr (record {
-  metric_type = registers.metric_type;
-  declared = subst Types (sym registers.declared) declared;
-  answer = registers.answer;
-  ok = registers.ok;
-  err = registers.err;
-})

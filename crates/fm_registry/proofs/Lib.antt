@@ -9,3 +9,4 @@ pub mod RootLemmas
 pub mod RequestLemmas
 pub mod GrowthLemmas
 pub mod AddsLemmas
+pub mod AskedLemmas

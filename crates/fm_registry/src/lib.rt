@@ -5,7 +5,8 @@
 #![tactic(auto)]
 
 mod labels;
-pub mod listing;
+mod listed;
+mod listing;
 mod lists;
 mod names;
 pub mod registering;
@@ -13,6 +14,6 @@ pub mod registry;
 
 pub use fm_raw::{MetricType, Unit};
 pub use fm_registry_model::RegistryError;
-pub use listing::ListedMetric;
+pub use listed::ListedMetric;
 pub use registering::{add, add_with_unit};
 pub use registry::{Registry, RegistryBuilder, RegistryCall, RegistrySubsystemBuilder, Subsystem};

@@ -6,8 +6,7 @@ ghost use Rattle.fm_registry.specs.Named.{named_metric, Adds};
 
 use crate::registry::Registry;
 use fm_encoder::EncodeMetric;
-use fm_encoder::metric_type::type_of;
-use fm_raw::{MetricType, Unit};
+use fm_raw::Unit;
 use fm_registry_model::RegistryError;
 use std::alloc::Global;
 
@@ -20,26 +19,6 @@ fn owned(alloc: Global, name: &str, help: &str) -> Result<(String, String), Regi
     let name = String::from_str(alloc, name)?;
     let help = String::from_str(alloc, help)?;
     Ok((name, help))
-}
-
-// Registers a metric of this type by its name and its help.
-fn add_typed<M: Drop>(
-    alloc: Global,
-    registry: &mut Registry<M>,
-    name: &str,
-    help: &str,
-    metric_type: MetricType,
-    unit: Option<Unit>,
-    metric: M,
-) -> Result<(), RegistryError>
-    ensures registers { Adds (λ t. t ≡ metric_type)
-        (named_metric name.now help.now unit metric) registry.old
-        registry.new result }
-    ensures grows { Grows registry.old registry.new }
-    ensures sound { HasHistory registry.old → HasHistory registry.new }
-{
-    let (name, help) = owned(alloc, name, help)?;
-    registry.add_metric(alloc, name, help, metric_type, unit, metric)
 }
 
 // Registers a metric by its name and its help, with or without a unit.
@@ -57,8 +36,8 @@ fn add_metric(
     ensures grows { Grows registry.old registry.new }
     ensures sound { HasHistory registry.old → HasHistory registry.new }
 {
-    let metric_type = type_of(&metric);
-    add_typed(alloc, registry, name, help, metric_type, unit, metric)
+    let (name, help) = owned(alloc, name, help)?;
+    registry.register_metric(name, help, unit, metric)
 }
 
 /// Registers a metric by its name and its help, which are copied. It has the errors of `Registry::register`, in the same order.

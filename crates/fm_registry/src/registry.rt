@@ -7,7 +7,8 @@ mod subsystem_builder;
 mod subsystems;
 
 use crate::labels::kept_labels;
-use crate::listing::{ListedMetric, list_metrics};
+use crate::listed::ListedMetric;
+use crate::listing::list_metrics;
 use crate::names::Tailed;
 pub use builder::RegistryBuilder;
 use fm_encoder::EncodeMetric;
@@ -126,7 +127,7 @@ impl<M> Registry<M> {
             (seen_list list.new.items ≡ seen_list list.old.items ++ own_metrics self.now.facts) }
     {
         match &self.metrics {
-            Some(metrics) => list_metrics(&self.namespace, &self.const_labels, metrics, list),
+            Some(metrics) => list_metrics(self.namespace(), self.constant_labels(), metrics, list),
             None => Ok(()),
         }
     }

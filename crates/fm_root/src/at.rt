@@ -136,7 +136,7 @@ impl<M: EncodeMetric> RegistryAt<M> {
     {
         let call = asking(self.alloc, &self.path, name, labels)?;
         let below = path_below(self.alloc, &self.path, name)?;
-        self.registry.run_call(self.alloc, call)?;
+        self.registry.run_call(call)?;
         self.path = below;
         Ok(())
     }
@@ -160,7 +160,7 @@ impl<M: EncodeMetric> RegistryAt<M> {
             self.old self.new result }
     {
         let call = registering(self.alloc, &self.path, name, help, unit, metric)?;
-        self.registry.run_call(self.alloc, call)
+        self.registry.run_call(call)
     }
 
     /// Makes a metric by `try_default`, registers a clone of it in the current subsystem, and returns it.

@@ -40,11 +40,11 @@ fn call_below<M: EncodeMetric>(
     ensures grows { Grows registry.old registry.new }
 {
     match path.split_first() {
-        None => registry.run_call(alloc, call),
+        None => registry.run_call(call),
         Some((name, rest)) => {
             let ask = asking(alloc, &above, name, &[])?;
             above.push(String::from_str(alloc, name)?)?;
-            registry.run_call(alloc, ask)?;
+            registry.run_call(ask)?;
             call_below(alloc, registry, above, rest, call)
         }
     }

@@ -10,7 +10,7 @@ ghost use Rattle.fm_registry_model.specs.Listing.{order};
 ghost use Rattle.fm_registry_model.specs.Tree.{Shows};
 ghost use Rattle.fm_registry.specs.HasHistory.{IsNewRoot};
 ghost use Rattle.fm_registry.specs.View.{seen_labels};
-ghost use Rattle.fm_core.specs.Admits.{Admits, Fault};
+ghost use Rattle.fm_core.specs.Admits.{AdmittedBy, Fault};
 ghost use Rattle.fm_core.specs.Encoded.{WritesAdmitted, BeginsAdmitted};
 ghost use Rattle.fm_registry.specs.Named.{named_metric};
 ghost use Rattle.fm_root.specs.declared.kinds.Metric.TheVariants.{Own};
@@ -162,11 +162,11 @@ impl<H: Wait + Copy + Send + Sync + Drop, X: EncodeMetric> Root<H, X> {
 
     /// The exposition of the registry: what `collect` returns for it, with its errors.
     pub fn collect(&self) -> Result<Exposition, EncodeError>
-        ensures admitted { IfOk result (λ e. (b : _) → Shows self.now.at.tree b
-            → Admits (λ m. ⟦<Metric<H, X> as EncodeMetric>⟧.offers m)
+        ensures admitted { IfOk result
+            (AdmittedBy (λ m. ⟦<Metric<H, X> as EncodeMetric>⟧.offers m)
             (λ m. ⟦<Metric<H, X> as EncodeMetric>⟧.stamps m)
             (λ m. ⟦<Metric<H, X> as EncodeMetric>⟧.may_be_empty m)
-            (order b) e) }
+            self.now.at.tree) }
         ensures fault { IfErr result (λ k. (k ≡ EncodeError.Memory)
             ⊎ ((b : _) → Shows self.now.at.tree b
             → Fault k (λ m. ⟦<Metric<H, X> as EncodeMetric>⟧.offers m)
@@ -181,11 +181,10 @@ impl<H: Wait + Copy + Send + Sync + Drop, X: EncodeMetric> Root<H, X> {
     /// Writes the document of the registry, as `encode` does for it, with its errors.
     pub fn encode<W: Write>(&self, writer: &mut W) -> Result<(), EncodeError>
         ensures document { OnOk result (WritesAdmitted
-            (λ e. (b : _) → Shows self.now.at.tree b
-            → Admits (λ m. ⟦<Metric<H, X> as EncodeMetric>⟧.offers m)
+            (AdmittedBy (λ m. ⟦<Metric<H, X> as EncodeMetric>⟧.offers m)
             (λ m. ⟦<Metric<H, X> as EncodeMetric>⟧.stamps m)
             (λ m. ⟦<Metric<H, X> as EncodeMetric>⟧.may_be_empty m)
-            (order b) e)
+            self.now.at.tree)
             (W.contents writer.old) (W.contents writer.new)) }
         ensures refused { IfErr result (λ k. ¬ (IsWritersFault k)
             → Keeps (W.contents writer.old) (W.contents writer.new)
@@ -196,11 +195,10 @@ impl<H: Wait + Copy + Send + Sync + Drop, X: EncodeMetric> Root<H, X> {
             (λ m. ⟦<Metric<H, X> as EncodeMetric>⟧.may_fault m)
             (order b)))) }
         ensures stopped { IfErr result (λ k. IsWritersFault k → BeginsAdmitted
-            (λ e. (b : _) → Shows self.now.at.tree b
-            → Admits (λ m. ⟦<Metric<H, X> as EncodeMetric>⟧.offers m)
+            (AdmittedBy (λ m. ⟦<Metric<H, X> as EncodeMetric>⟧.offers m)
             (λ m. ⟦<Metric<H, X> as EncodeMetric>⟧.stamps m)
             (λ m. ⟦<Metric<H, X> as EncodeMetric>⟧.may_be_empty m)
-            (order b) e)
+            self.now.at.tree)
             (W.contents writer.old) (W.contents writer.new)) }
     {
         encode(self.at.alloc(), writer, self.at.registry())

@@ -186,7 +186,7 @@ pub fn register_with(
     let (Ok(name), Ok(help)) = (String::from_str(alloc, name), String::from_str(alloc, help)) else {
         return Err(RegistryError::Memory);
     };
-    registry.register_metric(alloc, name, help, unit, metric)
+    registry.register_metric(name, help, unit, metric)
 }
 
 /// Registers a metric here, with the help `H` and no unit.
@@ -221,9 +221,7 @@ pub fn register_below_with(
     ) else {
         return Err(RegistryError::Memory);
     };
-    registry
-        .subsystem(alloc, below)?
-        .register(alloc, name, help, metric)
+    registry.subsystem(below)?.register(name, help, metric)
 }
 
 /// Registers a metric with the help `H` in a subsystem, which is made if it is not there.
@@ -254,7 +252,7 @@ pub fn build_below(
         return Err(RegistryError::Memory);
     };
     registry
-        .subsystem_builder(alloc, below)?
+        .subsystem_builder(below)?
         .with_const_labels(labels)?
         .build()?;
     Ok(())

@@ -94,7 +94,7 @@ fn a_type_is_read_before_the_lock_is_taken(rt: HostRuntime) -> Result<(), Fail> 
     let metric: Box<dyn EncodeMetric> = Box::new(alloc, metric)?;
     let (name, help) = (String::from_str(alloc, "g")?, String::from_str(alloc, "H")?);
     let (has_read, registered) = beside_reader(&rt, &global, &stage, || {
-        register(&rt, alloc, &global, name, help, metric)
+        register(&rt, &global, name, help, metric)
     });
     registered?;
     assert!(rt; has_read);

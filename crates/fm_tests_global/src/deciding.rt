@@ -40,7 +40,6 @@ fn registering_decides(rt: HostRuntime) -> Result<(), Fail> {
     let (name, help) = (String::from_str(alloc, "g")?, String::from_str(alloc, "H")?);
     register(
         &rt,
-        alloc,
         &global,
         name,
         help,
@@ -60,7 +59,7 @@ fn registering_with_a_unit_decides(rt: HostRuntime) -> Result<(), Fail> {
     let global: GlobalRegistry = GlobalRegistry::new();
     let (name, help) = (String::from_str(alloc, "g")?, String::from_str(alloc, "H")?);
     let metric: Box<dyn EncodeMetric> = Box::new(alloc, ConstGauge::new(7i64))?;
-    register_with_unit(&rt, alloc, &global, name, help, Unit::Bytes, metric)?;
+    register_with_unit(&rt, &global, name, help, Unit::Bytes, metric)?;
     expect_decided(
         &rt,
         alloc,
@@ -75,7 +74,7 @@ fn registering_a_metric_decides(rt: HostRuntime) -> Result<(), Fail> {
     let global: GlobalRegistry = GlobalRegistry::new();
     let (name, help) = (String::from_str(alloc, "g")?, String::from_str(alloc, "H")?);
     let metric: Box<dyn EncodeMetric> = Box::new(alloc, ConstGauge::new(7i64))?;
-    register_metric(&rt, alloc, &global, name, help, None, metric)?;
+    register_metric(&rt, &global, name, help, None, metric)?;
     expect_decided(
         &rt,
         alloc,
@@ -108,7 +107,7 @@ fn a_refused_registration_decides(rt: HostRuntime) -> Result<(), Fail> {
         String::from_str(alloc, "H")?,
     );
     let metric: Box<dyn EncodeMetric> = Box::new(alloc, ConstGauge::new(7i64))?;
-    assert!(rt; register_metric(&rt, alloc, &global, name, help, None, metric).is_err());
+    assert!(rt; register_metric(&rt, &global, name, help, None, metric).is_err());
     expect_decided(&rt, alloc, &global, "# EOF\n")
 }
 
@@ -195,7 +194,7 @@ fn a_registry_that_was_set_is_lent(rt: HostRuntime) -> Result<(), Fail> {
         |registry: &mut Registry| -> Result<(), RegistryError>
             requires { HasHistory registry.old }
             ensures { HasHistory registry.new }
-        { registry.register(alloc, name, help, metric) },
+        { registry.register(name, help, metric) },
     )?;
     let is_first = with_global_registry(&rt, &global, |registry: &Registry| {
         registry.namespace() == Some("first")

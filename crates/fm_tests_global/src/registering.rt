@@ -23,7 +23,6 @@ fn a_metric_is_registered_once(rt: HostRuntime) -> Result<(), Fail> {
     );
     register(
         &rt,
-        alloc,
         &global,
         name,
         help,
@@ -34,7 +33,7 @@ fn a_metric_is_registered_once(rt: HostRuntime) -> Result<(), Fail> {
         String::from_str(alloc, "again")?,
     );
     let metric: Box<dyn EncodeMetric> = Box::new(alloc, ConstGauge::new(2i64))?;
-    let again = register_metric(&rt, alloc, &global, name, help, None, metric);
+    let again = register_metric(&rt, &global, name, help, None, metric);
     assert!(rt; matches!(again, Err(RegistryError::AlreadyExists { .. })));
     let metric: Box<dyn EncodeMetric> = Box::new(alloc, ConstGauge::new(3i64))?;
     let again = register_global(&rt, alloc, &global, &One::new("up", metric));
@@ -62,7 +61,7 @@ fn metrics_go_on_after_those_of_others(rt: HostRuntime) -> Result<(), Fail> {
         |registry: &mut Registry| -> Result<(), RegistryError>
             requires { HasHistory registry.old }
             ensures { HasHistory registry.new }
-        { registry.register(alloc, name, help, metric) },
+        { registry.register(name, help, metric) },
     )?;
     expect_text(
         document(&rt, alloc, &global)?.as_str(),
@@ -78,7 +77,7 @@ fn a_type_is_read_once(rt: HostRuntime) -> Result<(), Fail> {
     let (name, help) = (String::from_str(alloc, "g")?, String::from_str(alloc, "H")?);
     let fickle = Fickle::new(MetricType::Gauge, MetricType::Counter);
     let metric: Box<dyn EncodeMetric> = Box::new(alloc, fickle)?;
-    register_metric(&rt, alloc, &global, name, help, None, metric)?;
+    register_metric(&rt, &global, name, help, None, metric)?;
     expect_text(
         document(&rt, alloc, &global)?.as_str(),
         "# TYPE g gauge\n# HELP g H\ng 5\n# EOF\n",

@@ -76,7 +76,7 @@ fn add_gauge<M: Drop>(
         return Ok(());
     };
     let (name, help) = (owned(alloc, name)?, owned(alloc, "H")?);
-    registry.add_metric(alloc, name, help, MetricType::Gauge, None, gauge)
+    registry.add_metric(name, help, MetricType::Gauge, None, gauge)
 }
 
 fn owned(alloc: Global, text: &str) -> Result<String, RegistryError> {

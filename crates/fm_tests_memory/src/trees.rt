@@ -265,12 +265,12 @@ fn run_calls(
     requires { HasHistory registry.old }
     ensures { HasHistory registry.new }
 {
-    if let Ok(answers) = registry.run(alloc, calls) {
+    if let Ok(answers) = registry.run(calls) {
         return Ok(answers);
     }
     patience.bear()?;
     expect_document(alloc, registry, NOTHING)?;
-    let answers = registry.run(alloc, spare)?;
+    let answers = registry.run(spare)?;
     Ok(answers)
 }
 

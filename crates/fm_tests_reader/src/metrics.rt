@@ -48,11 +48,7 @@ fn metric_at(
 // Makes the calls, and compares what is read of the registry's document with what is collected. It has this number of families.
 fn is_read_back(alloc: Global, calls: Vec<RegistryCall>, families: usize) -> Result<bool, Fail> {
     let mut registry = Registry::default();
-    if registry
-        .run(alloc, calls)?
-        .iter()
-        .any(|answer| answer.is_err())
-    {
+    if registry.run(calls)?.iter().any(|answer| answer.is_err()) {
         return Err(Fail::new("a call was refused"));
     }
     let text = document_of(alloc, &registry)?;

@@ -22,7 +22,7 @@ pub(crate) fn all_refused(
 fn six_calls_as_a_list(rt: HostRuntime) -> Result<(), Fail> {
     let alloc = rt.alloc();
     let mut registry = root(alloc, "myapp", &[])?;
-    let answers = registry.run(alloc, six_calls(alloc)?)?;
+    let answers = registry.run(six_calls(alloc)?)?;
     assert!(rt; have_numbers(&answers, &[10, 0, 0, 8, 0, 4]));
     assert!(rt; all_refused(&answers, &[(0, 10, "db"), (3, 8, "1x"), (5, 4, "up")]));
     expect_document_of(
@@ -51,7 +51,7 @@ fn calls_at_depth(alloc: Global) -> Result<Vec<RegistryCall>, AllocError> {
 fn first_missing_name(rt: HostRuntime) -> Result<(), Fail> {
     let alloc = rt.alloc();
     let mut registry = Registry::default();
-    let answers = registry.run(alloc, calls_at_depth(alloc)?)?;
+    let answers = registry.run(calls_at_depth(alloc)?)?;
     assert!(rt; have_numbers(&answers, &[0, 0, 10, 10, 10, 0]));
     assert!(rt; all_refused(&answers, &[(2, 10, "c"), (3, 10, "d"), (4, 10, "b")]));
     expect_document_of(
@@ -74,7 +74,7 @@ fn bad_calls_at_no_path(alloc: Global) -> Result<Vec<RegistryCall>, AllocError> 
 fn missing_paths_before_names_and_labels(rt: HostRuntime) -> Result<(), Fail> {
     let alloc = rt.alloc();
     let mut registry = Registry::default();
-    let answers = registry.run(alloc, bad_calls_at_no_path(alloc)?)?;
+    let answers = registry.run(bad_calls_at_no_path(alloc)?)?;
     assert!(rt;
         all_refused(
             &answers,
@@ -92,7 +92,7 @@ fn a_type_is_read_once_in_a_run(rt: HostRuntime) -> Result<(), Fail> {
     let mut calls: Vec<RegistryCall> = Vec::new(alloc);
     calls.push(metric_at(alloc, &[], "g", fickle)?)?;
     let mut registry = Registry::default();
-    let answers = registry.run(alloc, calls)?;
+    let answers = registry.run(calls)?;
     assert!(rt; have_numbers(&answers, &[0]));
     expect_document_of(alloc, &registry, "# TYPE g gauge\n# HELP g H\ng 5\n# EOF\n")
 }

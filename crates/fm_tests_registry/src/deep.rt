@@ -37,7 +37,7 @@ fn missing_paths_before_depth(rt: HostRuntime) -> Result<(), Fail> {
     let mut calls = one_in_another(alloc)?;
     calls.push(subsystem(alloc, path_to_nothing(alloc)?, "c")?)?;
     let mut registry = Registry::default();
-    let answers = registry.run(alloc, calls)?;
+    let answers = registry.run(calls)?;
     assert!(rt; all_refused(&answers, &[(64, 10, "b")]));
     Ok(())
 }

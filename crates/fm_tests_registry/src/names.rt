@@ -27,7 +27,7 @@ fn calls_with_taken_names(alloc: Global) -> Result<Vec<RegistryCall>, AllocError
 fn taken_names_in_a_run(rt: HostRuntime) -> Result<(), Fail> {
     let alloc = rt.alloc();
     let mut registry = Registry::default();
-    let answers = registry.run(alloc, calls_with_taken_names(alloc)?)?;
+    let answers = registry.run(calls_with_taken_names(alloc)?)?;
     assert!(rt; have_numbers(&answers, &[0, 12, 0, 12, 10, 0]));
     assert!(rt; all_refused(&answers, &[(1, 12, "db_up"), (3, 12, "up")]));
     expect_document_of(

@@ -27,7 +27,7 @@ fn is_mysql(below: &Subsystem) -> bool {
 // Fails where a registry does not have it. It is made where it is not there.
 fn expect_mysql(alloc: Global, db: &mut Registry) -> Result<(), Fail> {
     let name = String::from_str(alloc, "mysql")?;
-    if is_mysql(db.subsystem(alloc, name)?) {
+    if is_mysql(db.subsystem(name)?) {
         Ok(())
     } else {
         Err(Fail::new("another name, namespace or label"))
@@ -37,14 +37,14 @@ fn expect_mysql(alloc: Global, db: &mut Registry) -> Result<(), Fail> {
 // The same of the registry above.
 fn expect_mysql_below(alloc: Global, registry: &mut Registry) -> Result<(), Fail> {
     let name = String::from_str(alloc, "db")?;
-    expect_mysql(alloc, registry.subsystem(alloc, name)?)
+    expect_mysql(alloc, registry.subsystem(name)?)
 }
 
 #[test]
 fn what_nested_subsystems_say(rt: HostRuntime) -> Result<(), Fail> {
     let alloc = rt.alloc();
     let mut registry = root(alloc, "myapp", &[("env", "dev")])?;
-    registry.run(alloc, calls_for_a_database(alloc)?)?;
+    registry.run(calls_for_a_database(alloc)?)?;
     expect_mysql_below(alloc, &mut registry)?;
     expect_mysql_below(alloc, &mut registry)
 }

@@ -45,7 +45,7 @@ fn expect_below(
     labels: &[(&str, &str)],
 ) -> Result<(), Fail> {
     let text = String::from_str(alloc, name)?;
-    if is_below(registry.subsystem(alloc, text)?, name, namespace, labels) {
+    if is_below(registry.subsystem(text)?, name, namespace, labels) {
         Ok(())
     } else {
         Err(Fail::new("another name, namespace or label"))
@@ -56,7 +56,7 @@ fn expect_below(
 fn what_subsystems_say(rt: HostRuntime) -> Result<(), Fail> {
     let alloc = rt.alloc();
     let mut registry = root(alloc, "myapp", &[("env", "dev"), ("region", "us-west")])?;
-    registry.run(alloc, calls_for_a_cache(alloc)?)?;
+    registry.run(calls_for_a_cache(alloc)?)?;
     let labels = [("env", "prod"), ("region", "us-west"), ("type", "redis")];
     expect_below(alloc, &mut registry, "cache", "myapp_cache", &labels)
 }

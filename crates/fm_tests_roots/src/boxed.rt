@@ -56,6 +56,6 @@ fn boxed_and_unboxed(rt: HostRuntime) -> Result<(), Fail> {
         calls.push(registering(alloc, name, metric)?)?;
     }
     let mut registry = Registry::default();
-    registry.run(alloc, calls)?;
+    registry.run(calls)?;
     expect_root(alloc, &root, document_of(alloc, &registry)?.as_str())
 }

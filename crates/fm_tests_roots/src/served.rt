@@ -258,7 +258,7 @@ fn expect_served(
 ) -> Result<(), Fail>
     requires { HasHistory registry.old }
 {
-    registry.run(alloc, calls)?;
+    registry.run(calls)?;
     expect_document_of(alloc, registry, DOCUMENT)
 }
 

@@ -33,7 +33,7 @@ fn subsystems(alloc: Global, count: u32) -> Result<Vec<RegistryCall>, AllocError
 // The document of a root after these calls, all of which are accepted.
 fn document_after(alloc: Global, calls: Vec<RegistryCall>) -> Result<String, Fail> {
     let mut registry = Registry::default();
-    let answers = registry.run(alloc, calls)?;
+    let answers = registry.run(calls)?;
     if answers.iter().any(|answer| answer.is_err()) {
         return Err(Fail::new("a call was refused"));
     }

@@ -196,11 +196,11 @@ fn metric_call<M: Drop>(
 }
 
 // Makes all calls, which are accepted.
-fn filled(alloc: Global, mut registry: Registry, calls: Vec<RegistryCall>) -> Result<Registry, Fail>
+fn filled(mut registry: Registry, calls: Vec<RegistryCall>) -> Result<Registry, Fail>
     requires { HasHistory registry }
     ensures { IfOk result HasHistory }
 {
-    let answers = registry.run(alloc, calls)?;
+    let answers = registry.run(calls)?;
     if answers.iter().any(|answer| answer.is_err()) {
         return Err(Fail::new("a call was refused"));
     }
@@ -287,7 +287,7 @@ fn application(alloc: Global) -> Result<Registry, Fail>
         .with_namespace(namespace)?
         .with_const_labels(env)?
         .build()?;
-    filled(alloc, root, application_calls(alloc)?)
+    filled(root, application_calls(alloc)?)
 }
 
 #[test]

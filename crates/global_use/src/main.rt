@@ -40,7 +40,7 @@ fn main(rt: HostRuntime) -> anyhow::Result<()> {
     let metric: Box<dyn EncodeMetric> = Box::new(alloc, requests.clone()?)?;
     let name = String::from_str(alloc, "requests")?;
     let help = String::from_str(alloc, "Requests to the server")?;
-    register_metric(&rt, alloc, &global, name, help, None, metric)?;
+    register_metric(&rt, &global, name, help, None, metric)?;
 
     requests.inc();
     rt.stdout()

@@ -25,7 +25,7 @@ fn main(rt: HostRuntime) -> anyhow::Result<()> {
     let name = String::from_str(alloc, "received_bytes")?;
     let help = String::from_str(alloc, "Bytes that were received")?;
     let counter = ConstCounter::new(received.total);
-    registry.register(alloc, name, help, Box::new(alloc, counter)?)?;
+    registry.register(name, help, Box::new(alloc, counter)?)?;
     encode(alloc, &mut rt.stdout(), &registry)?;
     Ok(())
 }

@@ -49,7 +49,6 @@ fn add_batch<K: TallyKey, R: Wait>(
 fn start_all<'s, E, K: TallyKey + Send + Sync, R: Wait + Sync>(
     scope: &Scope<'s, E>,
     rt: &'s R,
-    alloc: Global,
     tally: &'s Tally<K>,
     mut shares: Vec<Share<K>>,
     batches: &'s [Vec<u64>],
@@ -59,7 +58,7 @@ fn start_all<'s, E, K: TallyKey + Send + Sync, R: Wait + Sync>(
     ensures batch { IfOk result (λ v. (k : ℕ) (d : _) (e : _) → k < vec_len v
         → (slice_index_or v.items k d).promise.batch.now ≡ (slice_index_or batches.now k e).items) }
 {
-    let mut workers = Vec::with_capacity(alloc, batches.len())?;
+    let mut workers = Vec::with_capacity(*shares.allocator(), batches.len())?;
     for index in 0..batches.len() {
         let batch = batches[index].as_slice();
         let Some(share) = shares.pop() else {
@@ -81,7 +80,6 @@ fn start_all<'s, E, K: TallyKey + Send + Sync, R: Wait + Sync>(
 fn join_all<'s, E, K: TallyKey + Send + Sync, R: Threads + Wait + Sync>(
     scope: &Scope<'s, E>,
     rt: &'s R,
-    alloc: Global,
     tally: &'s Tally<K>,
     shares: Vec<Share<K>>,
     mut watch: Share<K>,
@@ -94,7 +92,7 @@ fn join_all<'s, E, K: TallyKey + Send + Sync, R: Threads + Wait + Sync>(
         (λ share. share.amount ≡ sum (slice_index_or batches.now k e).items)) }
     ensures watch { IfOk result (λ r. r.1.amount ≡ watch.amount) }
 {
-    let workers = start_all(scope, rt, alloc, tally, shares, batches)?;
+    let workers = start_all(scope, rt, tally, shares, batches)?;
     tally.total(rt, &mut watch);
     match thread::join_promised(rt, workers) {
         Ok(done) => Ok((done, watch)),
@@ -105,7 +103,6 @@ fn join_all<'s, E, K: TallyKey + Send + Sync, R: Threads + Wait + Sync>(
 // Runs all workers at the same time.
 fn run_all<'a, K: TallyKey + Send + Sync, R: Threads + Wait + Sync>(
     rt: &'a R,
-    alloc: Global,
     tally: &'a Tally<K>,
     shares: Vec<Share<K>>,
     watch: Share<K>,
@@ -128,7 +125,7 @@ fn run_all<'a, K: TallyKey + Send + Sync, R: Threads + Wait + Sync>(
                 → IfOk (slice_index_or r.0.items k d) (λ share. share.amount
                 ≡ sum (slice_index_or batches.entry.now k e).items))
                 × (r.1.amount ≡ watch.amount)) }
-        { join_all(scope, rt, alloc, tally, shares, watch, batches) },
+        { join_all(scope, rt, tally, shares, watch, batches) },
     )
 }
 
@@ -166,7 +163,7 @@ pub fn count_all<K: TallyKey + Send + Sync, R: Threads + Wait + Sync>(
     let Some(watch) = shares.pop() else {
         return Err(TallyError::MissingShares);
     };
-    let (done, watch) = run_all(rt, alloc, &tally, shares, watch, batches)?;
+    let (done, watch) = run_all(rt, &tally, shares, watch, batches)?;
     let so_far = watch.seen();
     let mut shares = gather(alloc, done)?;
     shares.push(watch)?;

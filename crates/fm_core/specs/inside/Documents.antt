@@ -13,6 +13,12 @@ use Rattle.fm_encoder.specs.Gathered.{GatheredMembers}
 use Rattle.fm_core.specs.Families.{Heading}
 use Rattle.fm_core.specs.Admits.{IsFamilyOf, Admits}
 
+-- what is listed of a metric besides the metric itself
+abbrev pub heading_of : {M : Type 0} → Listed M → Heading
+heading_of l =
+    let r = l.registration in
+    record { namespace = l.namespace; labels = l.labels; registration = record { name = r.name; help = r.help; metric_type = r.metric_type; unit = r.unit; metric = tt {0} } }
+
 -- the lines under a heading that come before its samples
 abbrev pub heading_rows : Heading → Text
 heading_rows heading =

@@ -11,7 +11,7 @@ ghost use Rattle.fm_registry_model.specs.Tree.{Shows};
 ghost use Rattle.fm_registry.specs.Seen.{seen_listed};
 ghost use Rattle.fm_registry.specs.HasHistory.{HasHistory};
 ghost use Rattle.fm_core.specs.Families.{heading_in, AddsFamily, FaultUnder};
-ghost use Rattle.fm_core.specs.Admits.{Admits, AdmitsNext, FaultOf, Fault};
+ghost use Rattle.fm_core.specs.Admits.{AdmittedBy, AdmitsNext, FaultOf, Fault};
 ghost use Rattle.fm_core.specs.Encoded.{WritesAdmitted, BeginsAdmitted};
 
 use crate::document::{document_lines, write_lines};
@@ -76,8 +76,8 @@ fn encode_listed<'a, M: EncodeMetric>(
 {
     encode_under(
         encoder,
-        listed.namespace.as_deref(),
-        listed.constant_labels(),
+        listed.namespace,
+        listed.const_labels,
         listed.metadata,
         listed.metric,
     )
@@ -94,8 +94,8 @@ pub fn collect<M: EncodeMetric>(
 ) -> Result<Exposition, EncodeError>
     requires { HasHistory registry.now }
     // Every history that the registry reads admits the exposition.
-    ensures admitted { IfOk result (λ e. (b : _) → Shows registry.now b
-        → Admits (λ m. M.offers m) (λ m. M.stamps m) (λ m. M.may_be_empty m) (order b) e) }
+    ensures admitted { IfOk result
+        (AdmittedBy (λ m. M.offers m) (λ m. M.stamps m) (λ m. M.may_be_empty m) registry.now) }
     // A refusal names a fault that the tree has.
     ensures fault { IfErr result (λ k. (k ≡ EncodeError.Memory)
         ⊎ ((b : _) → Shows registry.now b
@@ -125,8 +125,7 @@ pub fn encode<W: Write, M: EncodeMetric>(
     requires { HasHistory registry.now }
     // The document, and nothing else, of an exposition that every history of the registry admits, and of no other exposition.
     ensures document { OnOk result (WritesAdmitted
-        (λ e. (b : _) → Shows registry.now b
-        → Admits (λ m. M.offers m) (λ m. M.stamps m) (λ m. M.may_be_empty m) (order b) e)
+        (AdmittedBy (λ m. M.offers m) (λ m. M.stamps m) (λ m. M.may_be_empty m) registry.now)
         (W.contents writer.old) (W.contents writer.new)) }
     // A refusal in collecting writes nothing, and names a fault that the tree has.
     ensures refused { IfErr result (λ k. ¬ (IsWritersFault k)
@@ -136,8 +135,7 @@ pub fn encode<W: Write, M: EncodeMetric>(
         → Fault k (λ m. M.offers m) (λ m. M.stamps m) (λ m. M.may_fault m) (order b)))) }
     // After an error of the writer, a beginning of such a document was written.
     ensures stopped { IfErr result (λ k. IsWritersFault k → BeginsAdmitted
-        (λ e. (b : _) → Shows registry.now b
-        → Admits (λ m. M.offers m) (λ m. M.stamps m) (λ m. M.may_be_empty m) (order b) e)
+        (AdmittedBy (λ m. M.offers m) (λ m. M.stamps m) (λ m. M.may_be_empty m) registry.now)
         (W.contents writer.old) (W.contents writer.new)) }
 {
     let lines = document_lines(alloc, registry)?;

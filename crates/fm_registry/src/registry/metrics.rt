@@ -5,7 +5,7 @@ ghost use Rattle.std.specs.String.{string_bytes};
 ghost use Rattle.fm_raw.specs.Units.{seen_unit};
 ghost use Rattle.indexmap.specs.IndexMap.{get};
 ghost use Rattle.fm_registry_model.specs.Registration.{is_same_metric};
-ghost use Rattle.fm_registry_model.specs.Answer.{refusal_of, has_metric, metric_refusal, IsAnswered, answer, after};
+ghost use Rattle.fm_registry_model.specs.Answer.{refusal_of, has_metric, IsAnswered, answer, after};
 ghost use Rattle.fm_registry_model.specs.inside.Refusals.{name_refusal, standing_refusal};
 ghost use Rattle.fm_registry_model.specs.History.{Register};
 ghost use Rattle.fm_registry_model.specs.Tree.{Reads, names_in};
@@ -142,33 +142,10 @@ impl<M: Drop> Registry<M> {
         insert_metric(&mut self.metrics, alloc, key, metric, is_below)
     }
 
-    // Adds a metric. Stated of the tree alone.
-    fn insert_here(
-        &mut self,
-        alloc: Global,
-        name: String,
-        help: String,
-        metric_type: MetricType,
-        unit: Option<Unit>,
-        metric: M,
-    ) -> Result<(), RegistryError>
-        ensures answer { IsAnswered (refusal_of result)
-            (metric_refusal self.old.facts.metrics (names_in self.old.children)
-            (seen_metric (asked name help metric_type unit) metric)) }
-        ensures ok { OnOk result
-            (self.new
-            ≡ with_metric self.old (seen_metric (asked name help metric_type unit) metric)) }
-        ensures err { OnErr result (self.new ≡ self.old) }
-    {
-        let metadata = named_metric(name, help, metric_type, unit)?;
-        self.insert_named(alloc, metadata, metric)
-    }
-
     /// Registers a metric with the type that the caller has read from it. It fails as `register_metric` does. For
     /// shared registries, where the lock is taken after the type is known.
     pub fn add_metric(
         &mut self,
-        alloc: Global,
         name: String,
         help: String,
         metric_type: MetricType,
@@ -186,7 +163,9 @@ impl<M: Drop> Registry<M> {
         ensures grows { Grows self.old self.new }
         ensures sound { HasHistory self.old → HasHistory self.new }
     {
-        self.insert_here(alloc, name, help, metric_type, unit, metric)
+        let alloc = *name.allocator();
+        let metadata = named_metric(name, help, metric_type, unit)?;
+        self.insert_named(alloc, metadata, metric)
     }
 }
 
@@ -203,7 +182,6 @@ impl Registry {
     /// first three errors allocate nothing. At an error the metric is dropped, and the registry stays as it was.
     pub fn register_metric(
         &mut self,
-        alloc: Global,
         name: String,
         help: String,
         unit: Option<Unit>,
@@ -216,13 +194,12 @@ impl Registry {
         ensures sound { HasHistory self.old → HasHistory self.new }
     {
         let metric_type = metric.metric_type();
-        self.add_metric(alloc, name, help, metric_type, unit, metric)
+        self.add_metric(name, help, metric_type, unit, metric)
     }
 
     /// Like `register_metric`, with a unit.
     pub fn register_with_unit(
         &mut self,
-        alloc: Global,
         name: String,
         help: String,
         unit: Unit,
@@ -234,13 +211,12 @@ impl Registry {
         ensures grows { Grows self.old self.new }
         ensures sound { HasHistory self.old → HasHistory self.new }
     {
-        self.register_metric(alloc, name, help, Some(unit), metric)
+        self.register_metric(name, help, Some(unit), metric)
     }
 
     /// Like `register_metric`, without a unit.
     pub fn register(
         &mut self,
-        alloc: Global,
         name: String,
         help: String,
         metric: Box<dyn EncodeMetric>,
@@ -251,6 +227,6 @@ impl Registry {
         ensures grows { Grows self.old self.new }
         ensures sound { HasHistory self.old → HasHistory self.new }
     {
-        self.register_metric(alloc, name, help, None, metric)
+        self.register_metric(name, help, None, metric)
     }
 }

@@ -17,7 +17,6 @@ use super::Registry;
 use fm_encoder::EncodeMetric;
 use fm_raw::{MetricType, Unit};
 use fm_registry_model::RegistryError;
-use std::alloc::Global;
 
 /// A call at the registry that a path of subsystem names leads to, starting from the registry that runs the call.
 #[derive(Drop)]
@@ -56,12 +55,7 @@ enum Request<M> {
 
 impl<M: Drop> Registry<M> {
     // Creates a subsystem if it does not exist. Stated of the tree alone.
-    fn ask_here(
-        &mut self,
-        alloc: Global,
-        name: String,
-        labels: Vec<(String, String)>,
-    ) -> Result<(), RegistryError>
+    fn ask_here(&mut self, name: String, labels: Vec<(String, String)>) -> Result<(), RegistryError>
         ensures answer { IsAnswered (refusal_of result)
             (subsystem_refusal self.old.facts.depth self.old.facts.metrics
             (names_in self.old.children) (string_bytes name) (labels_of labels.items)) }
@@ -72,7 +66,7 @@ impl<M: Drop> Registry<M> {
             (self.new ≡ with_subsystem self.old (string_bytes name) (labels_of labels.items)) }
         ensures err { OnErr result (self.new ≡ self.old) }
     {
-        match self.add_subsystem(alloc, name, labels) {
+        match self.add_subsystem(name, labels) {
             Ok(_) => Ok(()),
             Err(e) => Err(e),
         }
@@ -81,7 +75,6 @@ impl<M: Drop> Registry<M> {
     // The same, stated for every history that the tree reads.
     fn ask_subsystem(
         &mut self,
-        alloc: Global,
         name: String,
         labels: Vec<(String, String)>,
     ) -> Result<(), RegistryError>
@@ -94,11 +87,11 @@ impl<M: Drop> Registry<M> {
             (after b (AskSubsystem [] (string_bytes name) (labels_of labels.items)))) }
         ensures err { OnErr result (self.new ≡ self.old) }
     {
-        self.ask_here(alloc, name, labels)
+        self.ask_here(name, labels)
     }
 
     // Applies a request to this registry.
-    fn apply_here(&mut self, alloc: Global, request: Request<M>) -> Result<(), RegistryError>
+    fn apply_here(&mut self, request: Request<M>) -> Result<(), RegistryError>
         ensures reply { (b : _) → Reads self.old b
             → IsReply (refusal_of result) b (call_at [] request) }
         ensures ok { OnOk result
@@ -113,18 +106,13 @@ impl<M: Drop> Registry<M> {
                 metric_type,
                 unit,
                 metric,
-            } => self.add_metric(alloc, name, help, metric_type, unit, metric),
-            Request::Subsystem { name, labels } => self.ask_subsystem(alloc, name, labels),
+            } => self.add_metric(name, help, metric_type, unit, metric),
+            Request::Subsystem { name, labels } => self.ask_subsystem(name, labels),
         }
     }
 
     // Applies a request at the end of a path, whose names are in reverse order.
-    fn apply(
-        &mut self,
-        alloc: Global,
-        mut path: Vec<String>,
-        request: Request<M>,
-    ) -> Result<(), RegistryError>
+    fn apply(&mut self, mut path: Vec<String>, request: Request<M>) -> Result<(), RegistryError>
         ensures reply { (b : _) → Reads self.old b
             → IsReply (refusal_of result) b (call_at (path_of path.items) request) }
         ensures ok { OnOk result
@@ -133,10 +121,10 @@ impl<M: Drop> Registry<M> {
         ensures err { OnErr result (self.new ≡ self.old) }
     {
         match path.pop() {
-            None => self.apply_here(alloc, request),
+            None => self.apply_here(request),
             Some(name) => match self.place_of(name.as_str()) {
                 None => Err(RegistryError::NoSuchSubsystem { name }),
-                Some(place) => self.subsystem_at(place).apply(alloc, path, request),
+                Some(place) => self.subsystem_at(place).apply(path, request),
             },
         }
     }
@@ -146,16 +134,16 @@ impl<M: EncodeMetric> Registry<M> {
     /// Makes one call, and returns its reply: that of `register_metric` or of a subsystem builder at the registry that the
     /// path leads to, or `NoSuchSubsystem` with the first name on the path that does not exist. A call that fails changes
     /// nothing.
-    pub fn run_call(&mut self, alloc: Global, call: RegistryCall<M>) -> Result<(), RegistryError>
+    pub fn run_call(&mut self, call: RegistryCall<M>) -> Result<(), RegistryError>
         ensures runs { RunsCall M.types call self.old self.new result }
         ensures grows { Grows self.old self.new }
         ensures sound { HasHistory self.old → HasHistory self.new }
     {
-        self.apply_call(alloc, call)
+        self.apply_call(call)
     }
 
     // Makes one call.
-    fn apply_call(&mut self, alloc: Global, call: RegistryCall<M>) -> Result<(), RegistryError>
+    fn apply_call(&mut self, call: RegistryCall<M>) -> Result<(), RegistryError>
         ensures { RunsCall M.types call self.old self.new result }
     {
         match call {
@@ -175,7 +163,7 @@ impl<M: EncodeMetric> Registry<M> {
                     unit,
                     metric,
                 };
-                self.apply(alloc, path, request)
+                self.apply(path, request)
             }
             RegistryCall::Subsystem {
                 mut path,
@@ -183,7 +171,7 @@ impl<M: EncodeMetric> Registry<M> {
                 labels,
             } => {
                 path.reverse();
-                self.apply(alloc, path, Request::Subsystem { name, labels })
+                self.apply(path, Request::Subsystem { name, labels })
             }
         }
     }
@@ -199,7 +187,6 @@ impl Registry {
     /// that exists.
     pub fn run(
         &mut self,
-        alloc: Global,
         calls: Vec<RegistryCall>,
     ) -> Result<Vec<Result<(), RegistryError>>, RegistryError>
         ensures replies { IfOk result
@@ -210,14 +197,12 @@ impl Registry {
         ensures grows { Grows self.old self.new }
         ensures sound { HasHistory self.old → HasHistory self.new }
     {
-        let Ok(mut replies) = Vec::with_capacity(alloc, calls.len()) else {
+        let Ok(mut replies) = Vec::with_capacity(*calls.allocator(), calls.len()) else {
             return Err(RegistryError::Memory);
         };
         for call in calls {
-            let reply = self.run_call(alloc, call);
-            if let Err(_) = replies.push(reply) {
-                return Ok(replies);
-            }
+            let reply = self.run_call(call);
+            replies.push_reserved(reply);
         }
         Ok(replies)
     }

@@ -18,13 +18,11 @@ use crate::labels::tested_labels;
 use fm_encoder::EncodeMetric;
 use fm_raw::is_snake_case;
 use fm_registry_model::RegistryError;
-use std::alloc::Global;
 
 /// Sets up a subsystem of a registry. It borrows the registry until the subsystem is built.
 #[derive(Drop)]
 pub struct RegistrySubsystemBuilder<'a, M = Box<dyn EncodeMetric>> {
     registry: &'a mut Registry<M>,
-    alloc: Global,
     name: String,
     labels: Vec<(String, String)>,
 }
@@ -32,7 +30,6 @@ pub struct RegistrySubsystemBuilder<'a, M = Box<dyn EncodeMetric>> {
 // A builder with tested labels.
 fn begin<'a, M: Drop>(
     registry: &'a mut Registry<M>,
-    alloc: Global,
     name: String,
     labels: Vec<(String, String)>,
 ) -> Result<RegistrySubsystemBuilder<'a, M>, RegistryError>
@@ -46,7 +43,6 @@ fn begin<'a, M: Drop>(
     let labels = tested_labels(labels)?;
     Ok(RegistrySubsystemBuilder {
         registry,
-        alloc,
         name,
         labels,
     })
@@ -59,7 +55,6 @@ impl<M: Drop> Registry<M> {
     /// registries below the root (`TooDeep`). At an error the registry stays as it was. It allocates nothing.
     pub fn subsystem_builder(
         &mut self,
-        alloc: Global,
         name: String,
     ) -> Result<RegistrySubsystemBuilder<'_, M>, RegistryError>
         ensures* unchanged_at_err { sem 𝓛 (rests_if_refused M.row self.entry result) }
@@ -76,9 +71,9 @@ impl<M: Drop> Registry<M> {
         if self.depth >= DEPTH_LIMIT {
             return Err(RegistryError::TooDeep { name });
         }
+        let alloc = *name.allocator();
         Ok(RegistrySubsystemBuilder {
             registry: self,
-            alloc,
             name,
             labels: Vec::new(alloc),
         })
@@ -102,13 +97,8 @@ impl<'a, M: Drop> RegistrySubsystemBuilder<'a, M> {
         ensures labels { IfOk result (λ b. b.labels ≡ labels) }
         ensures answer { refusal_of result ≡ first_bad_label (labels_of labels.items) }
     {
-        let RegistrySubsystemBuilder {
-            registry,
-            alloc,
-            name,
-            ..
-        } = self;
-        begin(registry, alloc, name, labels)
+        let RegistrySubsystemBuilder { registry, name, .. } = self;
+        begin(registry, name, labels)
     }
 
     /// Returns the subsystem with this name. If it does not exist, it is created: its labels are the registry's with
@@ -143,10 +133,9 @@ impl<'a, M: Drop> RegistrySubsystemBuilder<'a, M> {
     {
         let RegistrySubsystemBuilder {
             registry,
-            alloc,
             name,
             labels,
         } = self;
-        registry.labelled_subsystem(alloc, name, labels)
+        registry.labelled_subsystem(name, labels)
     }
 }

@@ -78,7 +78,6 @@ fn is_above_any<M>(metrics: &IndexMap<Tailed, M>, name: &str) -> bool
 // Adds a subsystem at the end and returns its index.
 fn push_subsystem<M>(
     subsystems: &mut Option<Vec<Subsystem<M>>>,
-    alloc: Global,
     subsystem: Subsystem<M>,
 ) -> Result<usize, RegistryError>
 where
@@ -88,6 +87,7 @@ where
     ensures ok { OnOk result (items_of subsystems.new ≡ items_of subsystems.old ++ subsystem ∷ []) }
     ensures err { OnErr result (items_of subsystems.new ≡ items_of subsystems.old) }
 {
+    let alloc = *subsystem.name.allocator();
     push_to(subsystems.get_or_insert_with(|| Vec::new(alloc)), subsystem)
 }
 
@@ -187,7 +187,6 @@ impl<M: Drop> Registry<M> {
     // Adds a subsystem whose name does not exist yet, and returns its index.
     fn new_place(
         &mut self,
-        alloc: Global,
         name: String,
         labels: Vec<(String, String)>,
     ) -> Result<usize, RegistryError>
@@ -205,12 +204,8 @@ impl<M: Drop> Registry<M> {
         if self.is_name_taken(name.as_str()) {
             return Err(RegistryError::NameTaken { name });
         }
-        match self.new_child(alloc, name.as_str(), labels) {
-            Ok(registry) => push_subsystem(
-                &mut self.subsystems,
-                alloc,
-                Subsystem { name, registry },
-            ),
+        match self.new_child(*name.allocator(), name.as_str(), labels) {
+            Ok(registry) => push_subsystem(&mut self.subsystems, Subsystem { name, registry }),
             Err(_) => Err(RegistryError::Memory),
         }
     }
@@ -218,7 +213,6 @@ impl<M: Drop> Registry<M> {
     // The index of the subsystem with this name, which is created if it does not exist.
     fn place_or_new(
         &mut self,
-        alloc: Global,
         name: String,
         labels: Vec<(String, String)>,
     ) -> Result<usize, RegistryError>
@@ -236,14 +230,13 @@ impl<M: Drop> Registry<M> {
     {
         match self.place_of(name.as_str()) {
             Some(place) => Ok(place),
-            None => self.new_place(alloc, name, labels),
+            None => self.new_place(name, labels),
         }
     }
 
     // Creates the subsystem with this name if it does not exist, and returns its index.
     pub(super) fn add_subsystem(
         &mut self,
-        alloc: Global,
         name: String,
         labels: Vec<(String, String)>,
     ) -> Result<usize, RegistryError>
@@ -266,13 +259,12 @@ impl<M: Drop> Registry<M> {
             return Err(RegistryError::TooDeep { name });
         }
         let labels = tested_labels(labels)?;
-        self.place_or_new(alloc, name, labels)
+        self.place_or_new(name, labels)
     }
 
     // Returns the subsystem with this name, which is created with these labels if it does not exist.
     pub(super) fn labelled_subsystem(
         &mut self,
-        alloc: Global,
         name: String,
         labels: Vec<(String, String)>,
     ) -> Result<&mut Subsystem<M>, RegistryError>
@@ -292,7 +284,7 @@ impl<M: Drop> Registry<M> {
             (after b (AskSubsystem [] (string_bytes name) (labels_of labels.items)))) }
         ensures sound { IfOk result (λ s. HasHistory self.old → HasHistory s.now.registry) }
     {
-        let place = self.add_subsystem(alloc, name, labels)?;
+        let place = self.add_subsystem(name, labels)?;
         Ok(self.subsystem_at(place))
     }
 
@@ -305,11 +297,7 @@ impl<M: Drop> Registry<M> {
     /// an underscore and its unit after it, or the name of another subsystem; or if it begins with another subsystem's
     /// name and an underscore. At an error the registry stays as it was. What is done to the subsystem becomes part of
     /// this registry. Returning an existing subsystem allocates nothing.
-    pub fn subsystem(
-        &mut self,
-        alloc: Global,
-        name: String,
-    ) -> Result<&mut Subsystem<M>, RegistryError>
+    pub fn subsystem(&mut self, name: String) -> Result<&mut Subsystem<M>, RegistryError>
         ensures* writes_back { sem 𝓛
             (lends_subsystem M.row self.entry (string_bytes name) [] result) }
         ensures answer { IsAnswered (refusal_of result)
@@ -325,7 +313,8 @@ impl<M: Drop> Registry<M> {
             (after b (AskSubsystem [] (string_bytes name) []))) }
         ensures sound { IfOk result (λ s. HasHistory self.old → HasHistory s.now.registry) }
     {
-        self.labelled_subsystem(alloc, name, Vec::new(alloc))
+        let alloc = *name.allocator();
+        self.labelled_subsystem(name, Vec::new(alloc))
     }
 }
 

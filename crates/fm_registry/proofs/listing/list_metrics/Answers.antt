@@ -7,8 +7,8 @@ use Rattle.fm_registry.proofs.listing.list_metrics.Goals as goal
 
 pub loop-index-preserved : goal.loop-index-preserved
 loop-index-preserved g c = elim c.match-get_index.branch [
-  | in-Some+in_ok-push w ↦ rw w.list-is (listed-metric w.push.new.self.items c.loop-index.list.items (record { namespace = c.args.namespace; const_labels = c.args.const_labels; metadata = w.metadata.result; metric = w.in-Some.metric }) (seen_list c.args.list.now.items) c.args.metrics.now.entries c.loop-index.index w.in-Some.key.now
-      c.loop-index.invariant (sym w.in-Some.ensures.entry) w.metadata.ensures w.in_ok-push.ensures.items)
+  | in-Some+in_ok-push w ↦ rw w.list-is (listed-metric w.push.new.self.items c.loop-index.list.items _ (seen_list c.args.list.now.items) c.args.metrics.now.entries c.loop-index.index w.in-Some.key.now
+      w.in_ok-push.ensures.items c.loop-index.invariant (sym w.in-Some.ensures.entry) w.metadata.ensures)
   | in_default w ↦
       let within : c.loop-index.index < index_map_len c.args.metrics.now = omega (arith, c.loop-index-test.true, c.len-index-end.ensures.len) in
       absurd (true≢false (sym (w.in_default.ensures.found.1 within)))

@@ -6,12 +6,12 @@ use Rattle.fm_registry.proofs.registry.run.Registry.run.Goals as goal
 
 pub loop-call-preserved : goal.loop-call-preserved
 loop-call-preserved g c =
-    let items = c.in_default-push.ensures.items in (
+    let items = c.push_reserved.ensures.items in (
       tt,
       tt,
-      same_length-push c.push.new.self.items c.loop-call.replies.items c.run_call-reply.result c.loop-call.yielded c.in-Some.call items c.loop-call.invariant.2,
-      omega (arith, c.push.ensures.capacity, c.loop-call.invariant.3),
-      RunsCalls-more _ c.loop-call.yielded c.in-Some.call c.args.self.now c.loop-call.self c.run_call-reply.new.self c.loop-call.replies.items c.push.new.self.items c.run_call-reply.result items c.loop-call.invariant.4 c.run_call-reply.ensures.runs,
+      same_length-push c.push_reserved.new.self.items c.loop-call.replies.items c.run_call-reply.result c.loop-call.yielded c.in-Some.call items c.loop-call.invariant.2,
+      omega (arith, c.push_reserved.ensures.capacity, c.loop-call.invariant.3),
+      RunsCalls-more _ c.loop-call.yielded c.in-Some.call c.args.self.now c.loop-call.self c.run_call-reply.new.self c.loop-call.replies.items c.push_reserved.new.self.items c.run_call-reply.result items c.loop-call.invariant.4 c.run_call-reply.ensures.runs,
     )
 
 pub returns-clause-sound : goal.returns-clause-sound
