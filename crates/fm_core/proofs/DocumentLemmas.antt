@@ -24,7 +24,7 @@ use Rattle.fm_registry.specs.Seen.{seen_list, seen_listed}
 use Rattle.fm_registry.specs.declared.listed.ListedMetric.{ListedMetric}
 use Rattle.fm_core.specs.Families.{Heading, FaultUnder}
 use Rattle.fm_core.specs.inside.Offered.{Offered}
-use Rattle.fm_core.specs.inside.Documents.{heading_rows, text_in, HasLines, AddsRows, AddsNextRows, IsTextOf}
+use Rattle.fm_core.specs.inside.Documents.{heading_rows, text_so_far, HasLines, AddsRows, AddsNextRows, IsTextOf}
 use Rattle.fm_core.proofs.OfferedLemmas.{Ends, Makes, offered_made}
 use Rattle.fm_core.proofs.CollectLemmas.{Admits-next, next_new}
 
@@ -40,7 +40,7 @@ listed-tail m =
     ∙ printed-tail (option_copied m.namespace) (string_bytes m.metadata.now.name) (printed_unit (option_map seen_unit m.metadata.now.unit))
 
 -- a heading's lines, and then those of the samples that the metric offered, are the lines of its family
-AddsRows-family : (Offers : Option ℕ → List Member → Type 0) (Stamps : Option ℕ → Type 0) (MayBeEmpty : Type 0) (heading : Heading) (old : Text) (output : Output) → IsListable heading → Offered Offers Stamps (listed_name heading) heading.registration.metric_type heading.labels (OutputText (old ++ heading_rows heading)) output → AddsRows Offers Stamps MayBeEmpty heading old (text_in output)
+AddsRows-family : (Offers : Option ℕ → List Member → Type 0) (Stamps : Option ℕ → Type 0) (MayBeEmpty : Type 0) (heading : Heading) (old : Text) (output : Output) → IsListable heading → Offered Offers Stamps (listed_name heading) heading.registration.metric_type heading.labels (OutputText (old ++ heading_rows heading)) output → AddsRows Offers Stamps MayBeEmpty heading old (text_so_far output)
 AddsRows-family Offers Stamps MayBeEmpty heading old output heads offered =
     let rows = sample_rows (listed_name heading) offered.samples in
     let family : Family = record { name = listed_name heading; metric_type = heading.registration.metric_type; help = heading.registration.help; unit = printed_unit heading.registration.unit; samples = offered.samples } in
@@ -48,14 +48,14 @@ AddsRows-family Offers Stamps MayBeEmpty heading old output heads offered =
       family,
       (refl, refl, refl, refl, offered.admitted),
       record { name = heads.name; unit = heads.unit; allowed = heads.allowed; samples = offered.formed },
-      ap text_in offered.is ∙ append_assoc old (heading_rows heading) rows,
+      ap text_so_far offered.is ∙ append_assoc old (heading_rows heading) rows,
     )
 
 -- an output with further samples is a text if it was one
-still_text : (name : Text) (old new : Output) (text : Text) (samples : List Sample) → old ≡ OutputText text → new ≡ appended name old samples → new ≡ OutputText (text_in new)
+still_text : (name : Text) (old new : Output) (text : Text) (samples : List Sample) → old ≡ OutputText text → new ≡ appended name old samples → new ≡ OutputText (text_so_far new)
 still_text name old new text samples was is =
     let now : new ≡ OutputText (text ++ sample_rows name samples) = is ∙ ap (λ (o : Output). appended name o samples) was in
-    now ∙ ap OutputText (sym (ap text_in now))
+    now ∙ ap OutputText (sym (ap text_so_far now))
 
 -- what an encoder makes of a metric whose family it has begun
 pub family_added : (Offers : Option ℕ → List Member → Type 0) (Stamps : Option ℕ → Type 0) (MayBeEmpty MayFault : Type 0) (heading : Heading) (stamp : Option ℕ) (old begun new : GatheredMembers) (visited made : Result (Unit {0}) EncodeError)
@@ -63,16 +63,16 @@ pub family_added : (Offers : Option ℕ → List Member → Type 0) (Stamps : Op
     → begun ≡ record { context = context_at (listed_name heading) heading.registration.metric_type heading.labels stamp; output = with_lines old.output (heading_rows heading); refused = None }
     → HandsMembers (Offers begun.context.setting.time) MayFault begun new visited
     → MatchResult made (λ _. (new.refused ≡ None) × (visited ≡ Ok tt)) (λ k. (new.refused ≡ Some k) ⊎ ((e : EncodeError) × (new.refused ≡ None) × (visited ≡ Err e) × (k ≡ own_refusal e)))
-    → MatchResult made (λ _. HasLines new × AddsRows Offers Stamps MayBeEmpty heading (text_in old.output) (text_in new.output)) (λ k. (k ≡ Memory) ⊎ FaultUnder Offers Stamps k MayFault heading)
+    → MatchResult made (λ _. HasLines new × AddsRows Offers Stamps MayBeEmpty heading (text_so_far old.output) (text_so_far new.output)) (λ k. (k ≡ Memory) ⊎ FaultUnder Offers Stamps k MayFault heading)
 family_added Offers Stamps MayBeEmpty MayFault heading stamp old begun new visited made heads lines stamped is hands ends =
-    let text = text_in old.output in
+    let text = text_so_far old.output in
     let headed = OutputText (text ++ heading_rows heading) in
     let same : begun ≡ record { context = context_at (listed_name heading) heading.registration.metric_type heading.labels stamp; output = headed; refused = None } =
     is ∙ (λ i. record { context = context_at (listed_name heading) heading.registration.metric_type heading.labels stamp; output = with_lines (lines.text i) (heading_rows heading); refused = None }) in
     added made ends (offered_made Offers Stamps MayFault (listed_name heading) heading.registration.metric_type heading.labels stamp headed (λ _. new.context.setting.name) (λ _. new.output) begun new visited made same stamped hands (ended made ends))
   where
     headed_output : Output
-    headed_output = OutputText (text_in old.output ++ heading_rows heading)
+    headed_output = OutputText (text_so_far old.output ++ heading_rows heading)
 
     ended : (r : Result (Unit {0}) EncodeError) → MatchResult r (λ _. (new.refused ≡ None) × (visited ≡ Ok tt)) (λ k. (new.refused ≡ Some k) ⊎ ((e : EncodeError) × (new.refused ≡ None) × (visited ≡ Err e) × (k ≡ own_refusal e)))
         → Ends Offers Stamps MayFault (listed_name heading) heading.registration.metric_type heading.labels stamp headed_output (λ _. new.context.setting.name) (λ _. new.output) new visited r
@@ -81,8 +81,8 @@ family_added Offers Stamps MayBeEmpty MayFault heading stamp old begun new visit
 
     added : (r : Result (Unit {0}) EncodeError) → MatchResult r (λ _. (new.refused ≡ None) × (visited ≡ Ok tt)) (λ k. (new.refused ≡ Some k) ⊎ ((e : EncodeError) × (new.refused ≡ None) × (visited ≡ Err e) × (k ≡ own_refusal e)))
         → Makes Offers Stamps MayFault (listed_name heading) heading.registration.metric_type heading.labels stamp headed_output (λ _. new.context.setting.name) (λ _. new.output) r
-        → MatchResult r (λ _. HasLines new × AddsRows Offers Stamps MayBeEmpty heading (text_in old.output) (text_in new.output)) (λ k. (k ≡ Memory) ⊎ FaultUnder Offers Stamps k MayFault heading)
-    added (Ok x) h m = (record { text = still_text (listed_name heading) headed_output new.output _ m.1.samples refl m.1.is; accepting = h.0 }, AddsRows-family Offers Stamps MayBeEmpty heading (text_in old.output) new.output heads m.1)
+        → MatchResult r (λ _. HasLines new × AddsRows Offers Stamps MayBeEmpty heading (text_so_far old.output) (text_so_far new.output)) (λ k. (k ≡ Memory) ⊎ FaultUnder Offers Stamps k MayFault heading)
+    added (Ok x) h m = (record { text = still_text (listed_name heading) headed_output new.output _ m.1.samples refl m.1.is; accepting = h.0 }, AddsRows-family Offers Stamps MayBeEmpty heading (text_so_far old.output) new.output heads m.1)
     added (Err k) h m = m
 
 module _ {M : Type 0} (Offers : M → Option ℕ → List Member → Type 0) (Stamps : M → Option ℕ → Type 0) (Empty : M → Type 0) where

@@ -14,14 +14,14 @@ ghost use Rattle.fm_registry.specs.HasHistory.{HasHistory};
 ghost use Rattle.fm_writer.specs.Output.{with_lines};
 ghost use Rattle.fm_encoder.specs.Offers.{context_at};
 ghost use Rattle.fm_core.specs.Admits.{AdmittedBy, FaultOf, Fault};
-ghost use Rattle.fm_core.specs.inside.Documents.{heading_of, heading_rows, text_in, HasLines, AddsNextRows};
+ghost use Rattle.fm_core.specs.inside.Documents.{heading_of, heading_rows, text_so_far, HasLines, AddsNextRows};
 
 use crate::family::{join_name, text_of};
 use fm_encode_error::EncodeError;
 use fm_encoder::{EncodeMetric, MetricEncoder, collector, whole_millis};
 use fm_exposition::write_text;
 use fm_registry::{ListedMetric, Registry};
-use fm_writer::Lines;
+use fm_writer::{FamilyHead, GrowingText};
 use std::alloc::{AllocError, Global};
 use std::io::Write;
 
@@ -53,16 +53,12 @@ fn begin_family<M>(
     ensures memory { IfErr result (λ k. k ≡ EncodeError.Memory) }
 {
     print_name(name, listed)?;
-    collector::begin_family(
-        encoder,
-        alloc,
-        name,
-        listed.metadata.metric_type(),
-        listed.metadata.help(),
-        text_of(listed.metadata.unit()),
-        listed.const_labels,
-        time,
-    )
+    let head = FamilyHead {
+        metric_type: listed.metadata.metric_type(),
+        help: listed.metadata.help(),
+        unit: text_of(listed.metadata.unit()),
+    };
+    collector::begin_family(encoder, alloc, name, head, listed.const_labels, time)
 }
 
 // Appends the lines of a listed metric's family, unless the metric is empty, or returns the first refusal.
@@ -78,7 +74,7 @@ fn add_listed<M: EncodeMetric>(
         (λ _. HasLines encoder.new
         × AddsNextRows (λ m. M.offers m) (λ m. M.stamps m) (λ m. M.may_be_empty m)
         (seen_listed listed.now)
-        (text_in encoder.old.output) (text_in encoder.new.output))
+        (text_so_far encoder.old.output) (text_so_far encoder.new.output))
         (λ k. (k ≡ EncodeError.Memory)
         ⊎ FaultOf k (λ m. M.offers m) (λ m. M.stamps m) (λ m. M.may_fault m) (seen_listed listed.now)) }
 {
@@ -93,12 +89,12 @@ fn add_listed<M: EncodeMetric>(
 }
 
 // The lines of an encoder, with the last one of a document.
-fn ended_lines(encoder: MetricEncoder) -> Result<Lines, AllocError>
+fn ended_lines(encoder: MetricEncoder) -> Result<GrowingText, AllocError>
     requires { HasLines encoder }
-    ensures { IfOk result (λ lines. lines.text ≡ text_in encoder.output ++ codes "# EOF\n") }
+    ensures { IfOk result (λ lines. lines ≡ text_so_far encoder.output ++ codes "# EOF\n") }
 {
     let (_, sink) = collector::into_parts(encoder);
-    match sink.into_lines() {
+    match sink.into_text() {
         Some(mut lines) => {
             lines.append(b"# EOF\n")?;
             Ok(lines)
@@ -111,11 +107,11 @@ fn ended_lines(encoder: MetricEncoder) -> Result<Lines, AllocError>
 pub(crate) fn document_lines<M: EncodeMetric>(
     alloc: Global,
     registry: &Registry<M>,
-) -> Result<Lines, EncodeError>
+) -> Result<GrowingText, EncodeError>
     requires { HasHistory registry.now }
     ensures text { IfOk result (λ lines. (e : Exposition)
         × AdmittedBy (λ m. M.offers m) (λ m. M.stamps m) (λ m. M.may_be_empty m) registry.now e
-        × IsExposition e × (lines.text ≡ document_rows e)) }
+        × IsExposition e × (lines ≡ document_rows e)) }
     ensures fault { IfErr result (λ k. (k ≡ EncodeError.Memory)
         ⊎ ((b : _) → Shows registry.now b
         → Fault k (λ m. M.offers m) (λ m. M.stamps m) (λ m. M.may_fault m) (order b))) }
@@ -133,10 +129,10 @@ pub(crate) fn document_lines<M: EncodeMetric>(
 }
 
 // Writes the lines of a document, all or a beginning of them.
-pub(crate) fn write_lines<W: Write>(writer: &mut W, lines: &Lines) -> Result<(), EncodeError>
-    ensures document { (e : Exposition) → IsExposition e → lines.now.text ≡ document_rows e
+pub(crate) fn write_lines<W: Write>(writer: &mut W, lines: &GrowingText) -> Result<(), EncodeError>
+    ensures document { (e : Exposition) → IsExposition e → lines.now ≡ document_rows e
         → OnOk result (AppendsDocument (W.contents writer.old) (W.contents writer.new) e) }
-    ensures stopped { (e : Exposition) → IsExposition e → lines.now.text ≡ document_rows e
+    ensures stopped { (e : Exposition) → IsExposition e → lines.now ≡ document_rows e
         → IfErr result (λ k. IsWritersFault k
         → AppendsBeginningOfDocument (W.contents writer.old) (W.contents writer.new) e) }
     ensures fault { IfErr result IsWritersFault }

@@ -17,6 +17,7 @@ ghost use Rattle.fm_encoder.specs.Offers.{AdmitsSamples, MetricHasFault};
 ghost use Rattle.fm_core.specs.Families.{next_heading, FaultUnder, EncodesFamily};
 ghost use Rattle.fm_core.specs.inside.Offered.{IsFamilyUnder, Offered};
 
+use crate::scope::Scope;
 use fm_encode_error::EncodeError;
 use fm_encoder::{EncodeMetric, FirstRefusal, collector, whole_millis};
 use fm_exposition::{Exposition, FamilySamples, SampleStore, make};
@@ -159,8 +160,7 @@ fn samples_of_metric<M: EncodeMetric>(
 #[derive(Drop)]
 pub struct MetricFamilyEncoder<'a> {
     alloc: Global,
-    namespace: Option<&'a str>,
-    const_labels: &'a [(String, String)],
+    scope: Scope<'a>,
     families: Vec<FamilySamples>,
     refused: FirstRefusal,
 }
@@ -174,8 +174,8 @@ impl<'a> Model for MetricFamilyEncoder<'a> {
     ghost Value = { GatheredFamilies };
 
     ghost view = { λ e. record {
-      namespace = option_copied e.namespace;
-      labels = labels_of e.const_labels.now;
+      namespace = option_copied e.scope.namespace;
+      labels = labels_of e.scope.constants.now;
       families = e.families.items;
       refused = e.refused.error;
     } };
@@ -190,22 +190,23 @@ impl<'a> MetricFamilyEncoder<'a> {
     {
         MetricFamilyEncoder {
             alloc,
-            namespace: None,
-            const_labels: &[],
+            scope: Scope {
+                namespace: None,
+                constants: &[],
+            },
             families: Vec::new(alloc),
             refused: FirstRefusal { error: None },
         }
     }
 
     // Goes on to a registry with this namespace and these constant labels.
-    pub(crate) fn enter(&mut self, namespace: Option<&'a str>, const_labels: &'a [(String, String)])
+    pub(crate) fn enter(&mut self, scope: Scope<'a>)
         ensures { self.new ≡ record self.old {
-          namespace = option_copied namespace.entry;
-          labels = labels_of const_labels.now;
+          namespace = option_copied scope.entry.namespace;
+          labels = labels_of scope.entry.constants.now;
         } }
     {
-        self.namespace = namespace;
-        self.const_labels = const_labels;
+        self.scope = scope;
     }
 
     // The printed name of a metric with this metadata, its help, and its unit's text.
@@ -218,7 +219,7 @@ impl<'a> MetricFamilyEncoder<'a> {
     {
         let alloc = self.alloc;
         let unit = text_of(metadata.unit());
-        let name = joined_name(alloc, self.namespace, metadata.name(), unit)?;
+        let name = joined_name(alloc, self.scope.namespace, metadata.name(), unit)?;
         let help = String::from_str(alloc, metadata.help())?;
         let unit = cloned_text(alloc, unit)?;
         Ok((name, help, unit))
@@ -245,7 +246,7 @@ impl<'a> MetricFamilyEncoder<'a> {
             self.alloc,
             name,
             metric_type,
-            self.const_labels,
+            self.scope.constants,
             metric,
         )?;
         Ok(make::family(name, metric_type, help, unit, samples))
@@ -266,9 +267,7 @@ impl<'a> MetricFamilyEncoder<'a> {
             (M.may_be_empty metric.now) (M.may_fault metric.now)
             (next_heading self.old metadata.now) self.old self.new) self.new.refused result }
     {
-        if let Some(error) = self.refused.error {
-            return Err(error);
-        }
+        self.refused.check()?;
         if metric.is_empty() {
             return Ok(());
         }

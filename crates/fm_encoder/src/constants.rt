@@ -2,7 +2,6 @@
 ghost use Rattle.std.specs.Prelude.{◌≡◌, ◌⊎◌, ◌++◌, [], None, OnOk, OnErr, IfOk, IfErr, IfSome, MatchResult};
 ghost use Rattle.fm_encode_error.specs.declared.EncodeError.{EncodeError};
 ghost use Rattle.fm_exposition.specs.Samples.{labels_of};
-ghost use Rattle.fm_writer.specs.Output.{AreShared};
 ghost use Rattle.fm_encoder.specs.Labels.{LabelsClean, LabelsFault, all_written, handed_again};
 ghost use Rattle.fm_encoder.specs.Gathered.{OwnRefusal};
 ghost use Rattle.fm_encoder.specs.Kept.{Keeps};
@@ -13,7 +12,7 @@ use crate::label::LabelSetEncoder;
 use crate::label_set::{EncodeLabelSet, encode_written};
 use fm_encode_error::EncodeError;
 use fm_grammar::MetricType;
-use fm_writer::{LabelText, Sink};
+use fm_writer::LabelText;
 use std::alloc::{AllocError, Global};
 use std::marker::Model;
 
@@ -113,19 +112,16 @@ impl ConstantLabels {
         Ok(())
     }
 
-    // Replaces the encoder's labels by the constant labels, followed by these. All of them are valid. The sink's next samples have them.
+    // Replaces the encoder's labels by the constant labels, followed by these. All of them are valid.
     pub(crate) fn followed_by<LS: EncodeLabelSet>(
         &self,
         encoder: &mut LabelSetEncoder,
-        sink: &mut Sink,
         kept: Option<&KeptLabels>,
         labels: &LS,
     ) -> Result<(), EncodeError>
         requires of_type { self.now.metric_type ≡ encoder.old.metric_type }
         requires kept { IfSome kept (λ k. Keeps (LS.labels labels.now) k.now) }
         ensures type_kept { encoder.new.metric_type ≡ encoder.old.metric_type }
-        ensures output { sink.new.output ≡ sink.old.output }
-        ensures shared { OnOk result (AreShared encoder.new.labels sink.new.shared) }
         ensures gathered { let all = handed_again self.now.labels ++ LS.labels labels.now in
             MatchResult result
             (λ _. LabelsClean encoder.old.metric_type [] all
@@ -145,6 +141,6 @@ impl ConstantLabels {
             encoder.begin(self.metric_type);
             read_labels(encoder, labels)?;
         }
-        Ok(sink.share(encoder.text())?)
+        Ok(())
     }
 }

@@ -96,9 +96,7 @@ impl ExemplarEncoder {
             ∷ [])
             (LS.may_fault labels.now) self.old self.new result }
     {
-        if let Some(error) = self.refused.error {
-            return Err(error);
-        }
+        self.refused.check()?;
         if self.exemplar.is_some() {
             return self.refused.refuse(EncodeError::ExemplarTwice);
         }

@@ -1,5 +1,5 @@
 //! The first refusal of an encoder.
-ghost use Rattle.std.specs.Prelude.{◌≡◌, Some, Err};
+ghost use Rattle.std.specs.Prelude.{◌≡◌, None, Some, Err, MatchResult};
 ghost use Rattle.fm_encoder.specs.Gathered.{own_refusal, IsOutcome};
 
 use fm_encode_error::EncodeError;
@@ -20,6 +20,18 @@ impl FirstRefusal {
     {
         self.error = Some(error);
         Err(error)
+    }
+
+    /// Fails with the first refusal, if there is one.
+    pub fn check(&self) -> Result<(), EncodeError>
+        ensures { MatchResult result
+            (λ _. self.now.error ≡ None)
+            (λ error. self.now.error ≡ Some error) }
+    {
+        match self.error {
+            Some(error) => Err(error),
+            None => Ok(()),
+        }
     }
 
     // The first refusal, after the visited source returned `visited`.

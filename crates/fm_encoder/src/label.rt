@@ -100,9 +100,7 @@ impl LabelEncoder {
     pub fn encode_label_name(&mut self, name: &str) -> Result<(), EncodeError>
         ensures { TakesPieces (NamePiece name.now ∷ []) ⊥ self.old self.new result }
     {
-        if let Some(error) = self.refused.error {
-            return Err(error);
-        }
+        self.refused.check()?;
         if self.labels.is_named() || self.labels.is_valued() {
             return self.refused.refuse(EncodeError::MalformedLabel);
         }
@@ -126,9 +124,7 @@ impl LabelEncoder {
     pub fn encode_str_value(&mut self, value: &str) -> Result<(), EncodeError>
         ensures { TakesPieces (ValuePiece value.now ∷ []) ⊥ self.old self.new result }
     {
-        if let Some(error) = self.refused.error {
-            return Err(error);
-        }
+        self.refused.check()?;
         if !self.labels.is_named() || self.labels.is_valued() {
             return self.refused.refuse(EncodeError::MalformedLabel);
         }
@@ -158,9 +154,7 @@ impl LabelEncoder {
     fn end_label(&mut self, visited: Result<(), EncodeError>) -> Result<(), EncodeError>
         ensures { Takes (EndsLabel visited self.old self.new) self.new.refused result }
     {
-        if let Some(error) = self.refused.error {
-            return Err(error);
-        }
+        self.refused.check()?;
         if let Err(error) = visited {
             return self.refused.refuse(own_refusal(error));
         }
@@ -212,6 +206,13 @@ impl LabelSetEncoder {
         ensures { result.now.labels ≡ self.now.labels }
     {
         &self.label.labels
+    }
+
+    // The type of the family that they are for.
+    pub(crate) fn metric_type(&self) -> MetricType
+        ensures { result ≡ self.now.metric_type }
+    {
+        self.label.metric_type
     }
 
     // Replaces its labels by copies of these, as if nothing had been refused. If memory runs out, nothing is known of its labels.

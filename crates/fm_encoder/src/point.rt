@@ -1,12 +1,13 @@
 //! Points: what emits them, and the encoder that puts their samples into a sink.
 ghost use Rattle.std.specs.Prelude.{◌≡◌, ◌++◌, List, [], None, Some, Err, OnOk, IfErr, IfSome, string_bytes};
-ghost use Rattle.std.specs.Option.{option_map, option_copied};
+ghost use Rattle.std.specs.Option.{option_map};
 ghost use Rattle.fm_grammar.specs.Names.{IsSnakeCase};
 ghost use Rattle.fm_grammar.specs.declared.MetricType.{MetricType};
 ghost use Rattle.fm_grammar.specs.WellFormed.{AreLabels, AreMillis};
 ghost use Rattle.fm_encode_error.specs.declared.EncodeError.{EncodeError};
 ghost use Rattle.fm_exposition.specs.Rows.{head_rows};
 ghost use Rattle.fm_exposition.specs.Samples.{value_of, exemplar_of};
+ghost use Rattle.fm_writer.specs.Heads.{headed};
 ghost use Rattle.fm_writer.specs.Output.{AreShared, with_lines};
 ghost use Rattle.fm_encoder.specs.Points.{Point};
 ghost use Rattle.fm_encoder.specs.Labels.{handed_again};
@@ -26,7 +27,7 @@ use crate::point::bound_label::BoundLabel;
 use fm_encode_error::EncodeError;
 use fm_exposition::{Exemplar, Value};
 use fm_grammar::{MetricType, SampleKind};
-use fm_writer::{GrowingText, LabelText, Sink};
+use fm_writer::{FamilyHead, GrowingText, LabelText, NewSample, Sink};
 use std::alloc::Global;
 use std::marker::Model;
 use std::mem;
@@ -57,9 +58,8 @@ pub trait EncodePoint {
 pub struct PointEncoder {
     alloc: Global,
     name: String,
-    metric_type: MetricType,
     time: Option<u128>,
-    // The common labels of the next samples, if none of them was refused.
+    // The family's type, and the common labels of the next samples, if none of them was refused.
     labels: LabelSetEncoder,
     deferred: Option<EncodeError>,
     sink: Sink,
@@ -79,8 +79,11 @@ impl Model for PointEncoder {
     ghost Value = { GatheredPoints };
 
     ghost view = { λ e. record {
-      setting =
-          record { name = string_bytes e.name; metric_type = e.metric_type; time = e.time };
+      setting = record {
+        name = string_bytes e.name;
+        metric_type = e.labels.metric_type;
+        time = e.time;
+      };
       common = e.labels.labels;
       deferred = e.deferred;
       output = e.sink.output;
@@ -114,7 +117,6 @@ impl PointEncoder {
         PointEncoder {
             alloc,
             name,
-            metric_type,
             time,
             labels: LabelSetEncoder::new(alloc, metric_type),
             deferred: None,
@@ -126,42 +128,34 @@ impl PointEncoder {
         }
     }
 
-    // Goes on to a family of this name, type and timestamp, and appends the lines that come before its samples. The name is swapped with
+    // Goes on to a family of this name, head and timestamp, and appends the lines that come before its samples. The name is swapped with
     // that of the family before. If memory runs out, that is refused, and the text may end in a part of these lines.
     pub(crate) fn begin_family(
         &mut self,
         name: &mut String,
-        metric_type: MetricType,
-        help: &str,
-        unit: Option<&str>,
+        head: FamilyHead<'_>,
         time: Option<u128>,
     ) -> Result<(), EncodeError>
         requires accepting { self.old.refused ≡ None }
         requires name { IsSnakeCase (string_bytes name.old) }
         requires time { IfSome time AreMillis }
-        ensures setting { self.new.setting
-            ≡ record { name = string_bytes name.old; metric_type = metric_type; time = time } }
+        ensures setting { self.new.setting ≡ record {
+          name = string_bytes name.old;
+          metric_type = head.entry.metric_type;
+          time = time;
+        } }
         ensures output { OnOk result
-            (self.new.output ≡ with_lines self.old.output (head_rows (record {
-              name = string_bytes name.old;
-              metric_type = metric_type;
-              help = help.now;
-              unit = option_copied unit.entry;
-              samples = [];
-            }))) }
+            (self.new.output
+            ≡ with_lines self.old.output (head_rows (headed (string_bytes name.old) head.entry))) }
         ensures answered { result ≡ result_of self.new.refused }
         ensures memory { IfErr result (λ e. e ≡ EncodeError.Memory) }
     {
         mem::swap(&mut self.name, name);
-        self.metric_type = metric_type;
         self.time = time;
-        self.labels.begin(metric_type);
+        self.labels.begin(head.metric_type);
         self.sink.unshare();
         self.deferred = None;
-        match self
-            .sink
-            .append_heads(self.name.as_str(), metric_type, help, unit)
-        {
+        match self.sink.append_heads(self.name.as_str(), head) {
             Ok(()) => Ok(()),
             Err(_) => self.refused.refuse(EncodeError::Memory),
         }
@@ -171,10 +165,8 @@ impl PointEncoder {
     fn begin_point(&mut self, metric_type: MetricType) -> Result<(), EncodeError>
         ensures { Takes (BeginsPoint metric_type self.old self.new) self.new.refused result }
     {
-        if let Some(error) = self.refused.error {
-            return Err(error);
-        }
-        if metric_type != self.metric_type {
+        self.refused.check()?;
+        if metric_type != self.labels.metric_type() {
             return self.refused.refuse(EncodeError::KindMismatch);
         }
         if let Some(error) = self.deferred {
@@ -206,17 +198,17 @@ impl PointEncoder {
           exemplar = option_map exemplar_of exemplar;
         }) self.old self.new) self.new.refused result }
     {
-        match self.sink.push(
-            self.name.as_str(),
+        let sample = NewSample {
             kind,
-            self.labels.text(),
+            common: self.labels.text(),
             own,
-            value,
-            self.time,
+            value: *value,
+            time: self.time,
             exemplar,
-        ) {
+        };
+        match self.sink.push(self.name.as_str(), sample, None) {
             Ok(()) => Ok(()),
-            Err(error) => self.refused.refuse(error),
+            Err(_) => self.refused.refuse(EncodeError::Memory),
         }
     }
 
@@ -238,17 +230,17 @@ impl PointEncoder {
           exemplar = option_map exemplar_of exemplar;
         }) self.old self.new) self.new.refused result }
     {
-        match self.sink.push(
-            self.name.as_str(),
+        let sample = NewSample {
             kind,
-            self.labels.text(),
-            &self.none,
-            value,
-            self.time,
+            common: self.labels.text(),
+            own: &self.none,
+            value: *value,
+            time: self.time,
             exemplar,
-        ) {
+        };
+        match self.sink.push(self.name.as_str(), sample, None) {
             Ok(()) => Ok(()),
-            Err(error) => self.refused.refuse(error),
+            Err(_) => self.refused.refuse(EncodeError::Memory),
         }
     }
 
@@ -296,14 +288,13 @@ impl PointEncoder {
             (LS.may_fault labels.now)
             self.old self.new) self.new.refused result }
     {
-        if let Some(error) = self.refused.error {
-            return Err(error);
-        }
-        match constants.followed_by(&mut self.labels, &mut self.sink, kept, labels) {
+        self.refused.check()?;
+        self.sink.unshare();
+        match constants.followed_by(&mut self.labels, kept, labels) {
             Ok(()) => self.deferred = None,
             Err(error) => {
-                self.labels.begin(self.metric_type);
-                self.sink.unshare();
+                let metric_type = self.labels.metric_type();
+                self.labels.begin(metric_type);
                 self.deferred = Some(error);
             }
         }

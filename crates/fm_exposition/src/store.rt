@@ -1,13 +1,12 @@
 //! The samples of a family while they are collected point by point.
-ghost use Rattle.std.specs.Prelude.{◌≡◌, ◌+◌, ◌^◌, ◌<◌, ℕ, List, [], ◌∷◌, ◌++◌, OnOk, OnErr, IfErr};
+ghost use Rattle.std.specs.Prelude.{◌≡◌, ◌+◌, ◌^◌, ◌<◌, ℕ, List, [], ◌∷◌, ◌++◌, OnOk, OnErr};
 ghost use Rattle.std.specs.Option.{option_map};
 ghost use Rattle.fm_exposition.specs.inside.Points.{AreInPoints};
 ghost use Rattle.fm_exposition.specs.Samples.{labels_of, shared_labels, value_of, exemplar_of, samples_of};
 
 use crate::exposition::{CommonLabels, Exemplar, Sample, Value};
-use fm_encode_error::EncodeError;
 use fm_grammar::SampleKind;
-use std::alloc::Global;
+use std::alloc::{AllocError, Global};
 use std::marker::Model;
 
 /// The samples of points, in order. Those of one point share one list of common labels.
@@ -79,7 +78,7 @@ impl SampleStore {
 
     /// Adds a sample to the current point. Its labels here come after the common ones. The time is in milliseconds.
     ///
-    /// Fails with `Memory` if memory runs out; then the samples stay as they were.
+    /// Fails if memory runs out; then the samples stay as they were.
     pub fn push(
         &mut self,
         kind: SampleKind,
@@ -87,7 +86,7 @@ impl SampleStore {
         value: Value,
         time: Option<u128>,
         exemplar: Option<Exemplar>,
-    ) -> Result<(), EncodeError>
+    ) -> Result<(), AllocError>
         ensures common { self.new.common ≡ self.old.common }
         ensures pushed { OnOk result (self.new.samples ≡ self.old.samples ++ record {
           kind = kind;
@@ -96,7 +95,6 @@ impl SampleStore {
           time = time;
           exemplar = option_map exemplar_of exemplar;
         } ∷ []) }
-        ensures memory { IfErr result (λ e. e ≡ EncodeError.Memory) }
         ensures kept { OnErr result (self.new.samples ≡ self.old.samples) }
     {
         if !self.is_under_way {

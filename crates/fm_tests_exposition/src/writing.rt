@@ -212,13 +212,9 @@ fn push_total(alloc: Global, store: &mut SampleStore, i: u32) -> Result<(), Enco
         store.end_point();
     }
     let own = Vec::new(alloc);
-    store.push(
-        SampleKind::Total,
-        own,
-        Value::Whole(i128::from(i)),
-        None,
-        None,
-    )
+    let value = Value::Whole(i128::from(i));
+    store.push(SampleKind::Total, own, value, None, None)?;
+    Ok(())
 }
 
 // This number of totals, in points of two samples each that share these labels.

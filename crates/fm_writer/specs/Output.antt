@@ -18,7 +18,7 @@ abbrev pub with_lines : Output → Text → Output
 with_lines (OutputSamples before) lines = OutputSamples before
 with_lines (OutputText before) lines = OutputText (before ++ lines)
 
--- What contracts see of a sink: the labels that the next samples share, if it keeps samples and can take them, and the output so far.
+-- What contracts see of a sink: the labels that the next samples share, if it keeps samples and these share some, and the output so far.
 pub record SinkState : Type 0 where
   pub shared : Option (List Label)
   pub output : Output
@@ -27,16 +27,17 @@ pub record SinkState : Type 0 where
 abbrev pub AreShared : List Label → Option (List Label) → Type 0
 AreShared common shared = IfSome shared (λ labels. labels ≡ common)
 
--- what contracts see of lines: the text so far
-pub record LinesState : Type 0 where
-  pub text : Text
+-- what a sink with this output shares once it has taken a sample with these common labels
+abbrev pub shared_by : Output → List Label → Option (List Label)
+shared_by (OutputSamples samples) common = Some common
+shared_by (OutputText text) common = None
 
 -- the samples of an output that keeps them
 abbrev pub samples_in : Output → Option (List Sample)
 samples_in (OutputSamples samples) = Some samples
 samples_in (OutputText text) = None
 
--- the lines of an output that has them
-abbrev pub lines_in : Output → Option LinesState
-lines_in (OutputSamples samples) = None
-lines_in (OutputText text) = Some (record { text = text })
+-- the text of an output that has one
+abbrev pub text_in : Output → Option Text
+text_in (OutputSamples samples) = None
+text_in (OutputText text) = Some text

@@ -4,3 +4,4 @@ pub mod LabelTexts
 pub mod Plain
 pub mod Forms
 pub mod Utf8
+pub mod Readings

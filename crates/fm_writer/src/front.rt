@@ -1,17 +1,15 @@
 //! The front of a sample's line, which comes before the labels of its own.
 ghost use Rattle.std.specs.Prelude.{◌≡◌, ◌++◌, ◌<◌, length, codes, OnOk};
-ghost use Rattle.std.specs.Option.{option_map};
-ghost use Rattle.fm_grammar.specs.Spelling.{label_list_text, value_text, time_text, exemplar_text};
-ghost use Rattle.fm_exposition.specs.Samples.{value_of, exemplar_at};
+ghost use Rattle.fm_grammar.specs.Spelling.{label_list_text};
 ghost use Rattle.fm_writer.specs.Front.{line_front};
 ghost use Rattle.fm_writer.specs.inside.Grown.{Grown};
+ghost use Rattle.fm_writer.specs.inside.Readings.{reading_text};
 
 use crate::growing::GrowingText;
 use crate::label_text::LabelText;
 use crate::labels::LabelSource;
 use crate::output::Output;
-use crate::rendering::append_reading;
-use fm_exposition::{Exemplar, Value};
+use crate::rendering::{Reading, append_reading};
 use fm_grammar::SampleKind;
 use std::alloc::AllocError;
 
@@ -38,17 +36,13 @@ pub(crate) fn append_row_behind(
     text: &mut GrowingText,
     front: &GrowingText,
     own: &LabelText,
-    value: &Value,
-    time: Option<u128>,
-    exemplar: Option<&Exemplar>,
+    reading: Reading<'_>,
 ) -> Result<(), AllocError>
     requires { 0 < length own.now.labels }
     ensures { OnOk result (Grown text.old text.new
         ((front.now ++ (label_list_text own.now.labels ++ codes "} "))
-        ++ (value_text (value_of value.now)
-        ++ (time_text time
-        ++ (exemplar_text (option_map exemplar_at exemplar.entry) ++ codes "\n"))))) }
+        ++ reading_text reading.entry)) }
 {
     own.append_behind(text, front)?;
-    append_reading(text, value, time, exemplar)
+    append_reading(text, reading)
 }

@@ -1,9 +1,10 @@
 // The lines of a family that come before its samples, appended to an output.
-ghost use Rattle.std.specs.Prelude.{◌≡◌, ◌++◌, [], codes, OnOk};
+ghost use Rattle.std.specs.Prelude.{◌≡◌, ◌++◌, codes, OnOk};
 ghost use Rattle.std.specs.Option.{option_copied};
 ghost use Rattle.fm_grammar.specs.Kinds.{type_word};
 ghost use Rattle.fm_grammar.specs.Spelling.{escaped};
 ghost use Rattle.fm_exposition.specs.Rows.{unit_row, head_rows};
+ghost use Rattle.fm_writer.specs.Heads.{headed};
 ghost use Rattle.fm_writer.specs.inside.Grown.{Grows};
 
 use crate::output::Output;
@@ -11,6 +12,17 @@ use crate::plain::is_plain;
 use crate::rendering::append_escaped;
 use fm_grammar::MetricType;
 use std::alloc::AllocError;
+
+/// What the lines of a family that come before its samples say of it besides its name.
+#[derive(Clone, Copy)]
+pub struct FamilyHead<'a> {
+    /// Its type.
+    pub metric_type: MetricType,
+    /// Its help text.
+    pub help: &'a str,
+    /// The text of its unit.
+    pub unit: Option<&'a str>,
+}
 
 // What follows the name on a type line of this type, up to the name on the help line.
 fn after_type_name(metric_type: MetricType) -> &'static str
@@ -60,21 +72,13 @@ fn end_heads<O: Output>(text: &mut O, name: &[u8], unit: Option<&str>) -> Result
 pub(crate) fn append_heads<O: Output>(
     text: &mut O,
     name: &str,
-    metric_type: MetricType,
-    help: &str,
-    unit: Option<&str>,
+    head: FamilyHead<'_>,
 ) -> Result<(), AllocError>
     ensures { OnOk result (Grows (O.stands_for text.old) (O.stands_for text.new)
-        (head_rows (record {
-          name = name.now;
-          metric_type = metric_type;
-          help = help.now;
-          unit = option_copied unit.entry;
-          samples = [];
-        }))) }
+        (head_rows (headed name.now head.entry))) }
 {
-    let name = name.as_bytes();
-    text.put_three(b"# TYPE ", name, after_type_name(metric_type).as_bytes())?;
-    append_help(text, name, help.as_bytes())?;
-    end_heads(text, name, unit)
+    let (name, word) = (name.as_bytes(), after_type_name(head.metric_type));
+    text.put_three(b"# TYPE ", name, word.as_bytes())?;
+    append_help(text, name, head.help.as_bytes())?;
+    end_heads(text, name, head.unit)
 }

@@ -6,7 +6,7 @@ mod growing;
 mod heads;
 pub mod label_text;
 mod labels;
-pub mod lines;
+mod new_sample;
 mod output;
 mod plain;
 mod rendering;
@@ -15,7 +15,8 @@ mod writing;
 
 pub use front::render_front;
 pub use growing::GrowingText;
+pub use heads::FamilyHead;
 pub use label_text::LabelText;
-pub use lines::Lines;
+pub use new_sample::NewSample;
 pub use sink::{Sink, owned_labels};
 pub use writing::encode_exposition;

@@ -5,6 +5,7 @@ ghost use Rattle.fm_grammar.specs.Spelling.{escape, escaped, value_text, time_te
 ghost use Rattle.fm_exposition.specs.Rows.{sample_row};
 ghost use Rattle.fm_exposition.specs.Samples.{value_of, exemplar_at};
 ghost use Rattle.fm_writer.specs.inside.Grown.{Grows};
+ghost use Rattle.fm_writer.specs.inside.Readings.{reading_text};
 
 use crate::labels::{LabelSource, append_in_braces};
 use crate::output::Output;
@@ -92,19 +93,28 @@ fn append_exemplar<O: Output>(text: &mut O, exemplar: Option<&Exemplar>) -> Resu
     }
 }
 
+// What comes after the labels on a sample's line: a value, and maybe a timestamp and an exemplar.
+#[derive(Clone, Copy)]
+pub(crate) struct Reading<'a> {
+    pub(crate) value: &'a Value,
+    pub(crate) time: Option<u128>,
+    pub(crate) exemplar: Option<&'a Exemplar>,
+}
+
 // Appends a value, a timestamp, an exemplar and a line feed.
 #[tactic(auto, using(crate::proofs::GrownLemmas::grown))]
 pub(crate) fn append_reading<O: Output>(
     text: &mut O,
-    value: &Value,
-    time: Option<u128>,
-    exemplar: Option<&Exemplar>,
+    reading: Reading<'_>,
 ) -> Result<(), AllocError>
-    ensures { OnOk result (Grows (O.stands_for text.old) (O.stands_for text.new)
-        (value_text (value_of value.now)
-        ++ (time_text time
-        ++ (exemplar_text (option_map exemplar_at exemplar.entry) ++ codes "\n")))) }
+    ensures { OnOk result
+        (Grows (O.stands_for text.old) (O.stands_for text.new) (reading_text reading.entry)) }
 {
+    let Reading {
+        value,
+        time,
+        exemplar,
+    } = reading;
     // Most lines end so, and these digits take the fewest steps.
     if let (Value::Whole(number), None, None) = (value, time, exemplar) {
         if let Ok(number) = i64::try_from(*number) {
@@ -134,9 +144,7 @@ pub(crate) fn append_sample_row<O: Output, F: LabelSource<O>, G: LabelSource<O>>
     kind: SampleKind,
     common: &F,
     own: &G,
-    value: &Value,
-    time: Option<u128>,
-    exemplar: Option<&Exemplar>,
+    reading: Reading<'_>,
 ) -> Result<(), AllocError>
     requires common { F.is_ready common.now }
     requires own { G.is_ready own.now }
@@ -144,9 +152,9 @@ pub(crate) fn append_sample_row<O: Output, F: LabelSource<O>, G: LabelSource<O>>
         (sample_row name.now (record {
           kind = kind;
           labels = F.labels common.now ++ G.labels own.now;
-          value = value_of value.now;
-          time = time;
-          exemplar = option_map exemplar_at exemplar.entry;
+          value = value_of reading.entry.value.now;
+          time = reading.entry.time;
+          exemplar = option_map exemplar_at reading.entry.exemplar;
         }))) }
 {
     let (name, suffix) = (name.as_bytes(), kind.suffix().as_bytes());
@@ -164,5 +172,5 @@ pub(crate) fn append_sample_row<O: Output, F: LabelSource<O>, G: LabelSource<O>>
         }
         own.append_before(text, b"} ")?;
     }
-    append_reading(text, value, time, exemplar)
+    append_reading(text, reading)
 }

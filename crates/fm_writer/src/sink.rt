@@ -1,21 +1,19 @@
 //! Where encoders put the samples of a family.
-ghost use Rattle.std.specs.Prelude.{◌≡◌, ◌++◌, ◌<◌, length, None, Some, [], ◌∷◌, map, OnOk, OnErr, IfOk, IfErr};
-ghost use Rattle.std.specs.Option.{option_map, option_copied};
-ghost use Rattle.fm_encode_error.specs.declared.EncodeError.{EncodeError};
+ghost use Rattle.std.specs.Prelude.{◌≡◌, ◌++◌, None, Some, [], ◌∷◌, map, OnOk, IfOk, IfSome};
+ghost use Rattle.std.specs.Option.{option_map};
 ghost use Rattle.fm_exposition.specs.Rows.{head_rows};
-ghost use Rattle.fm_exposition.specs.Samples.{labels_of, shared_labels, shown_label, value_of, exemplar_of};
-ghost use Rattle.fm_writer.specs.Front.{line_front};
-ghost use Rattle.fm_writer.specs.Output.{OutputSamples, OutputText, AreShared, appended, with_lines, samples_in, lines_in};
+ghost use Rattle.fm_exposition.specs.Samples.{labels_of, shared_labels, shown_label};
+ghost use Rattle.fm_writer.specs.Heads.{headed};
+ghost use Rattle.fm_writer.specs.NewSamples.{new_sample, IsFrontOf};
+ghost use Rattle.fm_writer.specs.Output.{OutputSamples, OutputText, AreShared, shared_by, appended, with_lines, samples_in, text_in};
 
 use crate::front::append_row_behind;
 use crate::growing::GrowingText;
-use crate::heads::append_heads;
+use crate::heads::{FamilyHead, append_heads};
 use crate::label_text::LabelText;
-use crate::lines::Lines;
-use crate::rendering::append_sample_row;
-use fm_encode_error::EncodeError;
-use fm_exposition::{CommonLabels, Exemplar, SampleStore, Value};
-use fm_grammar::{MetricType, SampleKind};
+use crate::new_sample::NewSample;
+use crate::rendering::{Reading, append_sample_row};
+use fm_exposition::{CommonLabels, SampleStore};
 use std::alloc::{AllocError, Global};
 use std::marker::Model;
 use std::sync::Arc;
@@ -24,7 +22,7 @@ use std::sync::Arc;
 enum Form {
     // The samples, and whether the next ones share the store's common labels.
     Samples(SampleStore, bool),
-    Lines(Lines),
+    Text(GrowingText),
 }
 
 /// Owned copies of borrowed labels. Fails if memory runs out.
@@ -60,6 +58,39 @@ fn shared(alloc: Global, labels: &LabelText) -> Result<CommonLabels, AllocError>
     Ok(shared)
 }
 
+// Adds a sample to a store, whose next samples have its common labels.
+fn keep(alloc: Global, store: &mut SampleStore, sample: NewSample<'_>) -> Result<(), AllocError>
+    requires { store.old.common ≡ sample.common.now.labels }
+    ensures common { store.new.common ≡ store.old.common }
+    ensures kept { OnOk result
+        (store.new.samples ≡ store.old.samples ++ new_sample sample.entry ∷ []) }
+{
+    let own = copied(alloc, sample.own)?;
+    store.push(sample.kind, own, sample.value, sample.time, sample.exemplar)
+}
+
+// Appends the line of a sample, or only what comes behind its front, if that was rendered before.
+fn append_row(
+    text: &mut GrowingText,
+    name: &str,
+    sample: &NewSample<'_>,
+    front: Option<&GrowingText>,
+) -> Result<(), AllocError>
+    requires { IfSome front (λ f. IsFrontOf sample.now name.now f.now) }
+    ensures { OnOk result
+        (OutputText text.new ≡ appended name.now (OutputText text.old) (new_sample sample.now ∷ [])) }
+{
+    let reading = Reading {
+        value: &sample.value,
+        time: sample.time,
+        exemplar: sample.exemplar.as_ref(),
+    };
+    match front {
+        Some(front) => append_row_behind(text, front, sample.own, reading),
+        None => append_sample_row(text, name, sample.kind, sample.common, sample.own, reading),
+    }
+}
+
 /// Keeps samples, or appends their lines to a text.
 #[derive(Drop)]
 pub struct Sink {
@@ -89,61 +120,35 @@ impl Sink {
         })
     }
 
-    /// A sink that appends lines to these.
-    pub fn lines(alloc: Global, lines: Lines) -> Sink
-        ensures { result ≡ record { shared = None; output = OutputText lines.text } }
+    /// A sink that appends lines to this text.
+    pub fn text(alloc: Global, text: GrowingText) -> Sink
+        ensures { result ≡ record { shared = None; output = OutputText text } }
     {
         Sink {
             alloc,
-            form: Form::Lines(lines),
+            form: Form::Text(text),
         }
     }
 
     /// Appends the lines of a family that come before its samples. A sink that keeps samples ignores them. Fails if memory runs out.
-    pub fn append_heads(
-        &mut self,
-        name: &str,
-        metric_type: MetricType,
-        help: &str,
-        unit: Option<&str>,
-    ) -> Result<(), AllocError>
+    pub fn append_heads(&mut self, name: &str, head: FamilyHead<'_>) -> Result<(), AllocError>
         ensures shared { self.new.shared ≡ self.old.shared }
         ensures grown { OnOk result
-            (self.new.output ≡ with_lines self.old.output (head_rows (record {
-              name = name.now;
-              metric_type = metric_type;
-              help = help.now;
-              unit = option_copied unit.entry;
-              samples = [];
-            }))) }
+            (self.new.output
+            ≡ with_lines self.old.output (head_rows (headed name.now head.entry))) }
     {
         match &mut self.form {
             Form::Samples(_, _) => Ok(()),
-            Form::Lines(lines) => append_heads(&mut lines.text, name, metric_type, help, unit),
+            Form::Text(text) => append_heads(text, name, head),
         }
     }
 
-    /// Ends the point. The next samples have these common labels; samples that are kept share one copy. Fails if memory runs out;
-    /// then the sink takes no samples until labels are shared again.
-    pub fn share(&mut self, common: &LabelText) -> Result<(), AllocError>
-        ensures output { self.new.output ≡ self.old.output }
-        ensures shared { OnOk result (AreShared common.now.labels self.new.shared) }
-        ensures none { OnErr result (self.new.shared ≡ None) }
-    {
-        if let Form::Samples(store, are_shared) = &mut self.form {
-            *are_shared = false;
-            store.share(shared(self.alloc, common)?);
-            *are_shared = true;
-        }
-        Ok(())
-    }
-
-    /// Ends the sharing: a sink that keeps samples takes none until labels are shared again.
+    /// Ends the sharing of common labels: the next sample may have others.
     pub fn unshare(&mut self)
         ensures { self.new ≡ record self.old { shared = None } }
     {
-        if let Form::Samples(_, is_shared) = &mut self.form {
-            *is_shared = false;
+        if let Form::Samples(_, are_shared) = &mut self.form {
+            *are_shared = false;
         }
     }
 
@@ -156,97 +161,55 @@ impl Sink {
         }
     }
 
-    /// Takes a sample of the family with this printed name. Its own labels come after the common ones, which are those that were
-    /// shared. The time is in milliseconds.
+    /// Takes a sample of the family with this printed name. Samples that are kept share one copy of their common labels, until
+    /// `unshare` is called. The front of the sample's line may have been rendered before: samples of one kind with the same common
+    /// labels share it. A sink that keeps samples ignores it.
     ///
-    /// Fails if memory runs out; then the lines may end in a part of a line.
+    /// Fails if memory runs out; then the text may end in a part of a line.
     pub fn push(
         &mut self,
         name: &str,
-        kind: SampleKind,
-        common: &LabelText,
-        own: &LabelText,
-        value: &Value,
-        time: Option<u128>,
-        exemplar: Option<Exemplar>,
-    ) -> Result<(), EncodeError>
-        requires shared { AreShared common.now.labels self.old.shared }
-        ensures shared { self.new.shared ≡ self.old.shared }
-        ensures pushed { OnOk result (self.new.output ≡ appended name.now self.old.output (record {
-          kind = kind;
-          labels = common.now.labels ++ own.now.labels;
-          value = value_of value.now;
-          time = time;
-          exemplar = option_map exemplar_of exemplar;
-        } ∷ [])) }
-        ensures memory { IfErr result (λ e. e ≡ EncodeError.Memory) }
+        sample: NewSample<'_>,
+        front: Option<&GrowingText>,
+    ) -> Result<(), AllocError>
+        requires shared { AreShared sample.common.now.labels self.old.shared }
+        requires front { IfSome front (λ f. IsFrontOf sample name.now f.now) }
+        ensures shared { AreShared sample.entry.common.now.labels self.new.shared }
+        ensures one_copy { OnOk result
+            (self.new.shared ≡ shared_by self.old.output sample.entry.common.now.labels) }
+        ensures pushed { OnOk result
+            (self.new.output ≡ appended name.now self.old.output (new_sample sample.entry ∷ [])) }
     {
         match &mut self.form {
-            Form::Samples(_, false) => Err(EncodeError::Memory),
-            Form::Samples(store, true) => {
-                store.push(kind, copied(self.alloc, own)?, *value, time, exemplar)
+            Form::Samples(store, true) => keep(self.alloc, store, sample),
+            Form::Samples(store, are_shared) => {
+                store.share(shared(self.alloc, sample.common)?);
+                *are_shared = true;
+                keep(self.alloc, store, sample)
             }
-            Form::Lines(lines) => {
-                let (text, exemplar) = (&mut lines.text, exemplar.as_ref());
-                Ok(append_sample_row(text, name, kind, common, own, value, time, exemplar)?)
-            }
+            Form::Text(text) => append_row(text, name, &sample, front),
         }
     }
 
-    /// Takes a sample as `push` does. The sample has labels of its own, and the front of its line was rendered before: samples of one
-    /// kind with the same common labels share it. A sink that keeps samples ignores it.
-    ///
-    /// Fails if memory runs out; then the lines may end in a part of a line.
-    pub fn push_behind(
-        &mut self,
-        front: &GrowingText,
-        name: &str,
-        kind: SampleKind,
-        common: &LabelText,
-        own: &LabelText,
-        value: &Value,
-        time: Option<u128>,
-        exemplar: Option<Exemplar>,
-    ) -> Result<(), EncodeError>
-        requires shared { AreShared common.now.labels self.old.shared }
-        requires front { front.now ≡ line_front name.now kind common.now.labels }
-        requires own { 0 < length own.now.labels }
-        ensures shared { self.new.shared ≡ self.old.shared }
-        ensures pushed { OnOk result (self.new.output ≡ appended name.now self.old.output (record {
-          kind = kind;
-          labels = common.now.labels ++ own.now.labels;
-          value = value_of value.now;
-          time = time;
-          exemplar = option_map exemplar_of exemplar;
-        } ∷ [])) }
-        ensures memory { IfErr result (λ e. e ≡ EncodeError.Memory) }
-    {
-        let Form::Lines(lines) = &mut self.form else {
-            return self.push(name, kind, common, own, value, time, exemplar);
-        };
-        let (text, exemplar) = (&mut lines.text, exemplar.as_ref());
-        Ok(append_row_behind(text, front, own, value, time, exemplar)?)
-    }
-
-    /// The samples, or `None` if the sink appends lines.
+    /// The samples, or `None` if the sink appends to a text.
     pub fn into_samples(self) -> Option<SampleStore>
         ensures { option_map (λ stored. stored.samples) result ≡ samples_in self.output }
     {
         let Sink { form, .. } = self;
         match form {
             Form::Samples(store, _) => Some(store),
-            Form::Lines(_) => None,
+            Form::Text(_) => None,
         }
     }
 
-    /// The lines, or `None` if the sink keeps samples.
-    pub fn into_lines(self) -> Option<Lines>
-        ensures { result ≡ lines_in self.output }
+    /// The text, or `None` if the sink keeps samples.
+    pub fn into_text(self) -> Option<GrowingText>
+        ensures { result ≡ text_in self.output }
     {
         let Sink { form, .. } = self;
         match form {
             Form::Samples(_, _) => None,
-            Form::Lines(lines) => Some(lines),
+            Form::Text(text) => Some(text),
         }
     }
 }

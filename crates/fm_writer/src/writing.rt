@@ -14,10 +14,10 @@ ghost use Rattle.fm_writer.specs.inside.Grown.{Grows, size_of};
 ghost use Rattle.fm_writer.specs.inside.Utf8.{IsUtf8Family};
 
 use crate::growing::GrowingText;
-use crate::heads::append_heads;
+use crate::heads::{FamilyHead, append_heads};
 use crate::labels::{Rendered, render_label_list};
 use crate::output::{Output, Size};
-use crate::rendering::append_sample_row;
+use crate::rendering::{Reading, append_sample_row};
 use fm_encode_error::EncodeError;
 use fm_exposition::{Exposition, FamilySamples, Sample, parts, write_text};
 use std::alloc::{AllocError, Global};
@@ -38,16 +38,14 @@ fn append_sample<O: Output>(
         labels: parts::common(sample),
         text: common_text,
     };
-    append_sample_row(
-        text,
-        name,
-        sample.kind(),
-        &common,
-        &parts::own(sample),
-        &sample.value(),
-        sample.timestamp_millis(),
-        sample.exemplar(),
-    )
+    let value = sample.value();
+    let reading = Reading {
+        value: &value,
+        time: sample.timestamp_millis(),
+        exemplar: sample.exemplar(),
+    };
+    let own = parts::own(sample);
+    append_sample_row(text, name, sample.kind(), &common, &own, reading)
 }
 
 // Appends the lines of samples that share common labels, given the text of these.
@@ -120,13 +118,12 @@ fn append_family<O: Output>(
         (family_rows family.now)) }
     ensures utf8 { OnOk result (IsUtf8Family family.now) }
 {
-    append_heads(
-        text,
-        family.name(),
-        family.metric_type(),
-        family.help(),
-        family.unit(),
-    )?;
+    let head = FamilyHead {
+        metric_type: family.metric_type(),
+        help: family.help(),
+        unit: family.unit(),
+    };
+    append_heads(text, family.name(), head)?;
     let (points, samples) = parts::points(family);
     append_points(text, common_text, family.name(), points, samples)
 }

@@ -1,16 +1,20 @@
 -- The text of a document, as it grows metric by metric.
 use Rattle.std.specs.Prelude.{◌≡◌, ℕ, List, [], ◌++◌, Option, None, ◌⊎◌}
+use Rattle.std.specs.Option.{option_copied}
 use Rattle.fm_grammar.specs.Exposition.{Text, Family, Exposition}
 use Rattle.fm_grammar.specs.WellFormed.{IsFamily}
 use Rattle.fm_grammar.specs.Reading.{IsExposition}
 use Rattle.fm_exposition.specs.Rows.{head_rows}
+use Rattle.fm_exposition.specs.Samples.{labels_of}
 use Rattle.fm_exposition.specs.inside.DocumentRows.{family_rows, families_rows}
+use Rattle.fm_raw.specs.declared.metadata.Metadata.{Metadata}
 use Rattle.fm_registry_model.specs.Registration.{printed_unit}
 use Rattle.fm_registry_model.specs.Listing.{Listed, listed_name}
 use Rattle.fm_writer.specs.Output.{Output, OutputSamples, OutputText}
 use Rattle.fm_encoder.specs.Points.{Member}
 use Rattle.fm_encoder.specs.Gathered.{GatheredMembers}
-use Rattle.fm_core.specs.Families.{Heading}
+use Rattle.fm_core.specs.Families.{Heading, heading_in}
+use Rattle.fm_core.specs.declared.scope.Scope.{Scope}
 use Rattle.fm_core.specs.Admits.{IsFamilyOf, Admits}
 
 -- what is listed of a metric besides the metric itself
@@ -19,20 +23,24 @@ heading_of l =
     let r = l.registration in
     record { namespace = l.namespace; labels = l.labels; registration = record { name = r.name; help = r.help; metric_type = r.metric_type; unit = r.unit; metric = tt {0} } }
 
+-- the heading of a metric with this metadata in a registry with this namespace and these labels
+abbrev pub heading_within : Scope → Metadata → Heading
+heading_within scope metadata = heading_in (option_copied scope.namespace) (labels_of scope.constants.now) metadata
+
 -- the lines under a heading that come before its samples
 abbrev pub heading_rows : Heading → Text
 heading_rows heading =
     let registration = heading.registration in
     head_rows (record { name = listed_name heading; metric_type = registration.metric_type; help = registration.help; unit = printed_unit registration.unit; samples = [] })
 
--- the text of an output that has one
-abbrev pub text_in : Output → Text
-text_in (OutputSamples samples) = []
-text_in (OutputText text) = text
+-- the text so far of an output that has one
+abbrev pub text_so_far : Output → Text
+text_so_far (OutputSamples samples) = []
+text_so_far (OutputText text) = text
 
 -- the encoder has a text, and has refused nothing
 pub record HasLines (encoder : GatheredMembers) : Type 0 where
-  pub text : encoder.output ≡ OutputText (text_in encoder.output)
+  pub text : encoder.output ≡ OutputText (text_so_far encoder.output)
   pub accepting : encoder.refused ≡ None
 
 module _ {M : Type 0} (Offers : M → Option ℕ → List Member → Type 0) (Stamps : M → Option ℕ → Type 0) (Empty : M → Type 0) where

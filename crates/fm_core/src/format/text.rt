@@ -1,21 +1,21 @@
 //! The OpenMetrics text format: collecting a registry, writing its document, and reading documents back.
 ghost use Rattle.std.specs.Prelude.{◌≡◌, ◌⊎◌, None, OnOk, IfOk, IfErr};
-ghost use Rattle.std.specs.Option.{option_copied};
 ghost use Rattle.std.specs.Io.KnownBytes.{Keeps};
 ghost use Rattle.fm_grammar.specs.Reading.{IsNewName};
 ghost use Rattle.fm_encode_error.specs.declared.EncodeError.{EncodeError};
-ghost use Rattle.fm_exposition.specs.Samples.{labels_of};
 ghost use Rattle.fm_exposition.specs.Written.{IsWritersFault};
 ghost use Rattle.fm_registry_model.specs.Listing.{listed_name, order, IsListable};
 ghost use Rattle.fm_registry_model.specs.Tree.{Shows};
 ghost use Rattle.fm_registry.specs.Seen.{seen_listed};
 ghost use Rattle.fm_registry.specs.HasHistory.{HasHistory};
-ghost use Rattle.fm_core.specs.Families.{heading_in, AddsFamily, FaultUnder};
+ghost use Rattle.fm_core.specs.Families.{AddsFamily, FaultUnder};
 ghost use Rattle.fm_core.specs.Admits.{AdmittedBy, AdmitsNext, FaultOf, Fault};
 ghost use Rattle.fm_core.specs.Encoded.{WritesAdmitted, BeginsAdmitted};
+ghost use Rattle.fm_core.specs.inside.Documents.{heading_within};
 
 use crate::document::{document_lines, write_lines};
 use crate::family::MetricFamilyEncoder;
+use crate::scope::Scope;
 pub use fm_encode_error::EncodeError;
 use fm_encoder::EncodeMetric;
 pub use fm_exposition::{Exemplar, Exposition, FamilySamples, Sample, Value};
@@ -33,28 +33,25 @@ pub const CONTENT_TYPE: &str = "application/openmetrics-text; version=1.0.0; cha
 // Goes on to a registry, and takes a metric of it, which has a new name.
 fn encode_under<'a, M: EncodeMetric>(
     encoder: &mut MetricFamilyEncoder<'a>,
-    namespace: Option<&'a str>,
-    constants: &'a [(String, String)],
+    scope: Scope<'a>,
     metadata: &Metadata,
     metric: &M,
 ) -> Result<(), EncodeError>
-    requires heading { IsListable
-        (heading_in (option_copied namespace) (labels_of constants.now) metadata.now) }
+    requires heading { IsListable (heading_within scope metadata.now) }
     requires new_name { IsNewName
-        (listed_name (heading_in (option_copied namespace) (labels_of constants.now) metadata.now))
-        encoder.old.families }
+        (listed_name (heading_within scope metadata.now)) encoder.old.families }
     requires accepting { encoder.old.refused ≡ None }
     ensures accepting { OnOk result (encoder.new.refused ≡ None) }
     ensures ok { OnOk result
         (AddsFamily (M.offers metric.now) (M.stamps metric.now) (M.may_be_empty metric.now)
-        (heading_in (option_copied namespace.entry) (labels_of constants.now) metadata.now)
+        (heading_within scope.entry metadata.now)
         encoder.old.families
         encoder.new.families) }
     ensures err { IfErr result (λ k. (k ≡ EncodeError.Memory)
         ⊎ FaultUnder (M.offers metric.now) (M.stamps metric.now) k (M.may_fault metric.now)
-        (heading_in (option_copied namespace.entry) (labels_of constants.now) metadata.now)) }
+        (heading_within scope.entry metadata.now)) }
 {
-    encoder.enter(namespace, constants);
+    encoder.enter(scope);
     encoder.encode(metadata, metric)
 }
 
@@ -74,13 +71,11 @@ fn encode_listed<'a, M: EncodeMetric>(
     ensures err { IfErr result (λ k. (k ≡ EncodeError.Memory)
         ⊎ FaultOf k (λ m. M.offers m) (λ m. M.stamps m) (λ m. M.may_fault m) (seen_listed listed.now)) }
 {
-    encode_under(
-        encoder,
-        listed.namespace,
-        listed.const_labels,
-        listed.metadata,
-        listed.metric,
-    )
+    let scope = Scope {
+        namespace: listed.namespace,
+        constants: listed.const_labels,
+    };
+    encode_under(encoder, scope, listed.metadata, listed.metric)
 }
 
 /// The exposition of a registry and all below it: a family for each metric that isn't empty, a registry's metrics by

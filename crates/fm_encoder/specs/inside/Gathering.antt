@@ -12,8 +12,7 @@ use Rattle.fm_encoder.specs.declared.point.PointEncoder.TheInside.{Inside}
 pub record IsGathering (e : Inside) : Type 0 where
   pub name : IsSnakeCase (string_bytes e.name)
   pub labels : AreLabels e.labels.labels
-  pub of_type : e.labels.metric_type ≡ e.metric_type
-  pub free : AreFree e.metric_type e.labels.labels
+  pub free : AreFree e.labels.metric_type e.labels.labels
   pub shared : AreShared e.labels.labels e.sink.shared
   pub time : IfSome e.time AreMillis
   pub none : e.none.labels ≡ []

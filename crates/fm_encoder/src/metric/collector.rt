@@ -1,11 +1,11 @@
 //! What the collector and families call, and no metric: encoders are made, told the next family, and taken apart.
 ghost use Rattle.std.specs.Prelude.{◌≡◌, [], ◌⊎◌, None, Some, IfSome, OnOk, IfOk, IfErr, Err, string_bytes};
-ghost use Rattle.std.specs.Option.{option_copied};
 ghost use Rattle.fm_grammar.specs.Names.{IsSnakeCase};
 ghost use Rattle.fm_grammar.specs.WellFormed.{AreMillis};
 ghost use Rattle.fm_encode_error.specs.declared.EncodeError.{EncodeError};
 ghost use Rattle.fm_exposition.specs.Rows.{head_rows};
 ghost use Rattle.fm_exposition.specs.Samples.{labels_of};
+ghost use Rattle.fm_writer.specs.Heads.{headed};
 ghost use Rattle.fm_writer.specs.Output.{AreShared, OutputText, with_lines};
 ghost use Rattle.fm_encoder.specs.Gathered.{IsOutcome, result_of};
 ghost use Rattle.fm_encoder.specs.Kept.{Keeps};
@@ -19,7 +19,7 @@ use crate::metric::MetricEncoder;
 use crate::point::{EncodePoint, PointEncoder};
 use fm_encode_error::EncodeError;
 use fm_grammar::MetricType;
-use fm_writer::{Lines, Sink};
+use fm_writer::{FamilyHead, GrowingText, Sink};
 use std::alloc::Global;
 
 /// An encoder for the family with this printed name, this type, these constant labels and this timestamp in milliseconds.
@@ -60,11 +60,11 @@ pub fn for_lines(alloc: Global) -> Result<MetricEncoder, EncodeError>
     ensures memory { IfErr result (λ e. e ≡ EncodeError.Memory) }
 {
     let name = String::from_str(alloc, "unnamed")?;
-    let sink = Sink::lines(alloc, Lines::new(alloc));
+    let sink = Sink::text(alloc, GrowingText::new(alloc));
     for_family(alloc, name, MetricType::Unknown, &[], None, sink)
 }
 
-/// Goes on to the family with this printed name, this type and these constant labels, and appends the lines that come before
+/// Goes on to the family with this printed name, this head and these constant labels, and appends the lines that come before
 /// its samples. The timestamp, in milliseconds, is written on each sample. `name` is swapped with the name of the family
 /// before. Fails with `Memory` if memory runs out; then that is the encoder's refusal, and the text may end in a part of these
 /// lines. An encoder that has refused something stays as it is, and returns that refusal.
@@ -72,9 +72,7 @@ pub fn begin_family(
     encoder: &mut MetricEncoder,
     alloc: Global,
     name: &mut String,
-    metric_type: MetricType,
-    help: &str,
-    unit: Option<&str>,
+    head: FamilyHead<'_>,
     constants: &[(String, String)],
     time: Option<u128>,
 ) -> Result<(), EncodeError>
@@ -82,17 +80,15 @@ pub fn begin_family(
     requires time { IfSome time AreMillis }
     ensures begun { OnOk result (encoder.new ≡ record {
       context = record {
-        setting =
-            record { name = string_bytes name.old; metric_type = metric_type; time = time };
+        setting = record {
+          name = string_bytes name.old;
+          metric_type = head.entry.metric_type;
+          time = time;
+        };
         constants = labels_of constants.now;
       };
-      output = with_lines encoder.old.output (head_rows (record {
-        name = string_bytes name.old;
-        metric_type = metric_type;
-        help = help.now;
-        unit = option_copied unit.entry;
-        samples = [];
-      }));
+      output = with_lines encoder.old.output
+          (head_rows (headed (string_bytes name.old) head.entry));
       refused = None;
     }) }
     ensures kept { (k : EncodeError) → encoder.old.refused ≡ Some k
@@ -104,12 +100,10 @@ pub fn begin_family(
     if let Some(error) = encoder.points.refusal() {
         return Err(error);
     }
-    if let Err(error) = encoder.constants.begin(alloc, metric_type, constants) {
+    if let Err(error) = encoder.constants.begin(alloc, head.metric_type, constants) {
         return encoder.points.refuse(error);
     }
-    encoder
-        .points
-        .begin_family(name, metric_type, help, unit, time)
+    encoder.points.begin_family(name, head, time)
 }
 
 /// Takes a member as `MetricEncoder::encode` does. If its labels were kept, and the family has no constant labels, the kept labels are copied

@@ -23,7 +23,7 @@ use fm_exposition::Exemplar;
 use fm_grammar::{MetricType, SampleKind};
 use fm_raw::bucket::Bucket;
 use fm_raw::fixed::FixedSum;
-use fm_writer::{GrowingText, render_front};
+use fm_writer::{GrowingText, NewSample, render_front};
 use std::mem;
 use std::time::Duration;
 
@@ -84,7 +84,8 @@ impl PointEncoder {
         ensures { Takes
             (BeginsBuckets metric_type buckets slots self.old self.new) self.new.refused result }
     {
-        if self.refused.error.is_none() && metric_type == self.metric_type && buckets != slots {
+        let is_of_type = metric_type == self.labels.metric_type();
+        if self.refused.error.is_none() && is_of_type && buckets != slots {
             return self.refused.refuse(EncodeError::ExemplarCountMismatch);
         }
         self.begin_point(metric_type)
@@ -186,18 +187,17 @@ impl PointEncoder {
         let Ok(own) = kept_label(self.alloc, &mut self.bounds, index, bucket) else {
             return self.refused.refuse(EncodeError::Memory);
         };
-        match self.sink.push_behind(
-            front,
-            self.name.as_str(),
-            SampleKind::Bucket,
-            self.labels.text(),
+        let sample = NewSample {
+            kind: SampleKind::Bucket,
+            common: self.labels.text(),
             own,
-            &count_value(values),
-            self.time,
+            value: count_value(values),
+            time: self.time,
             exemplar,
-        ) {
+        };
+        match self.sink.push(self.name.as_str(), sample, Some(front)) {
             Ok(()) => Ok(()),
-            Err(error) => self.refused.refuse(error),
+            Err(_) => self.refused.refuse(EncodeError::Memory),
         }
     }
 }

@@ -95,7 +95,7 @@ impl PointEncoder {
             (LS.may_fault labels.now) self.old self.new result }
     {
         self.begin_point(MetricType::Info)?;
-        let mut all = LabelSetEncoder::new(self.alloc, self.metric_type);
+        let mut all = LabelSetEncoder::new(self.alloc, self.labels.metric_type());
         if let Err(_) = all.restart(self.labels.text()) {
             return self.refused.refuse(EncodeError::Memory);
         }

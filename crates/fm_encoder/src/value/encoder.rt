@@ -76,9 +76,7 @@ impl<K> ValueEncoder<K> {
         requires { IsNumber (value_of number) }
         ensures { TakesNumbers (value_of number ∷ []) ⊥ self.old self.new result }
     {
-        if let Some(error) = self.refused.error {
-            return Err(error);
-        }
+        self.refused.check()?;
         if self.number.is_some() {
             return self.refused.refuse(EncodeError::ValueTwice);
         }
@@ -96,9 +94,7 @@ impl<K> ValueEncoder<K> {
             ⊎ ((self.refused ≡ None) × (visited ≡ Ok tt)
             × (k ≡ EncodeError.MissingValue) × (self.numbers ≡ [])))) }
     {
-        if let Some(error) = self.refused.error {
-            return Err(error);
-        }
+        self.refused.check()?;
         match (visited, self.number) {
             (Ok(()), Some(number)) => Ok(number),
             (Ok(()), None) => Err(EncodeError::MissingValue),

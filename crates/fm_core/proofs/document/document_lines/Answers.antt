@@ -8,7 +8,7 @@ use Rattle.fm_registry.specs.Seen.{seen_list, seen_listed}
 use Rattle.fm_grammar.specs.Exposition.{Text}
 use Rattle.fm_writer.specs.Output.{OutputText}
 use Rattle.fm_core.specs.Admits.{Admits, Fault}
-use Rattle.fm_core.specs.inside.Documents.{text_in}
+use Rattle.fm_core.specs.inside.Documents.{text_so_far}
 use Rattle.fm_core.proofs.CollectLemmas.{names_differ, Fault-at, IsListable-at, refusal-not_writing}
 use Rattle.fm_core.proofs.DocumentLemmas.{IsTextOf-none, IsTextOf-next}
 use Rattle.fm_core.proofs.document.document_lines.Goals as goal
@@ -25,7 +25,7 @@ loop-listed-init g c =
     let made = rw c.in_ok-encoder.was at c.for_lines.ensures.made in
     let output = made.0 in
     record {
-      lines = record { text = output ∙ ap OutputText (sym (ap text_in output)); accepting = made.1 };
+      lines = record { text = output ∙ ap OutputText (sym (ap text_so_far output)); accepting = made.1 };
       text = rw output (IsTextOf-none _ _ _);
     }
 
@@ -35,7 +35,7 @@ loop-listed-preserved g c =
     let added = rw c.in_ok-add_listed.was at c.add_listed.ensures in
     record {
       lines = added.0;
-      text = IsTextOf-next _ _ _ c.deref-listed-items.result.now c.loop-listed.listed-index c.listed-item.result (text_in c.loop-listed.encoder.output) (text_in c.add_listed.new.encoder.output)
+      text = IsTextOf-next _ _ _ c.deref-listed-items.result.now c.loop-listed.listed-index c.listed-item.result (text_so_far c.loop-listed.encoder.output) (text_so_far c.add_listed.new.encoder.output)
           within c.listed-item.is
           (names_differ c.args.registry.now c.requires.history (seen_list c.deref-listed-items.result.now) c.requires.reads (ap seen_list c.deref-listed-items.ensures.value ∙ c.in-Ok.ensures.history c.requires c.requires.history c.requires.reads.shows))
           c.loop-listed.invariant.text added.1;

@@ -1,7 +1,6 @@
 use Rattle.std.proofs.Common.{◌≡◌, None, ap, ◌∙◌}
-use Rattle.std.specs.Option.{option_copied}
-use Rattle.fm_exposition.specs.Samples.{labels_of}
 use Rattle.fm_core.specs.Families.{heading_in, next_heading}
+use Rattle.fm_core.specs.inside.Documents.{heading_within}
 use Rattle.fm_core.proofs.CollectLemmas.{refused_under}
 use Rattle.fm_core.proofs.format.text.encode_under.Goals as goal
 
@@ -9,6 +8,6 @@ pub returns-clause-err : goal.returns-clause-err
 returns-clause-err g c =
     let accepting : c.enter.new.self.refused ≡ None = ap (λ e. e.refused) c.enter.ensures ∙ c.requires.accepting in
     let members = g.M.EncodeMetric in
-    refused_under (members.offers c.args.metric.now) (members.stamps c.args.metric.now) (members.may_fault c.args.metric.now) (next_heading c.enter.new.self c.args.metadata.now) (heading_in (option_copied c.args.namespace) (labels_of c.args.constants.now) c.args.metadata.now) c.encode.result c.encode.new.self.refused
+    refused_under (members.offers c.args.metric.now) (members.stamps c.args.metric.now) (members.may_fault c.args.metric.now) (next_heading c.enter.new.self c.args.metadata.now) (heading_within c.args.scope c.args.metadata.now) c.encode.result c.encode.new.self.refused
     (ap (λ e. heading_in e.namespace e.labels c.args.metadata.now) c.enter.ensures) c.encode.ensures.answered
     (λ k is. c.encode.ensures.handed.refused k accepting is)

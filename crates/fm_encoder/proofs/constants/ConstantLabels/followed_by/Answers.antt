@@ -1,5 +1,4 @@
-use Rattle.std.proofs.Common.{◌≡◌, ◌⊎◌, ◌++◌, ◌∙◌, [], Ok, Err, inr, ap, subst, arith, rules}
-use Rattle.std.proofs.lemmas.List.{nil_from_length}
+use Rattle.std.proofs.Common.{◌≡◌, ◌⊎◌, ◌++◌, ◌∙◌, [], Ok, Err, inr, ap, subst, rules}
 use Rattle.std.proofs.lemmas.Result.{err_from_is_err_and}
 use Rattle.fm_grammar.specs.declared.MetricType.{MetricType}
 use Rattle.fm_encoder.specs.inside.Constants.{FamilyConstants}
@@ -8,7 +7,6 @@ use Rattle.fm_encoder.specs.Gathered.{OwnRefusal}
 use Rattle.fm_encoder.proofs.Cases.{none_from_not}
 use Rattle.fm_encoder.proofs.LabelsLemmas.{LabelsFault-append, behind_constants}
 use Rattle.fm_encoder.proofs.constants.ConstantLabels.followed_by.Goals as goal
-use Rattle.fm_encoder.proofs.constants.ConstantLabels.followed_by.Goals.{then-len-gt0+in_ok-restart+in_ok-read_labels, else-len-gt0+in-Some-kept+in_ok-restart-2, else-len-gt0+in_default-kept+in_ok-read_labels-2}
 
 pub returns-in-Some-clause-gathered : goal.returns-in-Some-clause-gathered
 returns-in-Some-clause-gathered g c =
@@ -30,21 +28,12 @@ returns-in_err-read_labels-clause-gathered g c =
     let refused : OwnRefusal MayFault exit.0 ⊎ LabelsFault exit.0 type inside.labels.labels labels = search rules in
     rw (exit.1, ← c.self.view_is) (behind_constants {L = Unit {0}} (λ _. c.read_labels.new.encoder.labels) type inside.labels.labels labels MayFault (Err exit.0) clean refused)
 
-pub returns-clause-gathered : goal.returns-clause-gathered
-returns-clause-gathered g c =
+pub returns-in_ok-read_labels-clause-gathered : goal.returns-in_ok-read_labels-clause-gathered
+returns-in_ok-read_labels-clause-gathered g c =
     let inside = c.self.inside in
     let labels = g.LS.EncodeLabelSet.labels c.args.labels.now in
     let type = c.args.encoder.now.metric_type in
     let same = ap (λ (k : FamilyConstants). k.metric_type) c.self.view_is ∙ c.requires.of_type in
     let clean = subst (λ (type : MetricType). LabelsClean type [] (handed_again inside.labels.labels)) same (c.self.invariant.clean (none_from_not _ c.in_default.not-Some)) in
-    let gathered : LabelsClean type inside.labels.labels labels × (c.if-len-gt0.encoder.labels ≡ inside.labels.labels ++ all_written labels) = elim c.if-len-gt0.branch [
-      | then-len-gt0+in_ok-restart+in_ok-read_labels w ↦ search rules
-      | else-len-gt0+in-Some-kept+in_ok-restart-2 w ↦
-          (let none : inside.labels.labels ≡ [] = nil_from_length _ (omega (arith, c.len.ensures, w.if-len-gt0.false)) in
-          let kept = rw w.in-Some-kept.is at c.requires.kept in
-          rw (none, w.encoder-is, w.in_ok-restart-2.ensures.restarted, w.kept.view_is) (kept.clean type, kept.written))
-      | else-len-gt0+in_default-kept+in_ok-read_labels-2 w ↦
-          (let none : inside.labels.labels ≡ [] = nil_from_length _ (omega (arith, c.len.ensures, w.if-len-gt0.false)) in
-          rw (none, w.encoder-is) (rw (w.begin.ensures, same) at w.in_ok-read_labels-2.ensures.gathered))
-    ] in
-    rw (← c.self.view_is) (behind_constants {L = Unit {0}} (λ _. c.if-len-gt0.encoder.labels) type inside.labels.labels labels (g.LS.EncodeLabelSet.may_fault c.args.labels.now) (Ok tt) clean gathered)
+    let gathered : LabelsClean type inside.labels.labels labels × (c.read_labels.new.encoder.labels ≡ inside.labels.labels ++ all_written labels) = search rules in
+    rw (← c.self.view_is) (behind_constants {L = Unit {0}} (λ _. c.read_labels.new.encoder.labels) type inside.labels.labels labels (g.LS.EncodeLabelSet.may_fault c.args.labels.now) (Ok tt) clean gathered)

@@ -8,6 +8,6 @@ returns-in-Err g c =
     let refused = λ (e : GatheredExemplars). e.refused in
     let kept = c.refuse-in-Err.ensures.kept in
     rw c.refuse-in-Err.ensures.returned (record {
-      handed = HandsExemplars-refused _ _ c.in-Err.error _ _ (ap refused (sym c.self.view_is) ∙ c.in_default.is) kept c.in-Err.ensures;
+      handed = HandsExemplars-refused _ _ c.in-Err.error _ _ (ap refused (sym c.self.view_is) ∙ c.in_ok-check.ensures) kept c.in-Err.ensures;
       answered = sym (ap result_of kept);
     })

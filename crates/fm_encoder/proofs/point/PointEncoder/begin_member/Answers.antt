@@ -1,4 +1,4 @@
-use Rattle.std.proofs.Common.{sym, subst, ◌∙◌, []}
+use Rattle.std.proofs.Common.{sym, subst, []}
 use Rattle.fm_grammar.specs.declared.MetricType.{MetricType}
 use Rattle.fm_grammar.specs.WellFormed.{AreLabels}
 use Rattle.fm_encoder.specs.inside.FreeLabels.{AreFree}
@@ -13,9 +13,8 @@ invariant_of-self g c =
     record {
       name = c.self.invariant.name;
       labels = subst AreLabels (sym read.gathered.1) (AreLabels-written type _ read.gathered.0);
-      of_type = read.type_kept ∙ c.self.invariant.of_type;
-      free = subst (λ (t : MetricType). AreFree t labels) c.self.invariant.of_type (subst (AreFree type) (sym read.gathered.1) (AreFree-written type [] _ read.gathered.0));
-      shared = read.shared;
+      free = subst (λ (t : MetricType). AreFree t labels) (sym read.type_kept) (subst (AreFree type) (sym read.gathered.1) (AreFree-written type [] _ read.gathered.0));
+      shared = rw c.unshare.ensures tt;
       time = c.self.invariant.time;
       none = c.self.invariant.none;
     }

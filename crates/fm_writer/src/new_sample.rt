@@ -1,0 +1,21 @@
+//! A sample that a sink takes.
+use crate::label_text::LabelText;
+use fm_exposition::{Exemplar, Value};
+use fm_grammar::SampleKind;
+
+/// A sample of a family, on its way to a sink.
+#[derive(Drop)]
+pub struct NewSample<'a> {
+    /// Its kind, which decides the suffix of its name.
+    pub kind: SampleKind,
+    /// The labels that it shares with the other samples of its member.
+    pub common: &'a LabelText,
+    /// The labels of its own, which come after the common ones.
+    pub own: &'a LabelText,
+    /// Its value.
+    pub value: Value,
+    /// Its time in milliseconds.
+    pub time: Option<u128>,
+    /// Its exemplar.
+    pub exemplar: Option<Exemplar>,
+}
