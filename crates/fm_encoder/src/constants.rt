@@ -44,6 +44,30 @@ fn tested(
     Ok(encoder.into_text())
 }
 
+// Adds the labels that a label set emits, behind those that the encoder has. Kept labels are copied, unless one of them has the name of a
+// label that the encoder has.
+fn add_labels<LS: EncodeLabelSet>(
+    encoder: &mut LabelSetEncoder,
+    kept: Option<&KeptLabels>,
+    labels: &LS,
+) -> Result<(), EncodeError>
+    requires accepting { encoder.old.refused ≡ None }
+    requires kept { IfSome kept (λ k. Keeps (LS.labels labels.now) k.now) }
+    ensures type_kept { encoder.new.metric_type ≡ encoder.old.metric_type }
+    ensures gathered { MatchResult result
+        (λ _. LabelsClean encoder.old.metric_type encoder.old.labels (LS.labels labels.now)
+        × (encoder.new.labels ≡ encoder.old.labels ++ all_written (LS.labels labels.now)))
+        (λ k. OwnRefusal (LS.may_fault labels.now) k
+        ⊎ LabelsFault k encoder.old.metric_type encoder.old.labels (LS.labels labels.now)) }
+{
+    if let Some(kept) = kept {
+        if !encoder.text().has_name_of(&kept.labels) {
+            return Ok(encoder.append(&kept.labels)?);
+        }
+    }
+    read_labels(encoder, labels)
+}
+
 // The constant labels of a family, which are tested once.
 #[derive(Drop)]
 pub(crate) struct ConstantLabels {
@@ -134,7 +158,7 @@ impl ConstantLabels {
         }
         if self.labels.len() > 0 {
             encoder.restart(&self.labels)?;
-            read_labels(encoder, labels)?;
+            add_labels(encoder, kept, labels)?;
         } else if let Some(kept) = kept {
             encoder.restart(&kept.labels)?;
         } else {

@@ -225,6 +225,15 @@ impl LabelSetEncoder {
         self.label.labels.assign(before)
     }
 
+    // Adds copies of these labels without a test. If memory runs out, nothing is known of its labels.
+    pub(crate) fn append(&mut self, labels: &LabelText) -> Result<(), AllocError>
+        ensures type_kept { self.new.metric_type ≡ self.old.metric_type }
+        ensures appended { OnOk result
+            (self.new ≡ record self.old { labels = self.old.labels ++ labels.now.labels }) }
+    {
+        self.label.labels.append(labels)
+    }
+
     // Removes all labels, as if nothing had been refused, for a family of this type.
     pub(crate) fn begin(&mut self, metric_type: MetricType)
         ensures { self.new ≡ record { metric_type = metric_type; labels = []; refused = None } }

@@ -2,6 +2,8 @@
 #![tactic(auto)]
 
 #[cfg(test)]
+mod constants;
+#[cfg(test)]
 mod families;
 #[cfg(test)]
 mod keys;

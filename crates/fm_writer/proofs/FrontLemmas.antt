@@ -13,7 +13,7 @@ use Rattle.fm_writer.proofs.GrownLemmas.{block_back}
 use Rattle.fm_writer.proofs.RowLemmas.{after_value}
 
 -- the list of further labels, behind the front of a line, is the list of all
-list_behind : (common own : List Label) → 0 < length own → list_before common ++ label_list_text own ≡ label_list_text (common ++ own)
+pub list_behind : (common own : List Label) → 0 < length own → list_before common ++ label_list_text own ≡ label_list_text (common ++ own)
 list_behind [] own more = refl
 list_behind (first ∷ others) [] more = absurd (omega arith)
 list_behind (first ∷ others) (next ∷ back) more =

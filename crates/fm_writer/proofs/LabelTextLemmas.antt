@@ -12,8 +12,8 @@ use Rattle.fm_grammar.specs.Exposition.{Text, Label}
 use Rattle.fm_grammar.specs.Spelling.{escaped, label_text, label_list_text}
 use Rattle.fm_exposition.proofs.RowLemmas.{list_joined}
 use Rattle.fm_writer.specs.inside.Grown.{Grown}
-use Rattle.fm_writer.specs.declared.label_text.Part.{Part}
-use Rattle.fm_writer.specs.declared.label_text.Place.{Place}
+use Rattle.fm_writer.specs.declared.places.Part.{Part}
+use Rattle.fm_writer.specs.declared.places.Place.{Place}
 use Rattle.fm_writer.specs.Front.{list_before}
 use Rattle.fm_writer.specs.inside.LabelTexts.{part_in, label_in, labels_in, names_in, IsPart, IsPlace, AreParts, AreWithin, IsListed, AreListed, name_in_list, LabelsState, whole_label, whole_place}
 
@@ -60,7 +60,7 @@ some_grown old new more None grown is = tt
 some_grown old new more (Some p) grown is = IsPart-grown old new more p grown is
 
 -- one place more, if the current label has both parts
-places_pushed : (text : Text) (ps : List Place) (n v : Option Part) → AllByRecursion (IsPlace text) ps → IfSome n (IsPart text) → IfSome v (IsPart text) → AllByRecursion (IsPlace text) (ps ++ whole_place n v)
+pub places_pushed : (text : Text) (ps : List Place) (n v : Option Part) → AllByRecursion (IsPlace text) ps → IfSome n (IsPart text) → IfSome v (IsPart text) → AllByRecursion (IsPlace text) (ps ++ whole_place n v)
 places_pushed text [] None v a b c = tt
 places_pushed text [] (Some n) None a b c = tt
 places_pushed text [] (Some n) (Some v) a b c = (record { name = b; value = c }, tt)
@@ -112,11 +112,11 @@ all_from P xs zero all = all
 all_from P [] (suc i) all = tt
 all_from P (x ∷ xs) (suc i) all = all_from P xs i all.1
 
-names_push : (text : Text) (ps : List Place) (p : Place) → names_in text (ps ++ p ∷ []) ≡ names_in text ps ++ (label_in text p).name ∷ []
+pub names_push : (text : Text) (ps : List Place) (p : Place) → names_in text (ps ++ p ∷ []) ≡ names_in text ps ++ (label_in text p).name ∷ []
 names_push text [] p = refl
 names_push text (q ∷ ps) p = ap (λ (ns : List Text). (label_in text q).name ∷ ns) (names_push text ps p)
 
-Contains-one : (x y : Text) → Contains (y ∷ []) x → y ≡ x
+pub Contains-one : (x y : Text) → Contains (y ∷ []) x → y ≡ x
 Contains-one x y (zero, within, is) = is
 Contains-one x y (suc i, within, is) = absurd (omega arith)
 

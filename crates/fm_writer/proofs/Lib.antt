@@ -1,6 +1,7 @@
 pub mod FrontLemmas
 pub mod GrownLemmas
 pub mod OutputLemmas
+pub mod JoinedLemmas
 pub mod LabelTextLemmas
 pub mod PartLemmas
 pub mod PlainLemmas

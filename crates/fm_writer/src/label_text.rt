@@ -1,32 +1,18 @@
 //! Labels that are kept in one text.
 ghost use Rattle.std.specs.Prelude.{◌≡◌, ◌++◌, ◌≤◌, ◌<◌, ◌↔◌, IsTrue, [], length, drop, map, Contains, OnOk, OnErr, IfOk, Some, None, IsSome, true, is_some, codes, IfSome};
-ghost use Rattle.std.specs.Option.{option_map};
-ghost use Rattle.std.specs.List.{AllByRecursion};
+ghost use Rattle.std.specs.List.{Any};
 ghost use Rattle.fm_grammar.specs.Spelling.{label_list_text, escaped};
-ghost use Rattle.fm_exposition.specs.Samples.{label_of, labels_of, shown_label};
+ghost use Rattle.fm_exposition.specs.Samples.{labels_of, shown_label};
 ghost use Rattle.fm_writer.specs.inside.Grown.{Grown};
-ghost use Rattle.fm_writer.specs.inside.LabelTexts.{part_in, label_in, labels_in, IsPart, IsPlace, names_in, name_in_list, whole_label, whole_place};
+ghost use Rattle.fm_writer.specs.inside.LabelTexts.{part_in, labels_in, IsPart, name_in_list, further_list, whole_label, whole_place};
 
 use crate::growing::GrowingText;
 use crate::labels::{LabelSource, append_placed_list};
 use crate::output::Output;
+use crate::places::{Part, Place, are_labels, has_name, has_name_of, pairs_at, push_behind};
 use crate::plain::is_plain;
 use std::alloc::{AllocError, Global};
 use std::marker::Model;
-
-/// Where a name or a value is in a text.
-#[derive(Clone, Copy, Debug)]
-pub(crate) struct Part {
-    pub(crate) start: usize,
-    pub(crate) end: usize,
-}
-
-/// Where the name and the value of a label are in a text.
-#[derive(Clone, Copy, Debug)]
-pub(crate) struct Place {
-    pub(crate) name: Part,
-    pub(crate) value: Part,
-}
 
 // Appends a name or a value, and returns where it is.
 fn append_part(text: &mut GrowingText, part: &str) -> Result<Part, AllocError>
@@ -67,69 +53,22 @@ fn append_name(text: &mut GrowingText, is_first: bool, name: &str) -> Result<Par
     })
 }
 
-// The bytes of a name or a value.
-pub(crate) fn part_at(text: &[u8], part: Part) -> &[u8]
-    requires { IsPart text.now part }
-    ensures { result.now ≡ part_in text.now part }
+// Appends the list of further labels, after the quote that ends the previous label and a comma, and returns where it begins.
+fn append_further_list(
+    text: &mut GrowingText,
+    is_first: bool,
+    list: &[u8],
+) -> Result<usize, AllocError>
+    ensures grown { OnOk result (Grown text.old text.new (further_list is_first list.now)) }
+    ensures begin { IfOk result (λ at. (at ≤ length text.new) × (drop at text.new ≡ list.now)) }
+    ensures kept { OnErr result (text.new ≡ text.old) }
 {
-    &text[part.start..part.end]
-}
-
-// The text of a name or a value.
-fn str_at(text: &[u8], part: Part) -> &str
-    requires { IsPart text.now part }
-    ensures { result.now ≡ part_in text.now part }
-{
-    match str::from_utf8(part_at(text, part)) {
-        Ok(found) => found,
-        Err(_) => unreachable!(),
+    if is_first {
+        text.append(list)?;
+    } else {
+        text.put_three(b"\"", b",", list)?;
     }
-}
-
-// Whether one of the labels has this name.
-fn is_named(text: &[u8], place: &Place, name: &[u8]) -> bool
-    requires { IsPlace text.now place.now }
-    ensures { IsTrue result ↔ ((label_in text.now place.now).name ≡ name.now) }
-{
-    part_at(text, place.name) == name
-}
-
-// Whether one of the labels has this name.
-fn has_name(text: &[u8], places: &[Place], name: &[u8]) -> bool
-    requires { AllByRecursion (IsPlace text.now) places.now }
-    ensures { IsTrue result ↔ Contains (names_in text.now places.now) name.now }
-{
-    for place in places {
-        if is_named(text, place, name) {
-            return true;
-        }
-    }
-    false
-}
-
-// Whether the label at this place is this one.
-fn is_label(text: &[u8], place: &Place, label: &(String, String)) -> bool
-    requires { IsPlace text.now place.now }
-    ensures { IsTrue result → label_in text.now place.now ≡ label_of label.now }
-{
-    part_at(text, place.name) == label.0.as_bytes()
-        && part_at(text, place.value) == label.1.as_bytes()
-}
-
-// Whether the labels at these places are these.
-fn are_labels(text: &[u8], places: &[Place], labels: &[(String, String)]) -> bool
-    requires { AllByRecursion (IsPlace text.now) places.now }
-    ensures { IsTrue result → labels_in text.now places.now ≡ labels_of labels.now }
-{
-    if places.len() != labels.len() {
-        return false;
-    }
-    for i in 0..places.len() {
-        if !is_label(text, &places[i], &labels[i]) {
-            return false;
-        }
-    }
-    true
+    Ok(text.as_slice().len() - list.len())
 }
 
 // Adds the place of a label that has a name and a value.
@@ -157,6 +96,7 @@ fn push_place(
 }
 
 // Whether a text that is the labels' list, with these parts of the current label, is still that list after a further name.
+// Then it may also take further labels.
 fn may_take_name(is_listed: bool, name: Option<Part>, value: Option<Part>) -> bool
     ensures { IsTrue result → (is_listed ≡ true) × (name ≡ None) × (value ≡ None) }
 {
@@ -176,22 +116,6 @@ fn may_end(is_listed: bool, name: Option<Part>, value: Option<Part>) -> bool
     ensures { IsTrue result → (is_listed ≡ true) × (is_some name ≡ is_some value) }
 {
     is_listed && name.is_some() == value.is_some()
-}
-
-// The names and values of the labels.
-fn pairs_at<'a>(
-    alloc: Global,
-    text: &'a [u8],
-    places: &[Place],
-) -> Result<Vec<(&'a str, &'a str)>, AllocError>
-    requires { AllByRecursion (IsPlace text.now) places.now }
-    ensures { IfOk result (λ pairs. map shown_label pairs.items ≡ labels_in text.now places.now) }
-{
-    let mut pairs = Vec::new(alloc);
-    for place in places {
-        pairs.push((str_at(text, place.name), str_at(text, place.value)))?;
-    }
-    Ok(pairs)
 }
 
 /// Labels that are kept in one text, and the name and the value of the current label, which has not ended yet.
@@ -264,6 +188,15 @@ impl LabelText {
         has_name(self.text.as_slice(), &self.places, name.as_bytes())
     }
 
+    /// Whether one of its labels has the name of one of these.
+    pub fn has_name_of(&self, labels: &LabelText) -> bool
+        ensures { IsTrue result
+            ↔ Any (Contains (map (λ label. label.name) self.now.labels)) (map (λ label. label.name) labels.now.labels) }
+    {
+        let others = labels.text.as_slice();
+        has_name_of(self.text.as_slice(), &self.places, others, &labels.places)
+    }
+
     /// Whether its labels are these, in this order.
     pub fn are(&self, labels: &[(String, String)]) -> bool
         ensures { IsTrue result → self.now.labels ≡ labels_of labels.now }
@@ -296,6 +229,32 @@ impl LabelText {
         self.text.assign(&labels.text)?;
         places.extend_from_slice(&labels.places)?;
         self.is_listed = labels.is_listed && labels.name.is_none() && labels.value.is_none();
+        Ok(())
+    }
+
+    /// Adds copies of these labels behind its own, and drops the current label. Fails if memory runs out; then nothing is known
+    /// of its labels.
+    pub fn append(&mut self, labels: &LabelText) -> Result<(), AllocError>
+        ensures appended { OnOk result (self.new ≡ record {
+          labels = self.old.labels ++ labels.now.labels;
+          name = None;
+          value = None;
+        }) }
+        ensures idle { (self.new.name ≡ None) × (self.new.value ≡ None) }
+    {
+        self.is_listed = may_take_name(self.is_listed, self.name, self.value);
+        self.name = None;
+        self.value = None;
+        if labels.places.as_slice().is_empty() {
+            return Ok(());
+        }
+        let are_listed = self.is_listed
+            && may_take_name(labels.is_listed, labels.name, labels.value);
+        self.is_listed = false;
+        let is_first = self.places.as_slice().is_empty();
+        let by = append_further_list(&mut self.text, is_first, labels.text.as_slice())?;
+        push_behind(&mut self.places, self.text.as_slice(), by, &labels.places)?;
+        self.is_listed = are_listed;
         Ok(())
     }
 

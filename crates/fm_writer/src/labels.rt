@@ -7,8 +7,8 @@ ghost use Rattle.fm_exposition.specs.Samples.{labels_of};
 ghost use Rattle.fm_writer.specs.inside.Grown.{Grows};
 ghost use Rattle.fm_writer.specs.inside.LabelTexts.{labels_in, IsPlace};
 
-use crate::label_text::{Place, part_at};
 use crate::output::Output;
+use crate::places::{Place, part_at};
 use crate::plain::is_plain;
 use crate::rendering::append_escaped;
 use std::alloc::AllocError;

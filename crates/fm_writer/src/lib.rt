@@ -8,6 +8,7 @@ pub mod label_text;
 mod labels;
 mod new_sample;
 mod output;
+mod places;
 mod plain;
 mod rendering;
 pub mod sink;

@@ -106,8 +106,8 @@ pub fn begin_family(
     encoder.points.begin_family(name, head, time)
 }
 
-/// Takes a member as `MetricEncoder::encode` does. If its labels were kept, and the family has no constant labels, the kept labels are copied
-/// in place of reading them.
+/// Takes a member as `MetricEncoder::encode` does. If its labels were kept, and none has the name of a constant label, the kept labels are
+/// copied in place of reading them.
 pub fn encode_kept<LS: EncodeLabelSet, P: EncodePoint>(
     encoder: &mut MetricEncoder,
     kept: Option<&KeptLabels>,

@@ -6,8 +6,8 @@ use Rattle.std.specs.Option.{option_map}
 use Rattle.fm_grammar.specs.Exposition.{Text, Label}
 use Rattle.fm_grammar.specs.Spelling.{escaped, label_list_text}
 use Rattle.fm_writer.specs.Front.{list_before}
-use Rattle.fm_writer.specs.declared.label_text.Part.{Part}
-use Rattle.fm_writer.specs.declared.label_text.Place.{Place}
+use Rattle.fm_writer.specs.declared.places.Part.{Part}
+use Rattle.fm_writer.specs.declared.places.Place.{Place}
 
 -- the name or value at this place
 abbrev pub part_in : Text → Part → Text
@@ -43,6 +43,11 @@ pub record AreParts (text : Text) (ps : List Place) (n v : Option Part) : Type 0
 abbrev pub name_in_list : Bool → Text → Text
 name_in_list true n = [] ++ (n ++ codes "=\"")
 name_in_list false n = codes "\"," ++ (n ++ codes "=\"")
+
+-- what comes behind such a list for a further one to follow: if a label precedes it, the quote that ends that one, and a comma
+abbrev pub further_list : Bool → Text → Text
+further_list true list = list
+further_list false list = codes "\"" ++ (codes "," ++ list)
 
 -- the text is the list of the labels, except for the quote at its end, and the parts of the current label
 abbrev pub IsListed : Option Text → Option Text → Text → List Label → Type 0

@@ -16,24 +16,24 @@ returns-in-Some-clause-gathered g c =
     let fault = subst (λ (type : MetricType). LabelsFault c.in-Some.error type [] constants) same (c.self.invariant.fault _ c.in-Some.is) in
     rw (← c.self.view_is) (inr (LabelsFault-append c.in-Some.error c.args.encoder.now.metric_type [] constants (g.LS.EncodeLabelSet.labels c.args.labels.now) fault))
 
-pub returns-in_err-read_labels-clause-gathered : goal.returns-in_err-read_labels-clause-gathered
-returns-in_err-read_labels-clause-gathered g c =
+pub returns-in_err-add_labels-clause-gathered : goal.returns-in_err-add_labels-clause-gathered
+returns-in_err-add_labels-clause-gathered g c =
     let inside = c.self.inside in
     let labels = g.LS.EncodeLabelSet.labels c.args.labels.now in
     let type = c.args.encoder.now.metric_type in
     let MayFault = g.LS.EncodeLabelSet.may_fault c.args.labels.now in
     let same = ap (λ (k : FamilyConstants). k.metric_type) c.self.view_is ∙ c.requires.of_type in
     let clean = subst (λ (type : MetricType). LabelsClean type [] (handed_again inside.labels.labels)) same (c.self.invariant.clean (none_from_not _ c.in_default.not-Some)) in
-    let exit = err_from_is_err_and c.from_residual-in_err-read_labels.result c.from_residual-in_err-read_labels.ensures.1 in
+    let exit = err_from_is_err_and c.from_residual-in_err-add_labels.result c.from_residual-in_err-add_labels.ensures.1 in
     let refused : OwnRefusal MayFault exit.0 ⊎ LabelsFault exit.0 type inside.labels.labels labels = search rules in
-    rw (exit.1, ← c.self.view_is) (behind_constants {L = Unit {0}} (λ _. c.read_labels.new.encoder.labels) type inside.labels.labels labels MayFault (Err exit.0) clean refused)
+    rw (exit.1, ← c.self.view_is) (behind_constants {L = Unit {0}} (λ _. c.add_labels.new.encoder.labels) type inside.labels.labels labels MayFault (Err exit.0) clean refused)
 
-pub returns-in_ok-read_labels-clause-gathered : goal.returns-in_ok-read_labels-clause-gathered
-returns-in_ok-read_labels-clause-gathered g c =
+pub returns-in_ok-add_labels-clause-gathered : goal.returns-in_ok-add_labels-clause-gathered
+returns-in_ok-add_labels-clause-gathered g c =
     let inside = c.self.inside in
     let labels = g.LS.EncodeLabelSet.labels c.args.labels.now in
     let type = c.args.encoder.now.metric_type in
     let same = ap (λ (k : FamilyConstants). k.metric_type) c.self.view_is ∙ c.requires.of_type in
     let clean = subst (λ (type : MetricType). LabelsClean type [] (handed_again inside.labels.labels)) same (c.self.invariant.clean (none_from_not _ c.in_default.not-Some)) in
-    let gathered : LabelsClean type inside.labels.labels labels × (c.read_labels.new.encoder.labels ≡ inside.labels.labels ++ all_written labels) = search rules in
-    rw (← c.self.view_is) (behind_constants {L = Unit {0}} (λ _. c.read_labels.new.encoder.labels) type inside.labels.labels labels (g.LS.EncodeLabelSet.may_fault c.args.labels.now) (Ok tt) clean gathered)
+    let gathered : LabelsClean type inside.labels.labels labels × (c.add_labels.new.encoder.labels ≡ inside.labels.labels ++ all_written labels) = search rules in
+    rw (← c.self.view_is) (behind_constants {L = Unit {0}} (λ _. c.add_labels.new.encoder.labels) type inside.labels.labels labels (g.LS.EncodeLabelSet.may_fault c.args.labels.now) (Ok tt) clean gathered)

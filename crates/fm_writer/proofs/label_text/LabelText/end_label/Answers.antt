@@ -1,5 +1,5 @@
 use Rattle.std.proofs.Common.{List, subst, sym}
-use Rattle.fm_writer.specs.declared.label_text.Place.{Place}
+use Rattle.fm_writer.specs.declared.places.Place.{Place}
 use Rattle.fm_writer.specs.inside.LabelTexts.{AreWithin}
 use Rattle.fm_writer.proofs.LabelTextLemmas.{kept_ended, part_ordered}
 use Rattle.fm_writer.proofs.label_text.LabelText.end_label.Goals as goal

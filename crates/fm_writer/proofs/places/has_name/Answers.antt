@@ -2,7 +2,7 @@ use Rattle.std.proofs.Common.{refl, sym, true≢false, ◌∙◌}
 use Rattle.std.proofs.lemmas.List.{take_all}
 use Rattle.fm_writer.specs.inside.LabelTexts.{IsPlace}
 use Rattle.fm_writer.proofs.LabelTextLemmas.{all_at, name_there, name_absent}
-use Rattle.fm_writer.proofs.label_text.has_name.Goals as goal
+use Rattle.fm_writer.proofs.places.has_name.Goals as goal
 
 pub is_named-requires : goal.is_named-requires
 is_named-requires c = all_at (IsPlace c.args.text.now) c.args.places.now c.loop-place.place-index _ c.requires c.loop-place-test.true
