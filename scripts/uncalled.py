@@ -24,6 +24,9 @@ INSIDE = """
 """.split()
 
 
+# The head of a file whose calls are for other crates of the library alone.
+INTERNAL = re.compile(r"//! What .* call[^\n]*, and no ")
+
 # Calls that docs/CALLS.md names by one of them.
 TOGETHER = re.compile(r"\w+_with_unit|encode_[iu]\w+_value")
 
@@ -46,6 +49,8 @@ def public_calls():
     named = exported()
     for name in libraries():
         for path in sorted((TOP / "crates" / name).glob("src/**/*.rt")):
+            if INTERNAL.match(path.read_text()):
+                continue
             text = without_comments(path.read_text())
             for found in re.finditer(r"^pub (?:const )?fn (\w+)", text, re.M):
                 if found.group(1) in named:

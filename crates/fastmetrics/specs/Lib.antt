@@ -32,9 +32,9 @@ pub use Rattle.fm_registry_model.specs.Steps
 pub use Rattle.fm_registry_model.specs.Loan
 pub use Rattle.fm_registry_model.specs.Listing
 pub use Rattle.fm_registry_model.specs.Running
-pub use Rattle.fm_encoder.specs.Labels
-pub use Rattle.fm_encoder.specs.OwnLabels
-pub use Rattle.fm_encoder.specs.Kept
+pub use Rattle.fm_labels.specs.Labels
+pub use Rattle.fm_labels.specs.OwnLabels
+pub use Rattle.fm_labels.specs.Kept
 pub use Rattle.fm_encoder.specs.Points
 pub use Rattle.fm_encoder.specs.Gathered
 pub use Rattle.fm_encoder.specs.Buckets

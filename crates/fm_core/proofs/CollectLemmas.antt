@@ -13,7 +13,7 @@ use Rattle.fm_registry_model.specs.Tree.{Tree, Reads}
 use Rattle.fm_registry_model.specs.Listing.{Listed, listed_name, IsListable, order}
 use Rattle.fm_registry_model.proofs.NameLemmas.{printed_names-different}
 use Rattle.fm_encoder.specs.Points.{Member}
-use Rattle.fm_encoder.specs.Gathered.{result_of}
+use Rattle.fm_labels.specs.Refusals.{result_of}
 use Rattle.fm_encoder.proofs.FaultLemmas.{MetricHasFault-not_writing}
 use Rattle.fm_registry.specs.Seen.{seen_list, seen_listed}
 use Rattle.fm_registry.specs.declared.listed.ListedMetric.{ListedMetric}

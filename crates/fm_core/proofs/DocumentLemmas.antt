@@ -18,7 +18,8 @@ use Rattle.fm_encode_error.specs.declared.EncodeError.TheVariants.{Memory}
 use Rattle.fm_writer.specs.Output.{Output, OutputText, appended, with_lines}
 use Rattle.fm_encoder.specs.Points.{Member}
 use Rattle.fm_encoder.specs.Offers.{context_at}
-use Rattle.fm_encoder.specs.Gathered.{GatheredMembers, own_refusal}
+use Rattle.fm_encoder.specs.Gathered.{GatheredMembers}
+use Rattle.fm_labels.specs.Refusals.{own_refusal}
 use Rattle.fm_encoder.specs.Hands.{HandsMembers}
 use Rattle.fm_registry.specs.Seen.{seen_list, seen_listed}
 use Rattle.fm_registry.specs.declared.listed.ListedMetric.{ListedMetric}

@@ -7,9 +7,10 @@ use Rattle.fm_encode_error.specs.declared.EncodeError.TheVariants.{Memory}
 use Rattle.fm_writer.specs.Output.{Output}
 use Rattle.fm_encoder.specs.Points.{Member, Context, members_samples}
 use Rattle.fm_encoder.specs.Offers.{MetricHasFault, context_at}
-use Rattle.fm_encoder.specs.Gathered.{GatheredMembers, OwnRefusal, own_refusal}
+use Rattle.fm_encoder.specs.Gathered.{GatheredMembers}
+use Rattle.fm_labels.specs.Refusals.{OwnRefusal, own_refusal}
 use Rattle.fm_encoder.specs.Hands.{HandsMembers}
-use Rattle.fm_encoder.proofs.LabelSetLemmas.{own_refusal_is}
+use Rattle.fm_labels.proofs.LabelSetLemmas.{own_refusal_is}
 use Rattle.fm_encoder.proofs.MemberLemmas.{MembersClean-formed}
 use Rattle.fm_core.specs.inside.Offered.{Offered}
 

@@ -21,7 +21,8 @@ use fm_encode_error::EncodeError;
 use fm_encoder::{EncodeMetric, MetricEncoder, collector, whole_millis};
 use fm_exposition::write_text;
 use fm_registry::{ListedMetric, Registry};
-use fm_writer::{FamilyHead, GrowingText};
+use fm_text::GrowingText;
+use fm_writer::FamilyHead;
 use std::alloc::{AllocError, Global};
 use std::io::Write;
 

@@ -12,7 +12,7 @@ ghost use Rattle.fm_writer.specs.Output.{AreShared};
 ghost use Rattle.fm_registry_model.specs.Texts.{printed_name};
 ghost use Rattle.fm_registry_model.specs.Registration.{printed_unit};
 ghost use Rattle.fm_registry_model.specs.Listing.{listed_name, IsListable};
-ghost use Rattle.fm_encoder.specs.Takes.{Takes};
+ghost use Rattle.fm_labels.specs.Refusals.{Takes};
 ghost use Rattle.fm_encoder.specs.Offers.{AdmitsSamples, MetricHasFault};
 ghost use Rattle.fm_core.specs.Families.{next_heading, FaultUnder, EncodesFamily};
 ghost use Rattle.fm_core.specs.inside.Offered.{IsFamilyUnder, Offered};

@@ -15,11 +15,12 @@ use Rattle.fm_exposition.specs.Samples.{exemplar_of}
 use Rattle.fm_raw.specs.declared.bucket.bound.Bucket.{Bucket}
 use Rattle.fm_writer.specs.Output.{Output, appended}
 use Rattle.fm_writer.proofs.OutputLemmas.{appended-append}
-use Rattle.fm_encoder.specs.Labels.{IsReserved}
+use Rattle.fm_labels.specs.Labels.{IsReserved}
 use Rattle.fm_grammar.proofs.Runs.{all_append}
 use Rattle.fm_encode_error.specs.declared.EncodeError.{EncodeError}
 use Rattle.fm_encoder.specs.Points.{PartsFault, HandedExemplar, Setting, Point, ExemplarClean, values_in, BucketsClean, BucketsFault, PartsClean, type_of, point_samples, bucket_line, bucket_sample, bucket_samples}
-use Rattle.fm_encoder.specs.Gathered.{GatheredPoints, OwnRefusal, result_of}
+use Rattle.fm_encoder.specs.Gathered.{GatheredPoints}
+use Rattle.fm_labels.specs.Refusals.{OwnRefusal, result_of}
 use Rattle.fm_encoder.specs.Hands.{SamePlace, HandsPoints, points_samples}
 use Rattle.fm_encoder.specs.inside.Steps.{BeginsPoint, FitsType, PushesSample, PushesSamples}
 use Rattle.fm_encoder.specs.Buckets.{slots_of}

@@ -11,10 +11,11 @@ use Rattle.fm_grammar.specs.WellFormed.{IsBetween, AreMillis, IsExemplar, label_
 use Rattle.fm_encode_error.specs.declared.EncodeError.{EncodeError}
 use Rattle.fm_encode_error.specs.declared.EncodeError.TheVariants.{ExemplarTwice}
 use Rattle.fm_raw.specs.Signed.{IsSigned}
-use Rattle.fm_encoder.specs.Labels.{HandedLabel, LabelClean, LabelsClean, NamePiece, ValuePiece, written, all_written, handed_again}
-use Rattle.fm_encoder.specs.Gathered.{GatheredExemplars, OwnRefusal}
+use Rattle.fm_labels.specs.Labels.{HandedLabel, LabelClean, LabelsClean, NamePiece, ValuePiece, written, all_written, handed_again}
+use Rattle.fm_encoder.specs.Gathered.{GatheredExemplars}
+use Rattle.fm_labels.specs.Refusals.{OwnRefusal}
 use Rattle.fm_encoder.specs.Hands.{HandsExemplars}
-use Rattle.fm_encoder.proofs.NameLemmas.{AreLabels-written}
+use Rattle.fm_labels.proofs.NameLemmas.{AreLabels-written}
 use Rattle.fm_encoder.specs.Points.{HandedExemplar, ExemplarPartsClean, ExemplarPartsFault, ExemplarClean, ExemplarFault, written_as, written_exemplar}
 
 -- an encoder keeps at most one exemplar

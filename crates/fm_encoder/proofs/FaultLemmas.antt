@@ -6,7 +6,7 @@ use Rattle.fm_encode_error.specs.declared.EncodeError.{EncodeError}
 use Rattle.fm_encode_error.specs.declared.EncodeError.TheVariants.{MalformedLabel, KindMismatch, DuplicateLabel, ExemplarCountMismatch, BucketOverflow, ExemplarTwice, ExemplarTooLong, MetricFault, Write, WriteZero}
 use Rattle.fm_exposition.specs.Written.{IsWritersFault}
 use Rattle.fm_raw.specs.declared.bucket.bound.Bucket.{Bucket}
-use Rattle.fm_encoder.specs.Labels.{HandedLabel, NameFault, LabelFault, LabelsFault}
+use Rattle.fm_labels.specs.Labels.{HandedLabel, NameFault, LabelFault, LabelsFault}
 use Rattle.fm_encoder.specs.Points.{HandedExemplar, Point, UnknownPoint, GaugePoint, CounterPoint, StateSetPoint, InfoPoint, HistogramPoint, GaugeHistogramPoint, SummaryPoint, Member, Setting, Context, NumberFault, ExemplarFault, BucketsFault, PartsFault, PointFault, MembersFault}
 use Rattle.fm_encoder.specs.Offers.{MetricHasFault, context_at}
 

@@ -1,12 +1,5 @@
 pub use Rattle.fm_writer.proofs.OutputLemmas
-pub mod Cases
-pub mod NameLemmas
-pub mod PiecesLemmas
-pub mod LabelsLemmas
-pub mod LabelSetLemmas
 pub mod MemberLemmas
 pub mod FaultLemmas
 pub mod BucketLemmas
-pub mod OwnLabels
 pub mod ExemplarLemmas
-pub mod KeptLemmas

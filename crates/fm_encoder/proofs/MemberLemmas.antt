@@ -10,14 +10,16 @@ use Rattle.fm_grammar.specs.WellFormed.{IsSample}
 use Rattle.fm_grammar.proofs.Runs.{all_append}
 use Rattle.fm_writer.specs.Output.{appended}
 use Rattle.fm_writer.proofs.OutputLemmas.{appended-append, appended-none}
-use Rattle.fm_encoder.specs.Labels.{HandedLabel, LabelsClean, LabelsFault, all_written, handed_again}
+use Rattle.fm_labels.specs.Labels.{HandedLabel, LabelsClean, LabelsFault, all_written, handed_again}
 use Rattle.fm_encoder.specs.Points.{Point, Member, Setting, Context, PointClean, PartsFault, point_samples, MembersClean, MembersFault, member_samples, members_samples}
-use Rattle.fm_encoder.specs.Gathered.{GatheredPoints, GatheredMembers, OwnRefusal, own_refusal, result_of}
+use Rattle.fm_encoder.specs.Gathered.{GatheredPoints, GatheredMembers}
+use Rattle.fm_labels.specs.Refusals.{OwnRefusal, own_refusal, result_of}
 use Rattle.fm_encoder.specs.Hands.{HandsPoints, HandsMembers, PointsClean, PointsFault, points_samples, MembersOf, members_of, Joined, OffersOf}
 use Rattle.fm_encoder.specs.inside.Steps.{BeginsMember, EndsPoints}
-use Rattle.fm_encoder.specs.Takes.{Takes, TakesPoints, TakesMembers}
-use Rattle.fm_encoder.proofs.Cases.{option_cases, answer_cases, none_from_answer}
-use Rattle.fm_encoder.proofs.LabelSetLemmas.{own_refusal_is}
+use Rattle.fm_labels.specs.Refusals.{Takes}
+use Rattle.fm_encoder.specs.Takes.{TakesPoints, TakesMembers}
+use Rattle.fm_labels.proofs.Cases.{option_cases, answer_cases, none_from_answer}
+use Rattle.fm_labels.proofs.LabelSetLemmas.{own_refusal_is}
 
 abbrev pub context_of : List Label → Setting → Context
 context_of labels s = record { setting = s; constants = labels }

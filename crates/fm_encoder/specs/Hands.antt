@@ -8,27 +8,11 @@ use Rattle.fm_grammar.specs.Exposition.{Value, Sample}
 use Rattle.fm_encode_error.specs.declared.EncodeError.{EncodeError}
 use Rattle.fm_encode_error.specs.declared.EncodeError.TheVariants.{Memory, ValueTwice, ExemplarTwice}
 use Rattle.fm_writer.specs.Output.{appended}
-use Rattle.fm_encoder.specs.Labels.{HandedLabel, PieceFault, LabelsFault, LabelsClean, all_written}
+use Rattle.fm_labels.specs.Labels.{HandedLabel, PieceFault, LabelsFault, LabelsClean, all_written}
 use Rattle.fm_encoder.specs.Points.{HandedExemplar, ExemplarPartsClean, ExemplarPartsFault, written_as, Point, PointClean, HeadFault, PartsFault, point_samples, Member, MembersClean, MembersFault, members_samples}
-use Rattle.fm_encoder.specs.Gathered.{GatheredPieces, GatheredLabels, GatheredNumbers, GatheredExemplars, GatheredPoints, GatheredMembers, OwnRefusal, OwnError}
-
--- these pieces of a label are emitted to a label encoder
-pub record HandsPieces (pieces : HandedLabel) (MayFault : Type 0) (old new : GatheredPieces) (result : Result (Unit {0}) EncodeError) : Type 0 where
-  pub type_kept : new.metric_type ≡ old.metric_type
-  pub labels_kept : new.labels ≡ old.labels
-  pub kept : (k : EncodeError) → old.refused ≡ Some k → new ≡ old
-  pub handed : old.refused ≡ None → new.refused ≡ None → result ≡ Ok tt → new.pieces ≡ old.pieces ++ pieces
-  pub own : (e : EncodeError) → new.refused ≡ None → result ≡ Err e → OwnError MayFault e
-  pub refused : (k : EncodeError) → old.refused ≡ None → new.refused ≡ Some k → (k ≡ Memory) ⊎ PieceFault k old.metric_type old.labels (old.pieces ++ pieces)
-
--- these labels are emitted to a label set encoder
-pub record HandsLabels (labels : List HandedLabel) (MayFault : Type 0) (old new : GatheredLabels) (result : Result (Unit {0}) EncodeError) : Type 0 where
-  pub type_kept : new.metric_type ≡ old.metric_type
-  pub kept : (k : EncodeError) → old.refused ≡ Some k → new ≡ old
-  pub clean : old.refused ≡ None → new.refused ≡ None → result ≡ Ok tt → LabelsClean old.metric_type old.labels labels
-  pub handed : old.refused ≡ None → new.refused ≡ None → result ≡ Ok tt → new.labels ≡ old.labels ++ all_written labels
-  pub own : (e : EncodeError) → new.refused ≡ None → result ≡ Err e → OwnError MayFault e
-  pub refused : (k : EncodeError) → old.refused ≡ None → new.refused ≡ Some k → OwnRefusal MayFault k ⊎ LabelsFault k old.metric_type old.labels labels
+use Rattle.fm_labels.specs.LabelEncoders.{GatheredPieces, GatheredLabels}
+use Rattle.fm_encoder.specs.Gathered.{GatheredNumbers, GatheredExemplars, GatheredPoints, GatheredMembers}
+use Rattle.fm_labels.specs.Refusals.{OwnRefusal, OwnError}
 
 -- these numbers are emitted to a value encoder
 pub record HandsNumbers (numbers : List Value) (MayFault : Type 0) (old new : GatheredNumbers) (result : Result (Unit {0}) EncodeError) : Type 0 where

@@ -1,9 +1,11 @@
 pub use Rattle.fm_grammar.specs.Exposition
 pub use Rattle.fm_grammar.specs.WellFormed
 pub use Rattle.fm_writer.specs.Output
-pub mod Labels
-pub mod OwnLabels
-pub mod Kept
+pub use Rattle.fm_labels.specs.Labels
+pub use Rattle.fm_labels.specs.OwnLabels
+pub use Rattle.fm_labels.specs.Refusals
+pub use Rattle.fm_labels.specs.LabelEncoders
+pub use Rattle.fm_labels.specs.Kept
 pub mod Points
 pub mod States
 pub mod Gathered

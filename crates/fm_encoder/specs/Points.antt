@@ -17,7 +17,7 @@ use Rattle.fm_raw.specs.BoundTests.{bound_text}
 use Rattle.fm_raw.specs.declared.bucket.bound.Bound.{Bound}
 use Rattle.fm_raw.specs.declared.bucket.bound.Bucket.{Bucket}
 use Rattle.fm_raw.specs.declared.quantile.Quantile.{Quantile}
-use Rattle.fm_encoder.specs.Labels.{HandedLabel, LabelsFault, LabelsClean, all_written, handed_again, label_names}
+use Rattle.fm_labels.specs.Labels.{HandedLabel, LabelsFault, LabelsClean, all_written, handed_again, label_names}
 
 -- the whole milliseconds of a duration
 abbrev pub millis : Duration → ℕ

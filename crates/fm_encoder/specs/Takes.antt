@@ -1,22 +1,11 @@
--- What a call of an encoder promises: what it takes is emitted to the encoder, as `Hands` says it, and its result is the encoder's first refusal.
+-- What calls of the encoders of values, exemplars, points and members promise: what it takes is emitted to the encoder, as `Hands` says it, and its result is the encoder's first refusal.
 use Rattle.std.specs.Prelude.{◌≡◌, List, Option, Result}
 use Rattle.fm_grammar.specs.Exposition.{Value}
 use Rattle.fm_encode_error.specs.declared.EncodeError.{EncodeError}
-use Rattle.fm_encoder.specs.Labels.{HandedLabel}
 use Rattle.fm_encoder.specs.Points.{HandedExemplar, Point, Member}
-use Rattle.fm_encoder.specs.Gathered.{GatheredPieces, GatheredLabels, GatheredNumbers, GatheredExemplars, GatheredPoints, GatheredMembers, result_of}
-use Rattle.fm_encoder.specs.Hands.{HandsPieces, HandsLabels, HandsNumbers, HandsExemplars, HandsPoints, HandsMembers}
-
--- this is handed over, and the result is the refusal, if there is one
-pub record Takes (Handed : Type 0) (refused : Option EncodeError) (result : Result (Unit {0}) EncodeError) : Type 0 where
-  pub handed : Handed
-  pub answered : result ≡ result_of refused
-
-abbrev pub TakesPieces : HandedLabel → Type 0 → GatheredPieces → GatheredPieces → Result (Unit {0}) EncodeError → Type 0
-TakesPieces pieces MayFault old new result = Takes (HandsPieces pieces MayFault old new result) new.refused result
-
-abbrev pub TakesLabels : List HandedLabel → Type 0 → GatheredLabels → GatheredLabels → Result (Unit {0}) EncodeError → Type 0
-TakesLabels labels MayFault old new result = Takes (HandsLabels labels MayFault old new result) new.refused result
+use Rattle.fm_encoder.specs.Gathered.{GatheredNumbers, GatheredExemplars, GatheredPoints, GatheredMembers}
+use Rattle.fm_labels.specs.Refusals.{Takes}
+use Rattle.fm_encoder.specs.Hands.{HandsNumbers, HandsExemplars, HandsPoints, HandsMembers}
 
 abbrev pub TakesNumbers : List Value → Type 0 → GatheredNumbers → GatheredNumbers → Result (Unit {0}) EncodeError → Type 0
 TakesNumbers numbers MayFault old new result = Takes (HandsNumbers numbers MayFault old new result) new.refused result

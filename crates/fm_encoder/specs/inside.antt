@@ -3,4 +3,3 @@ pub mod Steps
 pub mod Gathering
 pub mod Constants
 pub mod BucketSteps
-pub mod FreeLabels

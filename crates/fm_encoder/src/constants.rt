@@ -2,30 +2,19 @@
 ghost use Rattle.std.specs.Prelude.{◌≡◌, ◌⊎◌, ◌++◌, [], None, OnOk, OnErr, IfOk, IfErr, IfSome, MatchResult};
 ghost use Rattle.fm_encode_error.specs.declared.EncodeError.{EncodeError};
 ghost use Rattle.fm_exposition.specs.Samples.{labels_of};
-ghost use Rattle.fm_encoder.specs.Labels.{LabelsClean, LabelsFault, all_written, handed_again};
-ghost use Rattle.fm_encoder.specs.Gathered.{OwnRefusal};
-ghost use Rattle.fm_encoder.specs.Kept.{Keeps};
+ghost use Rattle.fm_labels.specs.Labels.{LabelsClean, LabelsFault, all_written, handed_again};
+ghost use Rattle.fm_labels.specs.Refusals.{OwnRefusal};
+ghost use Rattle.fm_labels.specs.Kept.{Keeps};
 
-use crate::gathered::{push_label, read_labels};
-use crate::kept::KeptLabels;
-use crate::label::LabelSetEncoder;
-use crate::label_set::{EncodeLabelSet, encode_written};
 use fm_encode_error::EncodeError;
 use fm_grammar::MetricType;
-use fm_writer::LabelText;
+use fm_labels::gathered::read_labels;
+use fm_labels::kept::KeptLabels;
+use fm_labels::label::LabelSetEncoder;
+use fm_labels::label_set::{EncodeLabelSet, encode_written};
+use fm_text::LabelText;
 use std::alloc::{AllocError, Global};
 use std::marker::Model;
-
-// Copies of the labels, without a test.
-fn copied(alloc: Global, labels: &[(String, String)]) -> Result<LabelText, AllocError>
-    ensures { IfOk result (λ text. text.labels ≡ labels_of labels.now) }
-{
-    let mut text = LabelText::new(alloc);
-    for label in labels {
-        push_label(&mut text, label.0.as_str(), label.1.as_str())?;
-    }
-    Ok(text)
-}
 
 // Copies of the labels, if each of them is allowed in a family of this type.
 fn tested(
@@ -106,7 +95,7 @@ impl ConstantLabels {
                 refusal: None,
             }),
             Err(EncodeError::Memory) => Err(EncodeError::Memory),
-            Err(error) => match copied(alloc, labels) {
+            Err(error) => match LabelText::of(alloc, labels) {
                 Ok(labels) => Ok(ConstantLabels {
                     metric_type,
                     labels,

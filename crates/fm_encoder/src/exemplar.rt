@@ -4,21 +4,20 @@ ghost use Rattle.std.specs.Option.{option_map};
 ghost use Rattle.fm_grammar.specs.declared.MetricType.TheVariants.{Unknown};
 ghost use Rattle.fm_grammar.specs.WellFormed.{IsBetween, IsExemplar, AreMillis};
 ghost use Rattle.fm_exposition.specs.Samples.{labels_of, exemplar_of};
-ghost use Rattle.fm_encoder.specs.Labels.{LabelsClean, LabelsFault, all_written};
+ghost use Rattle.fm_labels.specs.Labels.{LabelsClean, LabelsFault, all_written};
 ghost use Rattle.fm_encoder.specs.Points.{HandedExemplar, ExemplarPartsClean, ExemplarPartsFault, ExemplarClean, ExemplarFault, written_as, written_exemplar, millis};
-ghost use Rattle.fm_encoder.specs.Gathered.{OwnRefusal};
+ghost use Rattle.fm_labels.specs.Refusals.{OwnRefusal};
 ghost use Rattle.fm_encoder.specs.Hands.{HandsExemplars};
 ghost use Rattle.fm_encoder.specs.Takes.{TakesExemplars};
 
-use crate::first_refusal::FirstRefusal;
-use crate::label::LabelSetEncoder;
-use crate::label_set::EncodeLabelSet;
 use fm_encode_error::EncodeError;
 use fm_exposition::code_points::are_short;
 use fm_exposition::{Exemplar, make};
 use fm_grammar::MetricType;
+use fm_labels::first_refusal::FirstRefusal;
+use fm_labels::label::LabelSetEncoder;
+use fm_labels::label_set::EncodeLabelSet;
 use fm_raw::fixed::Fixed;
-use fm_writer::owned_labels;
 use std::alloc::Global;
 use std::marker::Model;
 use std::time::Duration;
@@ -166,8 +165,7 @@ fn written_labels<LS: EncodeLabelSet>(
     let mut encoder = LabelSetEncoder::new(alloc, MetricType::Unknown);
     let visited = labels.encode(&mut encoder);
     encoder.outcome(visited)?;
-    let pairs = encoder.text().pairs(alloc, 0)?;
-    Ok(owned_labels(alloc, &pairs)?)
+    Ok(encoder.text().to_owned(alloc)?)
 }
 
 // The exemplar that a source emits, if it emits one.

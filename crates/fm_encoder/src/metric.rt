@@ -10,11 +10,11 @@ ghost use Rattle.fm_encoder.specs.Takes.{TakesMembers};
 
 use crate::constants::ConstantLabels;
 use crate::exemplar::EncodeExemplar;
-use crate::label_set::EncodeLabelSet;
 use crate::point::{EncodePoint, PointEncoder};
 use crate::value::{EncodeCounterValue, EncodeGaugeValue, EncodeUnknownValue};
 use fm_encode_error::EncodeError;
 use fm_grammar::MetricType;
+use fm_labels::label_set::EncodeLabelSet;
 use fm_raw::bucket::Bucket;
 use fm_raw::fixed::FixedSum;
 use fm_raw::quantile::Quantile;

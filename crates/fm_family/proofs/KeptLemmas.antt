@@ -4,8 +4,8 @@ use Rattle.std.specs.Map.{keys_of}
 use Rattle.std.proofs.lemmas.List.{map-append}
 use Rattle.std.proofs.Math.Seq.{take-append_seam}
 use Rattle.fm_encoder.specs.Exposition.{Label}
-use Rattle.fm_encoder.specs.Labels.{HandedLabel}
-use Rattle.fm_encoder.specs.Kept.{Keeps}
+use Rattle.fm_labels.specs.Labels.{HandedLabel}
+use Rattle.fm_labels.specs.Kept.{Keeps}
 use Rattle.fm_family.specs.inside.Kept.{AreKept}
 
 zip_push : {L : Type 0} (labels : L → List HandedLabel) (keys : List L) (kept : List (Option (List Label))) (key : L) (k : Option (List Label)) → AreKept labels keys kept → IfSome k (Keeps (labels key)) → AreKept labels (keys ++ key ∷ []) (kept ++ k ∷ [])

@@ -5,8 +5,8 @@ use Rattle.std.specs.Map.{keys_of}
 use Rattle.indexmap.specs.IndexMap.{shift_remove_entry}
 use Rattle.indexmap.proofs.MapLemmas.{Found-position, remove_entry-first}
 use Rattle.fm_encoder.specs.Exposition.{Label}
-use Rattle.fm_encoder.specs.Labels.{HandedLabel}
-use Rattle.fm_encoder.specs.Kept.{Keeps}
+use Rattle.fm_labels.specs.Labels.{HandedLabel}
+use Rattle.fm_labels.specs.Kept.{Keeps}
 use Rattle.fm_family.specs.inside.Kept.{AreKept}
 
 module _ {L M : Type 0} (labels : L → List HandedLabel) where

@@ -13,9 +13,10 @@ use Rattle.fm_family.specs.Members.{OffersFirst, OffersDifferent, GetsOrAdds, Ma
 use Rattle.fm_family.specs.inside.Indexed.{HoldsMetric}
 use Rattle.std.proofs.Math.Seq.{take-append_seam}
 use Rattle.fm_encode_error.specs.declared.EncodeError.{EncodeError}
-use Rattle.fm_encoder.specs.Labels.{HandedLabel}
+use Rattle.fm_labels.specs.Labels.{HandedLabel}
 use Rattle.fm_encoder.specs.Points.{Point, Member}
-use Rattle.fm_encoder.specs.Gathered.{GatheredMembers, result_of}
+use Rattle.fm_encoder.specs.Gathered.{GatheredMembers}
+use Rattle.fm_labels.specs.Refusals.{result_of}
 use Rattle.fm_encoder.specs.Hands.{HandsMembers, OffersOf, MembersOf}
 use Rattle.fm_encoder.proofs.MemberLemmas.{HandsMembers-then, HandsMembers-weaker, HandsMembers-more, OffersOf-push}
 use Rattle.indexmap.specs.IndexMap.{IndexMap, get, get_by, insert_entry}

@@ -6,7 +6,7 @@ use Rattle.std.specs.declared.hash.Hasher as hasher
 use Rattle.std.specs.declared.hash.BuildHasher as builder
 use mathlib.Core.Option.{none}
 use Rattle.fm_raw.specs.declared.error.MetricError.{MetricError}
-use Rattle.fm_encoder.specs.declared.label_set.EncodeLabelSet as set
+use Rattle.fm_labels.specs.declared.label_set.EncodeLabelSet as set
 use Rattle.fm_family.specs.Members.{GetsOrAdds, ShowsMetric}
 use Rattle.fm_family.specs.declared.members.FamilyCore.{FamilyCore}
 use Rattle.fm_family.specs.contracts.members.FamilyCore.{the_row}

@@ -6,7 +6,7 @@ use Rattle.std.specs.Fn.{Called, Mut}
 use Rattle.std.specs.Map.{lookup, keys_of}
 use Rattle.fm_raw.specs.declared.error.MetricError.{MetricError}
 use Rattle.fm_raw.specs.declared.error.MetricError.TheVariants.{Memory}
-use Rattle.fm_encoder.specs.Labels.{HandedLabel}
+use Rattle.fm_labels.specs.Labels.{HandedLabel}
 use Rattle.fm_encoder.specs.Points.{Point, Member}
 use Rattle.fm_encoder.specs.Hands.{OffersOf}
 

@@ -6,7 +6,7 @@ ghost use Rattle.fm_raw.specs.declared.error.MetricError.TheVariants.{Memory};
 use crate::factory::DefaultFactory;
 use crate::family::Family;
 use fm_raw::{MetricError, TryDefault};
-use fm_writer::owned_labels;
+use fm_text::owned_labels;
 use std::alloc::Global;
 use std::hash::{BuildHasherDefault, FoldHasher};
 use std::sync::Wait;

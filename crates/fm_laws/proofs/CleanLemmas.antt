@@ -9,7 +9,7 @@ use Rattle.fm_grammar.specs.WellFormed.{label_code_points}
 use Rattle.fm_encode_error.specs.declared.EncodeError.{EncodeError}
 use Rattle.fm_encode_error.specs.declared.EncodeError.TheVariants.{InvalidLabelName, ReservedLabel, DuplicateLabel, MissingValue, ValueTwice}
 use Rattle.fm_raw.specs.declared.bucket.bound.Bucket.{Bucket}
-use Rattle.fm_encoder.specs.Labels.{HandedLabel, NamePiece, ValuePiece, NameFits, NameFault, LabelClean, LabelFault, LabelsClean, LabelsFault, all_written}
+use Rattle.fm_labels.specs.Labels.{HandedLabel, NamePiece, ValuePiece, NameFits, NameFault, LabelClean, LabelFault, LabelsClean, LabelsFault, all_written}
 use Rattle.fm_encoder.specs.Points.{HandedExemplar, Point, UnknownPoint, GaugePoint, CounterPoint, StateSetPoint, InfoPoint, HistogramPoint, GaugeHistogramPoint, SummaryPoint, Member, Setting, Context, NumberClean, NumberFault, ExemplarClean, ExemplarFault, BucketsClean, BucketsFault, PartsClean, PartsFault, PointClean, PointFault, SlotsDiffer, MemberClean, MemberFault, MembersClean, MembersFault, common_handed, common_written}
 
 -- elements of short lists

@@ -17,7 +17,7 @@ use Rattle.fm_exposition.specs.inside.SameLaws.{type_decides}
 use Rattle.fm_encode_error.specs.declared.EncodeError.{EncodeError}
 use Rattle.fm_encode_error.specs.declared.EncodeError.TheVariants.{InvalidLabelName, ReservedLabel, DuplicateLabel, MalformedLabel, MissingValue, ValueTwice, KindMismatch, ExemplarCountMismatch, BucketOverflow, ExemplarTwice, ExemplarTooLong}
 use Rattle.fm_raw.specs.declared.bucket.bound.Bucket.{Bucket}
-use Rattle.fm_encoder.specs.Labels.{HandedLabel, NamePiece, ValuePiece, IsReserved, IsMalformed, NameFits, NameFault, LabelClean, LabelFault, LabelsClean, LabelsFault, label_names, all_written, written}
+use Rattle.fm_labels.specs.Labels.{HandedLabel, NamePiece, ValuePiece, IsReserved, IsMalformed, NameFits, NameFault, LabelClean, LabelFault, LabelsClean, LabelsFault, label_names, all_written, written}
 use Rattle.fm_encoder.specs.Points.{HandedExemplar, Point, UnknownPoint, GaugePoint, CounterPoint, StateSetPoint, InfoPoint, HistogramPoint, GaugeHistogramPoint, SummaryPoint, Member, Setting, Context, NumberClean, NumberFault, ExemplarClean, ExemplarFault, BucketsClean, BucketsFault, PartsClean, PartsFault, PointClean, PointFault, SlotsDiffer, MemberClean, MemberFault, MembersClean, MembersFault, common_handed, common_written, values_in, type_of, point_samples}
 
 -- some error names a fault that it contains

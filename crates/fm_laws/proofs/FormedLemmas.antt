@@ -13,11 +13,11 @@ use Rattle.fm_grammar.specs.WellFormed.{kinds_of, AreLabels, ValueSuits, ValueFi
 use Rattle.fm_grammar.proofs.Runs.{all_append}
 use Rattle.fm_raw.specs.declared.bucket.bound.Bucket.{Bucket}
 use Rattle.fm_raw.specs.declared.quantile.Quantile.{Quantile}
-use Rattle.fm_encoder.specs.Labels.{HandedLabel, IsReserved, LabelsClean, label_names, all_written}
-use Rattle.fm_encoder.specs.inside.FreeLabels.{AreFree}
+use Rattle.fm_labels.specs.Labels.{HandedLabel, IsReserved, LabelsClean, label_names, all_written}
+use Rattle.fm_labels.specs.inside.FreeLabels.{AreFree}
 use Rattle.fm_encoder.specs.Points.{HandedExemplar, Point, UnknownPoint, GaugePoint, CounterPoint, StateSetPoint, InfoPoint, HistogramPoint, GaugeHistogramPoint, SummaryPoint, Member, Setting, Context, ExemplarClean, BucketsClean, PartsClean, type_of, common_handed, common_written, values_in, plain_sample, written_exemplar, created_samples, total_sample, state_sample, bound_label, bucket_samples, total_samples, quantile_sample, point_samples}
 use Rattle.fm_encoder.specs.inside.Steps.{IsNumber}
-use Rattle.fm_encoder.proofs.NameLemmas.{AreLabels-written, AreLabels-behind, AreLabels-named, AreLabels-own, AreFree-written}
+use Rattle.fm_labels.proofs.NameLemmas.{AreLabels-written, AreLabels-behind, AreLabels-named, AreLabels-own, AreFree-written}
 use Rattle.fm_encoder.proofs.BucketLemmas.{le_is_label_name, quantile_is_label_name}
 use Rattle.fm_laws.specs.Ranges.{ExemplarNumbersFit, SlotsFit, PointNumbersFit}
 use Rattle.fm_laws.proofs.FaultLemmas.{Forms, MemberForms}

@@ -13,7 +13,7 @@ ghost use Rattle.fm_root.specs.inside.Requests.{Registering, Asking};
 use fm_encoder::EncodeMetric;
 use fm_raw::{TryDefault, Unit};
 use fm_registry::{Registry, RegistryBuilder, RegistryCall, RegistryError};
-use fm_writer::owned_labels;
+use fm_text::owned_labels;
 use std::alloc::{AllocError, Global};
 use std::marker::Model;
 use std::sync::Wait;

@@ -1,9 +1,10 @@
 -- Metrics that go on after a refusal, and return `Ok`.
 use Rattle.std.proofs.Common.{◌≡◌, ◌∙◌, ◌++◌, inl, inr, List, [], ◌∷◌, Result, Ok, refl, sym, ap}
-use Rattle.fm_encoder.proofs.Cases.{option_cases}
+use Rattle.fm_labels.proofs.Cases.{option_cases}
 use Rattle.fm_encode_error.specs.declared.EncodeError.{EncodeError}
 use Rattle.fm_encoder.specs.Points.{Member, Context, MembersFault}
-use Rattle.fm_encoder.specs.Gathered.{GatheredMembers, result_of}
+use Rattle.fm_encoder.specs.Gathered.{GatheredMembers}
+use Rattle.fm_labels.specs.Refusals.{result_of}
 use Rattle.fm_encoder.specs.Hands.{HandsMembers, Joined}
 use Rattle.fm_encoder.proofs.MemberLemmas.{HandsMembers-then, none_before_members}
 

@@ -8,7 +8,7 @@ use Rattle.fm_encoder.proofs.OutputLemmas.{appended-append}
 use Rattle.fm_encoder.specs.Points.{Point, point_samples}
 use Rattle.fm_encoder.specs.Gathered.{GatheredPoints}
 use Rattle.fm_encoder.specs.Hands.{HandsPoints, SamePlace, PointsClean, PointsFault, points_samples}
-use Rattle.fm_encoder.proofs.Cases.{option_cases}
+use Rattle.fm_labels.proofs.Cases.{option_cases}
 use Rattle.fm_encoder.proofs.MemberLemmas.{none_before_points}
 
 -- what is said of points holds in the same place

@@ -1,10 +1,10 @@
 -- A last label whose value may be left out.
 use Rattle.std.proofs.Common.{◌⊎◌, inl, inr, [], ◌∷◌, Option, None, Some, MatchOption, Result}
 use Rattle.fm_encode_error.specs.declared.EncodeError.{EncodeError}
-use Rattle.fm_encoder.specs.Labels.{HandedLabel}
-use Rattle.fm_encoder.specs.Gathered.{GatheredLabels}
-use Rattle.fm_encoder.specs.Hands.{HandsLabels}
-use Rattle.fm_encoder.proofs.LabelsLemmas.{HandsLabels-weaker}
+use Rattle.fm_labels.specs.Labels.{HandedLabel}
+use Rattle.fm_labels.specs.LabelEncoders.{GatheredLabels}
+use Rattle.fm_labels.specs.LabelEncoders.{HandsLabels}
+use Rattle.fm_labels.proofs.LabelsLemmas.{HandsLabels-weaker}
 
 never : {X : Type 0} (o : Option X) → MatchOption o ⊥ (λ _. ⊥) → ⊥
 never None h = h

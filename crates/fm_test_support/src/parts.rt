@@ -2,7 +2,7 @@
 ghost use Rattle.std.specs.Prelude.{◌≡◌, [], ◌∷◌, pos, false, codes, if◌then◌else◌};
 ghost use Rattle.fm_grammar.specs.Exposition.{Whole};
 ghost use Rattle.fm_grammar.specs.Numbers.{fixed_text};
-ghost use Rattle.fm_encoder.specs.Labels.{NamePiece, ValuePiece};
+ghost use Rattle.fm_labels.specs.Labels.{NamePiece, ValuePiece};
 ghost use Rattle.fm_encoder.specs.Points.{UnknownPoint};
 
 use fastmetrics::encoder::{

@@ -1,7 +1,7 @@
 //! Whole numbers of all types as values of labels.
 ghost use Rattle.std.specs.Prelude.{[], ◌∷◌, false, decimal};
 ghost use Rattle.std.specs.Fmt.{signed_decimal};
-ghost use Rattle.fm_encoder.specs.Labels.{ValuePiece};
+ghost use Rattle.fm_labels.specs.Labels.{ValuePiece};
 ghost use Rattle.fm_tests_labels.specs.declared.label_numbers.Number.TheVariants.{I8, I16, I32, I64, I128, Isize, U8, U16, U32, U64, U128, Usize};
 
 use fastmetrics::encoder::{EncodeError, EncodeLabelValue, LabelEncoder};

@@ -4,9 +4,10 @@ use Rattle.fm_grammar.specs.Exposition.{Exemplar}
 use Rattle.fm_encode_error.specs.declared.EncodeError.{EncodeError}
 use Rattle.fm_encode_error.specs.declared.EncodeError.TheVariants.{ExemplarTwice}
 use Rattle.fm_encoder.specs.Points.{HandedExemplar, ExemplarPartsFault, written_as}
-use Rattle.fm_encoder.specs.Gathered.{GatheredExemplars, OwnRefusal}
+use Rattle.fm_encoder.specs.Gathered.{GatheredExemplars}
+use Rattle.fm_labels.specs.Refusals.{OwnRefusal}
 use Rattle.fm_encoder.specs.Hands.{HandsExemplars}
-use Rattle.fm_encoder.proofs.Cases.{option_cases}
+use Rattle.fm_labels.proofs.Cases.{option_cases}
 
 -- why an exemplar encoder refuses what is emitted after these exemplars
 abbrev Refusal : Type 0 → List Exemplar → List HandedExemplar → EncodeError → Type 0

@@ -1,6 +1,6 @@
 //! Points and exemplars of a user's own, which emit whatever they have.
 ghost use Rattle.std.specs.Prelude.{◌≡◌, [], ◌∷◌, None, pos, codes};
-ghost use Rattle.fm_encoder.specs.Labels.{NamePiece, ValuePiece};
+ghost use Rattle.fm_labels.specs.Labels.{NamePiece, ValuePiece};
 ghost use Rattle.fm_encoder.specs.Points.{HistogramPoint, GaugeHistogramPoint, SummaryPoint};
 ghost use Rattle.fm_tests_points.specs.Kinds.{five_of};
 

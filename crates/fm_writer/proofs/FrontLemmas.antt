@@ -5,21 +5,12 @@ use Rattle.fm_grammar.specs.declared.SampleKind.{SampleKind}
 use Rattle.fm_grammar.specs.Kinds.{suffix_of}
 use Rattle.fm_grammar.specs.Spelling.{label_list_text, label_block_text, in_braces, value_text, time_text, exemplar_text, sample_line}
 use Rattle.fm_exposition.specs.Rows.{sample_row}
-use Rattle.fm_exposition.proofs.RowLemmas.{label_list_is, list_joined}
-use Rattle.fm_writer.specs.Front.{list_before, line_front}
+use Rattle.fm_text.specs.inside.LabelTexts.{list_before}
+use Rattle.fm_writer.specs.Front.{line_front}
 use Rattle.fm_writer.specs.Output.{OutputText, appended}
-use Rattle.fm_writer.specs.inside.Grown.{Grown, Grows}
-use Rattle.fm_writer.proofs.GrownLemmas.{block_back}
+use Rattle.fm_text.specs.inside.Grown.{Grown, Grows}
+use Rattle.fm_text.proofs.GrownLemmas.{block_back, list_behind}
 use Rattle.fm_writer.proofs.RowLemmas.{after_value}
-
--- the list of further labels, behind the front of a line, is the list of all
-pub list_behind : (common own : List Label) → 0 < length own → list_before common ++ label_list_text own ≡ label_list_text (common ++ own)
-list_behind [] own more = refl
-list_behind (first ∷ others) [] more = absurd (omega arith)
-list_behind (first ∷ others) (next ∷ back) more =
-    append_assoc (label_list_text (first ∷ others)) (codes ",") (label_list_text (next ∷ back))
-    ∙ ap (λ (t : Text). label_list_text (first ∷ others) ++ (codes "," ++ t)) (label_list_is next back)
-    ∙ sym (list_joined (first ∷ others) (next ∷ back) (omega arith))
 
 behind_is : (name suffix front list value time exemplar : Text) → ((name ++ (suffix ++ (codes "{" ++ front))) ++ (list ++ codes "} ")) ++ (value ++ (time ++ (exemplar ++ codes "\n"))) ≡ (name ++ (suffix ++ ((codes "{" ++ ((front ++ list) ++ codes "}")) ++ (codes " " ++ (value ++ (time ++ exemplar)))))) ++ codes "\n"
 behind_is name suffix front list value time exemplar = simp append_assoc

@@ -1,10 +1,6 @@
 pub mod FrontLemmas
-pub mod GrownLemmas
 pub mod OutputLemmas
-pub mod JoinedLemmas
-pub mod LabelTextLemmas
 pub mod PartLemmas
-pub mod PlainLemmas
 pub mod RowLemmas
 pub mod Utf8Escapes
 pub mod Utf8Lemmas

@@ -6,8 +6,8 @@ use Rattle.fm_grammar.specs.Exposition.{Text}
 use Rattle.fm_exposition.specs.declared.exposition.Sample.{Sample}
 use Rattle.fm_exposition.specs.Samples.{samples_of}
 use Rattle.fm_exposition.proofs.PointLemmas.{lines_parts}
-use Rattle.fm_writer.specs.inside.Grown.{Grows, IsLeftOf}
-use Rattle.fm_writer.proofs.GrownLemmas.{left_of_more}
+use Rattle.fm_text.specs.inside.Grown.{Grows, IsLeftOf}
+use Rattle.fm_text.proofs.GrownLemmas.{left_of_more}
 
 -- a point's lines are appended
 pub point_more : (f : grammar.Sample → Text) (n : ℕ) (rest part others : List Sample) (whole : Text) (old now next : Text → Type 0) → part ≡ take n rest → others ≡ drop n rest

@@ -5,8 +5,8 @@ use Rattle.fm_grammar.specs.declared.MetricType.{MetricType}
 use Rattle.fm_grammar.specs.Kinds.{suffix_of, type_word}
 use Rattle.fm_grammar.specs.Spelling.{escaped, label_list_text, label_block_text, in_braces, value_text, time_text, exemplar_text, sample_line, type_line, help_line}
 use Rattle.fm_exposition.specs.Rows.{sample_row, head_rows, unit_row}
-use Rattle.fm_writer.specs.inside.Grown.{Grows}
-use Rattle.fm_writer.proofs.GrownLemmas.{grown_then, grown_nothing}
+use Rattle.fm_text.specs.inside.Grown.{Grows}
+use Rattle.fm_text.proofs.GrownLemmas.{grown_then}
 
 -- what comes after the value
 abbrev pub after_value : Sample → Text
@@ -33,19 +33,6 @@ pub row_begun : (a b c : Text → Type 0) (name : Text) (s : Sample) → Grows a
 unfolding sample_line
 row_begun a b c name s start end =
     rw (← row_is name (suffix_of s.kind) (label_block_text s.labels) (value_text s.value) (time_text s.time) (exemplar_text s.exemplar)) (grown_then a b c _ _ start end)
-
--- three pieces at once, and what comes after them, with or without the line feed
-pub grown_line : (a b c : Text → Type 0) (word name space rest : Text) → Grows a b (word ++ (name ++ space)) → Grows b c (rest ++ codes "\n") → Grows a c ((word ++ (name ++ (space ++ rest))) ++ codes "\n")
-grown_line a b c word name space rest start end =
-    let regrouped : (word ++ (name ++ space)) ++ (rest ++ codes "\n") ≡ (word ++ (name ++ (space ++ rest))) ++ codes "\n" = simp append_assoc in
-    rw regrouped at (grown_then a b c (word ++ (name ++ space)) (rest ++ codes "\n") start end)
-
-pub grown_apart : (a b c : Text → Type 0) (x y z rest : Text) → Grows a b (x ++ (y ++ z)) → Grows b c rest → Grows a c (x ++ (y ++ (z ++ rest)))
-grown_apart a b c x y z rest start end =
-    let regrouped : (x ++ (y ++ z)) ++ rest ≡ x ++ (y ++ (z ++ rest)) = simp append_assoc in
-    rw regrouped at (grown_then a b c (x ++ (y ++ z)) rest start end)
-
-pub ruleset line = (grown_line, grown_apart, grown_then, grown_nothing)
 
 -- the lines before the samples, cut after the type line's name and the help line's text
 heads_are : (type name space word feed help_word help unit : Text) → (type ++ (name ++ (space ++ (word ++ (feed ++ help_word))))) ++ ((name ++ (space ++ help)) ++ (feed ++ unit)) ≡ ((type ++ (name ++ (space ++ word))) ++ feed) ++ (((help_word ++ (name ++ (space ++ help))) ++ feed) ++ unit)

@@ -1,14 +1,9 @@
 -- What the lines of samples begin with that have labels of their own.
-use Rattle.std.specs.Prelude.{List, [], ◌∷◌, ◌++◌, codes}
+use Rattle.std.specs.Prelude.{List, ◌++◌, codes}
 use Rattle.fm_grammar.specs.declared.SampleKind.{SampleKind}
 use Rattle.fm_grammar.specs.Exposition.{Text, Label}
 use Rattle.fm_grammar.specs.Kinds.{suffix_of}
-use Rattle.fm_grammar.specs.Spelling.{label_list_text}
-
--- the list of the labels before, with a comma after it
-abbrev pub list_before : List Label → Text
-list_before [] = []
-list_before (label ∷ labels) = label_list_text (label ∷ labels) ++ codes ","
+use Rattle.fm_text.specs.inside.LabelTexts.{list_before}
 
 -- The front of the lines of a family's samples of this kind: the family's name, the suffix of the kind, an open brace, and the labels
 -- that the samples have in common, with a comma after them.

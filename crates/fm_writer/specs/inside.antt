@@ -1,7 +1,4 @@
 -- What public contracts don't cite: views, stored forms, laws, and the words of private functions.
-pub mod Grown
-pub mod LabelTexts
-pub mod Plain
 pub mod Forms
 pub mod Utf8
 pub mod Readings

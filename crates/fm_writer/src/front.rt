@@ -2,15 +2,13 @@
 ghost use Rattle.std.specs.Prelude.{◌≡◌, ◌++◌, ◌<◌, length, codes, OnOk};
 ghost use Rattle.fm_grammar.specs.Spelling.{label_list_text};
 ghost use Rattle.fm_writer.specs.Front.{line_front};
-ghost use Rattle.fm_writer.specs.inside.Grown.{Grown};
+ghost use Rattle.fm_text.specs.inside.Grown.{Grown};
 ghost use Rattle.fm_writer.specs.inside.Readings.{reading_text};
 
-use crate::growing::GrowingText;
-use crate::label_text::LabelText;
-use crate::labels::LabelSource;
-use crate::output::Output;
 use crate::rendering::{Reading, append_reading};
 use fm_grammar::SampleKind;
+use fm_text::labels::LabelSource;
+use fm_text::{GrowingText, LabelText, Output};
 use std::alloc::AllocError;
 
 /// Replaces a text by the front of the lines of samples of this kind, which have these labels in common. Fails if memory runs out; then

@@ -5,12 +5,12 @@ ghost use Rattle.fm_grammar.specs.Kinds.{type_word};
 ghost use Rattle.fm_grammar.specs.Spelling.{escaped};
 ghost use Rattle.fm_exposition.specs.Rows.{unit_row, head_rows};
 ghost use Rattle.fm_writer.specs.Heads.{headed};
-ghost use Rattle.fm_writer.specs.inside.Grown.{Grows};
+ghost use Rattle.fm_text.specs.inside.Grown.{Grows};
 
-use crate::output::Output;
-use crate::plain::is_plain;
-use crate::rendering::append_escaped;
 use fm_grammar::MetricType;
+use fm_text::Output;
+use fm_text::escaping::append_escaped;
+use fm_text::plain::is_plain;
 use std::alloc::AllocError;
 
 /// What the lines of a family that come before its samples say of it besides its name.
@@ -41,7 +41,7 @@ fn after_type_name(metric_type: MetricType) -> &'static str
 }
 
 // Appends a name, a space and a help text.
-#[tactic(auto, using(crate::proofs::GrownLemmas::grown))]
+#[tactic(auto, using(fm_text::proofs::GrownLemmas::grown))]
 fn append_help<O: Output>(text: &mut O, name: &[u8], help: &[u8]) -> Result<(), AllocError>
     ensures { OnOk result (Grows (O.stands_for text.old) (O.stands_for text.new)
         (name.now ++ (codes " " ++ escaped help.now))) }
@@ -54,7 +54,7 @@ fn append_help<O: Output>(text: &mut O, name: &[u8], help: &[u8]) -> Result<(), 
 }
 
 // Appends the line feed of a help line, and after it the unit line if there is a unit.
-#[tactic(auto, using(crate::proofs::RowLemmas::line), unfolding(fm_grammar::specs::Spelling::unit_line))]
+#[tactic(auto, using(fm_text::proofs::GrownLemmas::line), unfolding(fm_grammar::specs::Spelling::unit_line))]
 fn end_heads<O: Output>(text: &mut O, name: &[u8], unit: Option<&str>) -> Result<(), AllocError>
     ensures { OnOk result (Grows (O.stands_for text.old) (O.stands_for text.new)
         (codes "\n" ++ unit_row name.now (option_copied unit.entry))) }

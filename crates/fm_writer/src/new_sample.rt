@@ -1,7 +1,7 @@
 //! A sample that a sink takes.
-use crate::label_text::LabelText;
 use fm_exposition::{Exemplar, Value};
 use fm_grammar::SampleKind;
+use fm_text::LabelText;
 
 /// A sample of a family, on its way to a sink.
 #[derive(Drop)]

@@ -4,63 +4,20 @@ ghost use Rattle.std.specs.Option.{option_map};
 ghost use Rattle.fm_grammar.specs.Spelling.{escape, escaped, value_text, time_text, exemplar_text};
 ghost use Rattle.fm_exposition.specs.Rows.{sample_row};
 ghost use Rattle.fm_exposition.specs.Samples.{value_of, exemplar_at};
-ghost use Rattle.fm_writer.specs.inside.Grown.{Grows};
+ghost use Rattle.fm_text.specs.inside.Grown.{Grows};
 ghost use Rattle.fm_writer.specs.inside.Readings.{reading_text};
 
-use crate::labels::{LabelSource, append_in_braces};
-use crate::output::Output;
-use crate::plain::has_escape;
 use fm_exposition::{Exemplar, Value};
 use fm_grammar::SampleKind;
 use fm_raw::fixed::{FixedBuffer, FixedSum};
+use fm_text::Output;
+use fm_text::labels::{LabelSource, append_in_braces};
+use fm_text::plain::has_escape;
 use itoa::Buffer;
 use std::alloc::AllocError;
 
-// Appends a byte with its escape.
-#[tactic(auto, unfolding(fm_grammar::specs::Spelling::escape))]
-fn append_escape<O: Output>(text: &mut O, byte: u8) -> Result<(), AllocError>
-    ensures { OnOk result (Grows (O.stands_for text.old) (O.stands_for text.new) (escape byte)) }
-{
-    match byte {
-        b'\n' => text.put(b"\\n"),
-        b'"' => text.put(b"\\\""),
-        b'\\' => text.put(b"\\\\"),
-        other => text.put(&[other]),
-    }
-}
-
-// How many bytes come before the first one that is written with an escape.
-fn plain_len(raw: &[u8]) -> usize
-    ensures within { result ≤ length raw.now }
-    ensures plain { escaped (take result raw.now) ≡ take result raw.now }
-{
-    for i in 0..raw.len() {
-        if has_escape(raw[i]) {
-            return i;
-        }
-    }
-    raw.len()
-}
-
-// Appends a text with its escapes. What is between two of them is appended at once.
-pub(crate) fn append_escaped<O: Output>(text: &mut O, raw: &[u8]) -> Result<(), AllocError>
-    ensures { OnOk result (Grows (O.stands_for text.old) (O.stands_for text.new)
-        (escaped raw.now)) }
-{
-    let mut rest = raw;
-    loop {
-        let (plain, others) = rest.split_at(plain_len(rest));
-        text.put(plain)?;
-        let Some((first, after)) = others.split_first() else {
-            return Ok(());
-        };
-        append_escape(text, *first)?;
-        rest = after;
-    }
-}
-
 // Appends a space and a timestamp, and nothing for none.
-#[tactic(auto, using(crate::proofs::GrownLemmas::grown))]
+#[tactic(auto, using(fm_text::proofs::GrownLemmas::grown))]
 fn append_time<O: Output>(text: &mut O, time: Option<u128>) -> Result<(), AllocError>
     ensures { OnOk result (Grows (O.stands_for text.old) (O.stands_for text.new) (time_text time)) }
 {
@@ -75,7 +32,7 @@ fn append_time<O: Output>(text: &mut O, time: Option<u128>) -> Result<(), AllocE
 }
 
 // Appends an exemplar, and nothing for none.
-#[tactic(auto, using(crate::proofs::GrownLemmas::grown))]
+#[tactic(auto, using(fm_text::proofs::GrownLemmas::grown))]
 fn append_exemplar<O: Output>(text: &mut O, exemplar: Option<&Exemplar>) -> Result<(), AllocError>
     ensures { OnOk result (Grows (O.stands_for text.old) (O.stands_for text.new)
         (exemplar_text (option_map exemplar_at exemplar.entry))) }
@@ -102,7 +59,7 @@ pub(crate) struct Reading<'a> {
 }
 
 // Appends a value, a timestamp, an exemplar and a line feed.
-#[tactic(auto, using(crate::proofs::GrownLemmas::grown))]
+#[tactic(auto, using(fm_text::proofs::GrownLemmas::grown))]
 pub(crate) fn append_reading<O: Output>(
     text: &mut O,
     reading: Reading<'_>,

@@ -8,12 +8,11 @@ ghost use Rattle.fm_writer.specs.NewSamples.{new_sample, IsFrontOf};
 ghost use Rattle.fm_writer.specs.Output.{OutputSamples, OutputText, AreShared, shared_by, appended, with_lines, samples_in, text_in};
 
 use crate::front::append_row_behind;
-use crate::growing::GrowingText;
 use crate::heads::{FamilyHead, append_heads};
-use crate::label_text::LabelText;
 use crate::new_sample::NewSample;
 use crate::rendering::{Reading, append_sample_row};
 use fm_exposition::{CommonLabels, SampleStore};
+use fm_text::{GrowingText, LabelText};
 use std::alloc::{AllocError, Global};
 use std::marker::Model;
 use std::sync::Arc;
@@ -25,36 +24,11 @@ enum Form {
     Text(GrowingText),
 }
 
-/// Owned copies of borrowed labels. Fails if memory runs out.
-pub fn owned_labels(
-    alloc: Global,
-    labels: &[(&str, &str)],
-) -> Result<Vec<(String, String)>, AllocError>
-    ensures { IfOk result (λ owned. labels_of owned.items ≡ map shown_label labels.now) }
-{
-    let mut owned = Vec::new(alloc);
-    for label in labels {
-        owned.push((
-            String::from_str(alloc, label.0)?,
-            String::from_str(alloc, label.1)?,
-        ))?;
-    }
-    Ok(owned)
-}
-
-// Copies of the labels.
-fn copied(alloc: Global, labels: &LabelText) -> Result<Vec<(String, String)>, AllocError>
-    ensures { IfOk result (λ owned. labels_of owned.items ≡ labels.now.labels) }
-{
-    let pairs = labels.pairs(alloc, 0)?;
-    owned_labels(alloc, &pairs)
-}
-
 // The labels, for samples to share.
 fn shared(alloc: Global, labels: &LabelText) -> Result<CommonLabels, AllocError>
     ensures { IfOk result (λ shared. shared_labels shared ≡ labels.now.labels) }
 {
-    let shared = Arc::new(alloc, copied(alloc, labels)?)?;
+    let shared = Arc::new(alloc, labels.to_owned(alloc)?)?;
     Ok(shared)
 }
 
@@ -65,7 +39,7 @@ fn keep(alloc: Global, store: &mut SampleStore, sample: NewSample<'_>) -> Result
     ensures kept { OnOk result
         (store.new.samples ≡ store.old.samples ++ new_sample sample.entry ∷ []) }
 {
-    let own = copied(alloc, sample.own)?;
+    let own = sample.own.to_owned(alloc)?;
     store.push(sample.kind, own, sample.value, sample.time, sample.exemplar)
 }
 

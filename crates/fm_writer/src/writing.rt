@@ -10,16 +10,16 @@ ghost use Rattle.fm_exposition.specs.inside.DocumentRows.{family_rows, families_
 ghost use Rattle.fm_exposition.specs.Samples.{common_labels, sample_of, samples_of};
 ghost use Rattle.fm_exposition.specs.Written.{AppendsDocument, AppendsBeginningOfDocument, IsWritersFault, IsWritingRefusal};
 ghost use Rattle.fm_writer.specs.Utf8.{AppendsUtf8};
-ghost use Rattle.fm_writer.specs.inside.Grown.{Grows, size_of};
+ghost use Rattle.fm_text.specs.inside.Grown.{Grows, size_of};
 ghost use Rattle.fm_writer.specs.inside.Utf8.{IsUtf8Family};
 
-use crate::growing::GrowingText;
 use crate::heads::{FamilyHead, append_heads};
-use crate::labels::{Rendered, render_label_list};
-use crate::output::{Output, Size};
 use crate::rendering::{Reading, append_sample_row};
 use fm_encode_error::EncodeError;
 use fm_exposition::{Exposition, FamilySamples, Sample, parts, write_text};
+use fm_text::GrowingText;
+use fm_text::labels::{Rendered, render_label_list};
+use fm_text::output::{Output, Size};
 use std::alloc::{AllocError, Global};
 use std::io::Write;
 
@@ -68,7 +68,7 @@ fn append_samples<O: Output>(
 }
 
 // Appends the lines of a point's samples, whose common labels are rendered once.
-#[tactic(auto, using(crate::proofs::GrownLemmas::grown, fm_exposition::proofs::PointLemmas::points))]
+#[tactic(auto, using(fm_text::proofs::GrownLemmas::grown, fm_exposition::proofs::PointLemmas::points))]
 fn append_point<O: Output>(
     text: &mut O,
     common_text: &mut O,
@@ -108,7 +108,7 @@ fn append_points<O: Output>(
 }
 
 // Appends the lines of a family.
-#[tactic(auto, using(crate::proofs::GrownLemmas::grown))]
+#[tactic(auto, using(fm_text::proofs::GrownLemmas::grown))]
 fn append_family<O: Output>(
     text: &mut O,
     common_text: &mut O,

@@ -11,7 +11,8 @@ use Rattle.fm_encode_error.specs.declared.EncodeError.TheVariants.{KindMismatch,
 use Rattle.fm_raw.specs.declared.bucket.bound.Bucket.{Bucket}
 use Rattle.fm_writer.specs.Output.{appended}
 use Rattle.fm_encoder.specs.Points.{HandedExemplar, ExemplarClean, ExemplarFault, values_in, BucketsFault, bucket_line, bucket_samples}
-use Rattle.fm_encoder.specs.Gathered.{GatheredPoints, OwnRefusal}
+use Rattle.fm_encoder.specs.Gathered.{GatheredPoints}
+use Rattle.fm_labels.specs.Refusals.{OwnRefusal}
 use Rattle.fm_encoder.specs.Hands.{SamePlace}
 
 -- metrics of the type have buckets

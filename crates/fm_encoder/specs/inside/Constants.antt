@@ -3,7 +3,7 @@ use Rattle.std.specs.Prelude.{◌≡◌, List, [], Option, Some, None}
 use Rattle.fm_grammar.specs.declared.MetricType.{MetricType}
 use Rattle.fm_grammar.specs.Exposition.{Label}
 use Rattle.fm_encode_error.specs.declared.EncodeError.{EncodeError}
-use Rattle.fm_encoder.specs.Labels.{LabelsClean, LabelsFault, handed_again}
+use Rattle.fm_labels.specs.Labels.{LabelsClean, LabelsFault, handed_again}
 
 -- the family's type, and its constant labels
 pub record FamilyConstants : Type 0 where

@@ -6,7 +6,7 @@ use Rattle.std.specs.String.{string_bytes}
 use Rattle.fm_grammar.specs.Names.{IsSnakeCase}
 use Rattle.fm_grammar.specs.WellFormed.{AreLabels, AreMillis}
 use Rattle.fm_writer.specs.Output.{AreShared}
-use Rattle.fm_encoder.specs.inside.FreeLabels.{AreFree}
+use Rattle.fm_labels.specs.inside.FreeLabels.{AreFree}
 use Rattle.fm_encoder.specs.declared.point.PointEncoder.TheInside.{Inside}
 
 pub record IsGathering (e : Inside) : Type 0 where

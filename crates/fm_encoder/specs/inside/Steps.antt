@@ -8,22 +8,12 @@ use Rattle.fm_grammar.specs.WellFormed.{ValueFits, ValueSuits, kinds_of, Exempla
 use Rattle.fm_encode_error.specs.declared.EncodeError.{EncodeError}
 use Rattle.fm_encode_error.specs.declared.EncodeError.TheVariants.{Memory, DuplicateLabel, MalformedLabel, ValueTwice, MissingValue, KindMismatch}
 use Rattle.fm_writer.specs.Output.{appended}
-use Rattle.fm_encoder.specs.Labels.{HandedLabel, label_names, LabelsFault, LabelsClean, LabelClean, IsMalformed, written, all_written, NamePiece, ValuePiece}
-use Rattle.fm_encoder.specs.Gathered.{GatheredPieces, GatheredPoints, own_refusal, OwnRefusal}
+use Rattle.fm_labels.specs.Labels.{HandedLabel, label_names, LabelsFault, LabelsClean, LabelClean, IsMalformed, written, all_written, NamePiece, ValuePiece}
+use Rattle.fm_labels.specs.LabelEncoders.{GatheredPieces}
+use Rattle.fm_encoder.specs.Gathered.{GatheredPoints}
+use Rattle.fm_labels.specs.Refusals.{own_refusal, OwnRefusal}
 use Rattle.fm_encoder.specs.Hands.{SamePlace}
 use Rattle.std.specs.Option.{option_to_list, option_map}
-
--- The end of a label, after its source returned `visited`: a whole label is written, an own error is
--- refused, and so is a malformed label.
-pub record EndsLabel (visited : Result (Unit {0}) EncodeError) (old new : GatheredPieces) : Type 0 where
-  pub type_kept : new.metric_type ≡ old.metric_type
-  pub kept : (k : EncodeError) → old.refused ≡ Some k → new ≡ old
-  pub visited_ok : old.refused ≡ None → new.refused ≡ None → visited ≡ Ok tt
-  pub pieces : old.refused ≡ None → new.refused ≡ None → new.pieces ≡ []
-  pub clean : old.refused ≡ None → new.refused ≡ None → LabelClean old.metric_type old.labels old.pieces
-  pub labels : old.refused ≡ None → new.refused ≡ None → new.labels ≡ old.labels ++ written old.pieces
-  pub own : (e : EncodeError) → old.refused ≡ None → visited ≡ Err e → new.refused ≡ Some (own_refusal e)
-  pub refused : (k : EncodeError) → old.refused ≡ None → visited ≡ Ok tt → new.refused ≡ Some k → (k ≡ Memory) ⊎ ((k ≡ MalformedLabel) × IsMalformed old.pieces)
 
 -- why a value is refused whose source emits these numbers
 abbrev pub NumberRefusal : List Value → Type 0 → EncodeError → Type 0
@@ -93,7 +83,3 @@ pub record EndsPoints (visited : Result (Unit {0}) EncodeError) (old new : Gathe
   pub visited_ok : old.refused ≡ None → new.refused ≡ None → visited ≡ Ok tt
   pub own : (e : EncodeError) → old.refused ≡ None → visited ≡ Err e → new.refused ≡ Some (own_refusal e)
   pub ok : old.refused ≡ None → visited ≡ Ok tt → new.refused ≡ None
-
--- the pieces of the current label, which has this name and this value
-abbrev pub pieces_of : Option Text → Option Text → HandedLabel
-pieces_of name text = option_to_list (option_map NamePiece name) ++ option_to_list (option_map ValuePiece text)

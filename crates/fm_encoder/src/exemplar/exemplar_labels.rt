@@ -3,15 +3,15 @@ ghost use Rattle.std.specs.Prelude.{◌≡◌, ℕ, ℤ, ◌⊎◌, ◌<◌, [],
 ghost use Rattle.fm_grammar.specs.declared.MetricType.TheVariants.{Unknown};
 ghost use Rattle.fm_grammar.specs.WellFormed.{label_code_points};
 ghost use Rattle.fm_encode_error.specs.declared.EncodeError.TheVariants.{ExemplarTooLong};
-ghost use Rattle.fm_encoder.specs.Labels.{LabelsFault, all_written, handed_again};
+ghost use Rattle.fm_labels.specs.Labels.{LabelsFault, all_written, handed_again};
 ghost use Rattle.fm_encoder.specs.Points.{ExemplarPartsClean};
-ghost use Rattle.fm_encoder.specs.Gathered.{OwnRefusal};
+ghost use Rattle.fm_labels.specs.Refusals.{OwnRefusal};
 
 use crate::exemplar::written_labels;
-use crate::label::LabelSetEncoder;
-use crate::label_set::{EncodeLabelSet, encode_written};
 use fm_encode_error::EncodeError;
 use fm_exposition::code_points::are_short;
+use fm_labels::label::LabelSetEncoder;
+use fm_labels::label_set::{EncodeLabelSet, encode_written};
 use std::alloc::Global;
 use std::marker::Model;
 
@@ -28,7 +28,7 @@ impl Model for ExemplarLabels {
     ghost use Rattle.fm_grammar.specs.Exposition.{Label};
     ghost use Rattle.fm_grammar.specs.WellFormed.{label_code_points};
     ghost use Rattle.fm_exposition.specs.Samples.{labels_of};
-    ghost use Rattle.fm_encoder.specs.Labels.{LabelsClean, all_written, handed_again};
+    ghost use Rattle.fm_labels.specs.Labels.{LabelsClean, all_written, handed_again};
 
     ghost Value = { List Label };
 

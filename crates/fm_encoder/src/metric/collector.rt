@@ -7,19 +7,20 @@ ghost use Rattle.fm_exposition.specs.Rows.{head_rows};
 ghost use Rattle.fm_exposition.specs.Samples.{labels_of};
 ghost use Rattle.fm_writer.specs.Heads.{headed};
 ghost use Rattle.fm_writer.specs.Output.{AreShared, OutputText, with_lines};
-ghost use Rattle.fm_encoder.specs.Gathered.{IsOutcome, result_of};
-ghost use Rattle.fm_encoder.specs.Kept.{Keeps};
+ghost use Rattle.fm_labels.specs.Refusals.{IsOutcome, result_of};
+ghost use Rattle.fm_labels.specs.Kept.{Keeps};
 ghost use Rattle.fm_encoder.specs.Hands.{MembersOf};
 ghost use Rattle.fm_encoder.specs.Takes.{TakesMembers};
 
 use crate::constants::ConstantLabels;
-use crate::kept::KeptLabels;
-use crate::label_set::EncodeLabelSet;
 use crate::metric::MetricEncoder;
 use crate::point::{EncodePoint, PointEncoder};
 use fm_encode_error::EncodeError;
 use fm_grammar::MetricType;
-use fm_writer::{FamilyHead, GrowingText, Sink};
+use fm_labels::kept::KeptLabels;
+use fm_labels::label_set::EncodeLabelSet;
+use fm_text::GrowingText;
+use fm_writer::{FamilyHead, Sink};
 use std::alloc::Global;
 
 /// An encoder for the family with this printed name, this type, these constant labels and this timestamp in milliseconds.

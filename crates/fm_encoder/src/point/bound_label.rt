@@ -2,10 +2,9 @@
 ghost use Rattle.std.specs.Prelude.{◌≡◌, [], ◌∷◌, IfOk, IsTrue};
 ghost use Rattle.fm_encoder.specs.Points.{bound_label};
 
-use crate::gathered::push_label;
 use fm_raw::bucket::{BUCKET_LABEL, Bound, Bucket};
 use fm_raw::fixed::FixedBuffer;
-use fm_writer::LabelText;
+use fm_text::LabelText;
 use std::alloc::{AllocError, Global};
 use std::marker::Model;
 
@@ -34,7 +33,7 @@ fn label_text(alloc: Global, bound: Bound) -> Result<LabelText, AllocError>
 {
     let mut buffer = FixedBuffer::new();
     let mut text = LabelText::new(alloc);
-    push_label(&mut text, BUCKET_LABEL, bound.format(&mut buffer))?;
+    text.push(BUCKET_LABEL, bound.format(&mut buffer))?;
     Ok(text)
 }
 

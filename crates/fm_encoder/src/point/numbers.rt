@@ -5,7 +5,8 @@ ghost use Rattle.fm_grammar.specs.declared.MetricType.{MetricType};
 ghost use Rattle.fm_grammar.specs.declared.SampleKind.TheVariants.{Created as CreatedKind};
 ghost use Rattle.fm_grammar.specs.WellFormed.{kinds_of};
 ghost use Rattle.fm_encoder.specs.Points.{UnknownPoint, GaugePoint, CounterPoint, created_samples, millis};
-ghost use Rattle.fm_encoder.specs.Takes.{Takes, TakesPoints};
+ghost use Rattle.fm_labels.specs.Refusals.{Takes};
+ghost use Rattle.fm_encoder.specs.Takes.{TakesPoints};
 ghost use Rattle.fm_encoder.specs.inside.Steps.{PushesSamples};
 
 use crate::exemplar::{EncodeExemplar, exemplar_given};

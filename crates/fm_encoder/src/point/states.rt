@@ -2,19 +2,20 @@
 ghost use Rattle.std.specs.Prelude.{◌≡◌, ◌⊎◌, [], ◌∷◌, None, Contains, map};
 ghost use Rattle.fm_grammar.specs.declared.MetricType.{MetricType};
 ghost use Rattle.fm_encoder.specs.Points.{StateSetPoint, InfoPoint, state_sample};
-ghost use Rattle.fm_encoder.specs.Labels.{label_names};
+ghost use Rattle.fm_labels.specs.Labels.{label_names};
 ghost use Rattle.fm_encoder.specs.States.{state_of};
-ghost use Rattle.fm_encoder.specs.Takes.{Takes, TakesPoints};
+ghost use Rattle.fm_labels.specs.Refusals.{Takes};
+ghost use Rattle.fm_encoder.specs.Takes.{TakesPoints};
 ghost use Rattle.fm_encoder.specs.inside.Steps.{PushesSample, PushesSamples, TestsStates};
 
-use crate::gathered::{labels_from, push_label, read_labels};
-use crate::label::LabelSetEncoder;
-use crate::label_set::EncodeLabelSet;
 use crate::point::PointEncoder;
 use fm_encode_error::EncodeError;
 use fm_exposition::Value;
 use fm_grammar::{MetricType, SampleKind};
-use fm_writer::LabelText;
+use fm_labels::gathered::read_labels;
+use fm_labels::label::LabelSetEncoder;
+use fm_labels::label_set::EncodeLabelSet;
+use fm_text::LabelText;
 
 impl PointEncoder {
     /// Takes a state set's point: each state's text, and whether the state is on. The label of a state has the family's name.
@@ -80,7 +81,7 @@ impl PointEncoder {
             self.old self.new) self.new.refused result }
     {
         own.clear();
-        if let Err(_) = push_label(own, self.name.as_str(), state.0) {
+        if let Err(_) = own.push(self.name.as_str(), state.0) {
             return self.refused.refuse(EncodeError::Memory);
         }
         let value = Value::Whole(if state.1 { 1 } else { 0 });
@@ -102,7 +103,7 @@ impl PointEncoder {
         if let Err(error) = read_labels(&mut all, labels) {
             return self.refused.refuse(error);
         }
-        match labels_from(self.alloc, all.text(), self.labels.text().len()) {
+        match all.text().suffix(self.alloc, self.labels.text().len()) {
             Ok(own) => self.push_labeled(SampleKind::Info, &own, &Value::Whole(1), None),
             Err(_) => self.refused.refuse(EncodeError::Memory),
         }

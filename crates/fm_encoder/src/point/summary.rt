@@ -3,17 +3,17 @@ ghost use Rattle.std.specs.Prelude.{◌≡◌, [], ◌∷◌, None, map};
 ghost use Rattle.std.specs.Option.{option_map};
 ghost use Rattle.fm_grammar.specs.declared.MetricType.{MetricType};
 ghost use Rattle.fm_encoder.specs.Points.{SummaryPoint, millis, quantile_sample};
-ghost use Rattle.fm_encoder.specs.Takes.{Takes, TakesPoints};
+ghost use Rattle.fm_labels.specs.Refusals.{Takes};
+ghost use Rattle.fm_encoder.specs.Takes.{TakesPoints};
 ghost use Rattle.fm_encoder.specs.inside.Steps.{PushesSample, PushesSamples};
 
-use crate::gathered::push_label;
 use crate::point::PointEncoder;
 use fm_encode_error::EncodeError;
 use fm_exposition::Value;
 use fm_grammar::{MetricType, SampleKind};
 use fm_raw::fixed::{FixedBuffer, FixedSum};
 use fm_raw::quantile::{QUANTILE_LABEL, Quantile};
-use fm_writer::LabelText;
+use fm_text::LabelText;
 use std::time::Duration;
 
 impl PointEncoder {
@@ -69,7 +69,7 @@ impl PointEncoder {
         let mut buffer = FixedBuffer::new();
         let text = buffer.format(FixedSum::from(quantile.quantile()));
         own.clear();
-        if let Err(_) = push_label(own, QUANTILE_LABEL, text) {
+        if let Err(_) = own.push(QUANTILE_LABEL, text) {
             return self.refused.refuse(EncodeError::Memory);
         }
         let value = Value::Fixed(FixedSum::from(quantile.value()));

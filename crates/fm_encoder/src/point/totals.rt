@@ -7,7 +7,7 @@ ghost use Rattle.fm_grammar.specs.WellFormed.{ValueFits};
 ghost use Rattle.fm_grammar.specs.Exposition.{Whole, Fixed as Millionths};
 ghost use Rattle.fm_exposition.specs.declared.exposition.Value.TheVariants.{Whole as WholeValue, Fixed as FixedValue};
 ghost use Rattle.fm_encoder.specs.Points.{millis, total_samples, created_samples};
-ghost use Rattle.fm_encoder.specs.Takes.{Takes};
+ghost use Rattle.fm_labels.specs.Refusals.{Takes};
 ghost use Rattle.fm_encoder.specs.inside.Steps.{PushesSamples};
 ghost use Rattle.fm_encoder.specs.inside.BucketSteps.{HasTotals};
 

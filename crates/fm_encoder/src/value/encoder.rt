@@ -3,13 +3,13 @@ ghost use Rattle.std.specs.Prelude.{◌≡◌, ◌⊎◌, pos, [], ◌∷◌, Ma
 ghost use Rattle.fm_grammar.specs.Exposition.{Whole, Fixed as Millionths};
 ghost use Rattle.fm_encode_error.specs.declared.EncodeError.{EncodeError};
 ghost use Rattle.fm_exposition.specs.Samples.{value_of};
-ghost use Rattle.fm_encoder.specs.Gathered.{own_refusal};
+ghost use Rattle.fm_labels.specs.Refusals.{own_refusal};
 ghost use Rattle.fm_encoder.specs.Takes.{TakesNumbers};
 ghost use Rattle.fm_encoder.specs.inside.Steps.{IsNumber};
 
-use crate::first_refusal::{FirstRefusal, own_refusal};
 use fm_encode_error::EncodeError;
 use fm_exposition::Value;
+use fm_labels::first_refusal::{FirstRefusal, own_refusal};
 use fm_raw::fixed::{Fixed, FixedSum};
 use std::marker::{Model, PhantomData};
 

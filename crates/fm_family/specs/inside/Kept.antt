@@ -2,8 +2,8 @@
 use Rattle.std.specs.Prelude.{List, Option, IfSome}
 use Rattle.std.specs.List.{AllZip}
 use Rattle.fm_encoder.specs.Exposition.{Label}
-use Rattle.fm_encoder.specs.Labels.{HandedLabel}
-use Rattle.fm_encoder.specs.Kept.{Keeps}
+use Rattle.fm_labels.specs.Labels.{HandedLabel}
+use Rattle.fm_labels.specs.Kept.{Keeps}
 
 -- of each label set, the labels that are kept, if any
 abbrev pub AreKept : {L : Type 0} → (L → List HandedLabel) → List L → List (Option (List Label)) → Type 0

@@ -2,7 +2,7 @@
 use Rattle.std.specs.Prelude.{List, [], ◌∷◌, Option}
 use Rattle.std.specs.Borrow.{Bor}
 use Rattle.std.specs.Option.{option_map, option_map_or}
-use Rattle.fm_encoder.specs.Labels.{handed_again}
+use Rattle.fm_labels.specs.Labels.{handed_again}
 use Rattle.fm_encoder.specs.Points.{HandedExemplar, millis}
 use Rattle.fm_encoder.specs.declared.exemplar.labeled.LabeledExemplar.{LabeledExemplar}
 use Rattle.fm_encoder.specs.declared.exemplar.exemplar_labels.ExemplarLabels.{ExemplarLabels}

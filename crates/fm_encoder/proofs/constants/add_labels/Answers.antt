@@ -1,8 +1,8 @@
 use Rattle.std.proofs.Common.{◌≡◌, ◌∙◌, true, ap, Contains}
 use Rattle.std.specs.List.{Any}
-use Rattle.fm_encoder.specs.Gathered.{GatheredLabels}
-use Rattle.fm_encoder.specs.Labels.{label_names}
-use Rattle.fm_encoder.proofs.KeptLemmas.{kept_behind}
+use Rattle.fm_labels.specs.LabelEncoders.{GatheredLabels}
+use Rattle.fm_labels.specs.Labels.{label_names}
+use Rattle.fm_labels.proofs.KeptLemmas.{kept_behind}
 use Rattle.fm_encoder.proofs.constants.add_labels.Goals as goal
 
 pub returns-then-not-has_name_of-clause-gathered : goal.returns-then-not-has_name_of-clause-gathered

@@ -2,7 +2,8 @@
 ghost use Rattle.std.specs.Prelude.{◌≡◌, [], ◌∷◌, None, map};
 ghost use Rattle.std.specs.Option.{option_map};
 ghost use Rattle.fm_encoder.specs.Points.{HistogramPoint, GaugeHistogramPoint, millis};
-ghost use Rattle.fm_encoder.specs.Takes.{Takes, TakesPoints};
+ghost use Rattle.fm_labels.specs.Refusals.{Takes};
+ghost use Rattle.fm_encoder.specs.Takes.{TakesPoints};
 ghost use Rattle.fm_encoder.specs.inside.BucketSteps.{HasBuckets, PushesBuckets};
 
 use crate::point::PointEncoder;

@@ -2,8 +2,8 @@ use Rattle.std.proofs.Common.{◌≡◌, ◌++◌, ◌<◌, arith, length, codes
 use Rattle.fm_grammar.specs.Kinds.{suffix_of}
 use Rattle.fm_grammar.specs.Spelling.{label_list_text}
 use Rattle.fm_exposition.proofs.ResultLemmas.{on_ok_more}
-use Rattle.fm_writer.specs.inside.Grown.{Grows}
-use Rattle.fm_writer.proofs.GrownLemmas.{block_neither, block_front, block_back, grown_two, joined_whole, joined_nothing, joined_behind}
+use Rattle.fm_text.specs.inside.Grown.{Grows}
+use Rattle.fm_text.proofs.GrownLemmas.{block_neither, block_front, block_back, grown_two, joined_whole, joined_nothing, joined_behind}
 use Rattle.fm_writer.proofs.RowLemmas.{before_value, begun_bare, begun_braced, row_begun}
 use Rattle.fm_writer.proofs.rendering.append_sample_row.Goals as goal
 use Rattle.fm_writer.proofs.rendering.append_sample_row.Goals.{then-len-eq0+then-len-eq0-2+in_ok-put_three, then-len-eq0+else-len-eq0-2+in_ok-put_three-2+in_ok-append_before, else-len-eq0+in_ok-put_three-3+in_ok-append_before-3, then-len-gt0+in_ok-append_before-2, else-len-gt0}

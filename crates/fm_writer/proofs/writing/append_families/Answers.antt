@@ -1,6 +1,6 @@
 use Rattle.fm_exposition.specs.inside.DocumentRows.{family_rows}
 use Rattle.fm_writer.specs.inside.Utf8.{IsUtf8Family}
-use Rattle.fm_writer.proofs.GrownLemmas.{left_more_is}
+use Rattle.fm_text.proofs.GrownLemmas.{left_more_is}
 use Rattle.fm_writer.proofs.Utf8Lemmas.{taken_more}
 use Rattle.fm_writer.proofs.writing.append_families.Goals as goal
 

@@ -1,7 +1,7 @@
 use Rattle.std.specs.Prelude.{take}
 use Rattle.std.specs.List.{AllByRecursion}
 use Rattle.fm_exposition.specs.inside.DocumentRows.{family_rows}
-use Rattle.fm_writer.specs.inside.Grown.{IsLeft}
+use Rattle.fm_text.specs.inside.Grown.{IsLeft}
 use Rattle.fm_writer.specs.inside.Utf8.{IsUtf8Family}
 use Rattle.fm_writer.proofs.writing.append_families.Given as goal
 

@@ -2,7 +2,7 @@ use Rattle.std.proofs.Common.{drop}
 use Rattle.fm_exposition.specs.inside.Points.{AreInPoints}
 use Rattle.fm_exposition.specs.Rows.{sample_rows}
 use Rattle.fm_exposition.specs.Samples.{samples_of}
-use Rattle.fm_writer.specs.inside.Grown.{IsLeftOf}
+use Rattle.fm_text.specs.inside.Grown.{IsLeftOf}
 use Rattle.fm_writer.proofs.writing.append_points.Given as goal
 
 abbrev pub invariant-loop-count : goal.invariant-loop-count

@@ -4,7 +4,7 @@ use Rattle.fm_grammar.specs.Spelling.{label_list_text}
 use Rattle.fm_exposition.specs.Rows.{sample_row}
 use Rattle.fm_exposition.specs.Samples.{sample_of}
 use Rattle.fm_exposition.proofs.PointLemmas.{common_at}
-use Rattle.fm_writer.proofs.GrownLemmas.{left_more_seen}
+use Rattle.fm_text.proofs.GrownLemmas.{left_more_seen}
 use Rattle.fm_writer.proofs.writing.append_samples.Goals as goal
 
 pub append_sample-requires : goal.append_sample-requires

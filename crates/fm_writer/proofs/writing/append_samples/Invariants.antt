@@ -1,6 +1,6 @@
 use Rattle.fm_exposition.specs.Rows.{sample_row}
 use Rattle.fm_exposition.specs.Samples.{samples_of}
-use Rattle.fm_writer.specs.inside.Grown.{IsLeft}
+use Rattle.fm_text.specs.inside.Grown.{IsLeft}
 use Rattle.fm_writer.proofs.writing.append_samples.Given as goal
 
 abbrev pub invariant-loop-sample : goal.invariant-loop-sample

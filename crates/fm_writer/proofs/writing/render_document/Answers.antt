@@ -1,7 +1,7 @@
 use Rattle.std.proofs.Common.{[], codes}
 use Rattle.fm_exposition.specs.inside.DocumentRows.{families_rows}
 use Rattle.fm_exposition.proofs.ResultLemmas.{on_ok_more}
-use Rattle.fm_writer.proofs.GrownLemmas.{grown_then}
+use Rattle.fm_text.proofs.GrownLemmas.{grown_then}
 use Rattle.fm_writer.proofs.writing.render_document.Goals as goal
 
 pub returns-clause-document : goal.returns-clause-document

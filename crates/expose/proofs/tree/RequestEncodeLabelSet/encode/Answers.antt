@@ -1,4 +1,4 @@
-use Rattle.fm_encoder.proofs.OwnLabels.{next_label, last_label}
+use Rattle.fm_labels.proofs.OwnLabels.{next_label, last_label}
 use Rattle.expose.proofs.tree.RequestEncodeLabelSet.encode.Goals as goal
 
 pub returns : goal.returns

@@ -2,10 +2,10 @@ use Rattle.std.proofs.Common.{◌≡◌, ◌⊎◌, ◌++◌, ◌∙◌, [], Ok,
 use Rattle.std.proofs.lemmas.Result.{err_from_is_err_and}
 use Rattle.fm_grammar.specs.declared.MetricType.{MetricType}
 use Rattle.fm_encoder.specs.inside.Constants.{FamilyConstants}
-use Rattle.fm_encoder.specs.Labels.{LabelsClean, LabelsFault, all_written, handed_again}
-use Rattle.fm_encoder.specs.Gathered.{OwnRefusal}
-use Rattle.fm_encoder.proofs.Cases.{none_from_not}
-use Rattle.fm_encoder.proofs.LabelsLemmas.{LabelsFault-append, behind_constants}
+use Rattle.fm_labels.specs.Labels.{LabelsClean, LabelsFault, all_written, handed_again}
+use Rattle.fm_labels.specs.Refusals.{OwnRefusal}
+use Rattle.fm_labels.proofs.Cases.{none_from_not}
+use Rattle.fm_labels.proofs.LabelsLemmas.{LabelsFault-append, behind_constants}
 use Rattle.fm_encoder.proofs.constants.ConstantLabels.followed_by.Goals as goal
 
 pub returns-in-Some-clause-gathered : goal.returns-in-Some-clause-gathered

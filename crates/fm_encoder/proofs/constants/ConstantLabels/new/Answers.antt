@@ -1,8 +1,8 @@
 use Rattle.std.proofs.Common.{List, [], subst, sym, ◌∙◌}
 use Rattle.fm_grammar.specs.Exposition.{Label}
 use Rattle.fm_exposition.specs.Samples.{labels_of}
-use Rattle.fm_encoder.specs.Labels.{LabelsClean, handed_again}
-use Rattle.fm_encoder.proofs.LabelsLemmas.{written_again}
+use Rattle.fm_labels.specs.Labels.{LabelsClean, handed_again}
+use Rattle.fm_labels.proofs.LabelsLemmas.{written_again}
 use Rattle.fm_encoder.proofs.constants.ConstantLabels.new.Goals as goal
 
 pub invariant_of-result : goal.invariant_of-result

@@ -1,5 +1,6 @@
 use Rattle.std.proofs.Common.{sym, ap, ◌∙◌}
-use Rattle.fm_encoder.specs.Gathered.{GatheredExemplars, result_of}
+use Rattle.fm_encoder.specs.Gathered.{GatheredExemplars}
+use Rattle.fm_labels.specs.Refusals.{result_of}
 use Rattle.fm_encoder.proofs.ExemplarLemmas.{HandsExemplars-refused}
 use Rattle.fm_encoder.proofs.exemplar.ExemplarEncoder.encode.Goals as goal
 

@@ -1,5 +1,5 @@
 use Rattle.std.proofs.Common.{sym, ◌∙◌, refl}
-use Rattle.fm_encoder.proofs.Cases.{none_from_answer}
+use Rattle.fm_labels.proofs.Cases.{none_from_answer}
 use Rattle.fm_encoder.proofs.MemberLemmas.{HandsMembers-one}
 use Rattle.fm_encoder.proofs.metric.collector.encode_kept.Goals as goal
 

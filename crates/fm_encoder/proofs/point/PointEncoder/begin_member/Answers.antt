@@ -1,8 +1,8 @@
 use Rattle.std.proofs.Common.{sym, subst, []}
 use Rattle.fm_grammar.specs.declared.MetricType.{MetricType}
 use Rattle.fm_grammar.specs.WellFormed.{AreLabels}
-use Rattle.fm_encoder.specs.inside.FreeLabels.{AreFree}
-use Rattle.fm_encoder.proofs.NameLemmas.{AreLabels-written, AreFree-written}
+use Rattle.fm_labels.specs.inside.FreeLabels.{AreFree}
+use Rattle.fm_labels.proofs.NameLemmas.{AreLabels-written, AreFree-written}
 use Rattle.fm_encoder.proofs.point.PointEncoder.begin_member.Goals as goal
 
 pub invariant_of-self : goal.invariant_of-self

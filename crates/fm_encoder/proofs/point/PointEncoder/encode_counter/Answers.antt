@@ -4,8 +4,8 @@ use Rattle.std.specs.Option.{option_map, option_map_or}
 use Rattle.fm_grammar.specs.declared.SampleKind.TheVariants.{Total}
 use Rattle.fm_exposition.specs.Samples.{value_of, exemplar_of}
 use Rattle.fm_encoder.specs.Points.{Setting, CounterPoint, NumberFault, millis, plain_sample, created_samples, ExemplarClean, ExemplarFault, written_exemplar}
-use Rattle.fm_encoder.specs.Gathered.{OwnRefusal}
-use Rattle.fm_encoder.proofs.Cases.{none_from_answer}
+use Rattle.fm_labels.specs.Refusals.{OwnRefusal}
+use Rattle.fm_labels.proofs.Cases.{none_from_answer}
 use Rattle.fm_encoder.proofs.BucketLemmas.{HandsPoints-refused, PushesSamples-after}
 use Rattle.fm_encoder.proofs.MemberLemmas.{OwnRefusal-right}
 use Rattle.fm_encoder.proofs.point.PointEncoder.encode_counter.Goals as goal

@@ -2,7 +2,7 @@ use Rattle.std.proofs.Common.{refl}
 use Rattle.fm_grammar.specs.declared.SampleKind.TheVariants.{GCount, GSum}
 use Rattle.fm_encoder.specs.Points.{GaugeHistogramPoint, total_samples}
 use Rattle.fm_encoder.specs.Buckets.{slots_of}
-use Rattle.fm_encoder.proofs.Cases.{none_from_answer}
+use Rattle.fm_labels.proofs.Cases.{none_from_answer}
 use Rattle.fm_encoder.proofs.BucketLemmas.{length-slots_of, HandsPoints-buckets}
 use Rattle.fm_encoder.proofs.point.PointEncoder.encode_gauge_histogram.Goals as goal
 

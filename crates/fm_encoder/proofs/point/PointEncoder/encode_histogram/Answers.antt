@@ -3,7 +3,7 @@ use Rattle.std.specs.Option.{option_map}
 use Rattle.fm_grammar.specs.declared.SampleKind.TheVariants.{Count, Sum}
 use Rattle.fm_encoder.specs.Points.{HistogramPoint, millis, created_samples, total_samples}
 use Rattle.fm_encoder.specs.Buckets.{slots_of}
-use Rattle.fm_encoder.proofs.Cases.{none_from_answer}
+use Rattle.fm_labels.proofs.Cases.{none_from_answer}
 use Rattle.fm_encoder.proofs.BucketLemmas.{length-slots_of, HandsPoints-buckets}
 use Rattle.fm_encoder.proofs.point.PointEncoder.encode_histogram.Goals as goal
 

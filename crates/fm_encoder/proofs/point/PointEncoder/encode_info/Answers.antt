@@ -1,6 +1,6 @@
 use Rattle.std.proofs.Common.{◌++◌, ℕ, ap, ◌∙◌, drop, length}
-use Rattle.fm_encoder.specs.Labels.{all_written}
-use Rattle.fm_encoder.proofs.NameLemmas.{AreLabels-behind, own_of_all}
+use Rattle.fm_labels.specs.Labels.{all_written}
+use Rattle.fm_labels.proofs.NameLemmas.{AreLabels-behind, own_of_all}
 use Rattle.fm_encoder.proofs.point.PointEncoder.encode_info.Goals as goal
 
 pub push_labeled-requires-clause-labels : goal.push_labeled-requires-clause-labels

@@ -1,8 +1,9 @@
 use Rattle.std.proofs.Common.{◌≡◌, [], ◌∷◌, ◌++◌, None, refl, sym, ap, subst, arith}
 use Rattle.fm_encoder.specs.inside.BucketSteps.{HasBuckets}
-use Rattle.fm_encoder.specs.Gathered.{GatheredPoints, result_of}
+use Rattle.fm_encoder.specs.Gathered.{GatheredPoints}
+use Rattle.fm_labels.specs.Refusals.{result_of}
 use Rattle.fm_encoder.specs.Points.{bound_label}
-use Rattle.fm_encoder.proofs.NameLemmas.{AreLabels-own}
+use Rattle.fm_labels.proofs.NameLemmas.{AreLabels-own}
 use Rattle.fm_encoder.proofs.BucketLemmas.{le_is_reserved, le_is_label_name, IsSample-bucket}
 use Rattle.fm_encoder.proofs.point.PointEncoder.push_bound.Goals as goal
 

@@ -1,7 +1,7 @@
 use Rattle.std.proofs.Common.{[], MatchOption, sym, ap}
 use Rattle.std.specs.Option.{option_map_or}
 use Rattle.std.proofs.lemmas.Result.{err_from_is_err_and}
-use Rattle.fm_encoder.specs.Gathered.{result_of}
+use Rattle.fm_labels.specs.Refusals.{result_of}
 use Rattle.fm_encoder.proofs.BucketLemmas.{PushedFirst-more, PushesBuckets-refused}
 use Rattle.fm_encoder.proofs.point.PointEncoder.push_buckets.Goals as goal
 

@@ -4,7 +4,7 @@ use Rattle.fm_grammar.specs.Exposition.{Whole, Fixed}
 use Rattle.fm_exposition.specs.Samples.{value_of}
 use Rattle.fm_encoder.specs.Points.{Setting, plain_sample}
 use Rattle.fm_encoder.specs.inside.BucketSteps.{HasTotals}
-use Rattle.fm_encoder.proofs.Cases.{none_from_answer}
+use Rattle.fm_labels.proofs.Cases.{none_from_answer}
 use Rattle.fm_encoder.proofs.BucketLemmas.{FitsType-count, FitsType-sum, PushesSamples-after, PushesSamples-one}
 use Rattle.fm_encoder.proofs.point.PointEncoder.push_count_and_sum.Goals as goal
 

@@ -1,10 +1,10 @@
 use Rattle.std.proofs.Common.{◌++◌, [], ◌∷◌, refl, sym, subst, ap, ◌∙◌, codes}
 use Rattle.fm_grammar.specs.Numbers.{fixed_text}
 use Rattle.fm_grammar.specs.Exposition.{Text}
-use Rattle.fm_writer.specs.inside.LabelTexts.{LabelsState}
+use Rattle.fm_text.specs.inside.LabelTexts.{LabelsState}
 use Rattle.fm_grammar.specs.declared.MetricType.{MetricType}
-use Rattle.fm_encoder.specs.Labels.{IsReserved}
-use Rattle.fm_encoder.proofs.NameLemmas.{AreLabels-own}
+use Rattle.fm_labels.specs.Labels.{IsReserved}
+use Rattle.fm_labels.proofs.NameLemmas.{AreLabels-own}
 use Rattle.fm_encoder.proofs.BucketLemmas.{quantile_is_label_name}
 use Rattle.fm_encoder.proofs.point.PointEncoder.push_quantile.Goals as goal
 

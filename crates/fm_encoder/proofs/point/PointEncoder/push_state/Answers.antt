@@ -1,9 +1,9 @@
 use Rattle.std.proofs.Common.{◌++◌, [], ◌∷◌, subst, sym, ap, ◌∙◌, string_bytes, Contains}
 use Rattle.fm_grammar.specs.Exposition.{Text}
-use Rattle.fm_writer.specs.inside.LabelTexts.{LabelsState}
-use Rattle.fm_encoder.specs.Labels.{label_names}
+use Rattle.fm_text.specs.inside.LabelTexts.{LabelsState}
+use Rattle.fm_labels.specs.Labels.{label_names}
 use Rattle.fm_encoder.specs.Gathered.{GatheredPoints}
-use Rattle.fm_encoder.proofs.NameLemmas.{AreLabels-named}
+use Rattle.fm_labels.proofs.NameLemmas.{AreLabels-named}
 use Rattle.fm_encoder.proofs.point.PointEncoder.push_state.Goals as goal
 
 pub push_labeled-requires-clause-labels : goal.push_labeled-requires-clause-labels

@@ -1,6 +1,6 @@
 use Rattle.fm_encoder.specs.Points.{state_sample}
 use Rattle.fm_encoder.specs.States.{state_of}
-use Rattle.fm_encoder.proofs.Cases.{none_from_answer}
+use Rattle.fm_labels.proofs.Cases.{none_from_answer}
 use Rattle.fm_encoder.proofs.BucketLemmas.{PushesSamples-seen}
 use Rattle.fm_encoder.proofs.point.PointEncoder.push_states.Goals as goal
 

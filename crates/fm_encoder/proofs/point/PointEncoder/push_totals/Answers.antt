@@ -4,7 +4,7 @@ use Rattle.fm_grammar.specs.declared.MetricType.TheVariants.{Histogram, Summary}
 use Rattle.fm_grammar.specs.declared.SampleKind.TheVariants.{Count, Sum, Created}
 use Rattle.fm_grammar.specs.WellFormed.{kinds_of}
 use Rattle.fm_encoder.specs.Points.{Setting, millis, total_samples, created_samples}
-use Rattle.fm_encoder.proofs.Cases.{none_from_answer}
+use Rattle.fm_labels.proofs.Cases.{none_from_answer}
 use Rattle.fm_encoder.proofs.BucketLemmas.{PushesSamples-then}
 use Rattle.fm_encoder.proofs.point.PointEncoder.push_totals.Goals as goal
 

@@ -1,6 +1,6 @@
 use Rattle.std.proofs.Common.{◌<◌, ◌+◌, sym, length, arith}
 use Rattle.std.proofs.lemmas.Result.{err_from_is_err_and}
-use Rattle.fm_encoder.specs.Kept.{Keeps}
+use Rattle.fm_labels.specs.Kept.{Keeps}
 use Rattle.fm_encoder.proofs.MemberLemmas.{HandsMembers-weaker}
 use Rattle.fm_family.proofs.KeptLemmas.{kept_count, kept_at, lent_if}
 use Rattle.fm_family.proofs.MemberLemmas.{accepted, offers_member}

@@ -1,5 +1,5 @@
 use Rattle.std.proofs.Common.{inl, inr}
-use Rattle.fm_encoder.proofs.LabelsLemmas.{HandsLabels-then, HandsLabels-weaker}
+use Rattle.fm_labels.proofs.LabelsLemmas.{HandsLabels-then, HandsLabels-weaker}
 use Rattle.fm_test_support.proofs.parts.HalfAndTrueEncodeLabelSet.encode.Goals as goal
 
 pub returns : goal.returns

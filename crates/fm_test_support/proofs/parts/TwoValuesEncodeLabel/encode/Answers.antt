@@ -1,5 +1,5 @@
 use Rattle.std.proofs.lemmas.Result.{err_from_is_err_and}
-use Rattle.fm_encoder.proofs.PiecesLemmas.{HandsPieces-then, HandsPieces-stopped}
+use Rattle.fm_labels.proofs.PiecesLemmas.{HandsPieces-then, HandsPieces-stopped}
 use Rattle.fm_test_support.proofs.parts.TwoValuesEncodeLabel.encode.Goals as goal
 
 pub returns-in_err-encode_label_name : goal.returns-in_err-encode_label_name

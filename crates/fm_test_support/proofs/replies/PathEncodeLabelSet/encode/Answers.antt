@@ -1,4 +1,4 @@
-use Rattle.fm_encoder.proofs.OwnLabels.{last_label}
+use Rattle.fm_labels.proofs.OwnLabels.{last_label}
 use Rattle.fm_test_support.proofs.replies.PathEncodeLabelSet.encode.Goals as goal
 
 pub returns : goal.returns

@@ -1,6 +1,6 @@
 use Rattle.std.proofs.lemmas.Result.{err_from_is_err_and}
-use Rattle.fm_encoder.proofs.LabelsLemmas.{HandsLabels-stopped}
-use Rattle.fm_encoder.proofs.OwnLabels.{next_label, last_label}
+use Rattle.fm_labels.proofs.LabelsLemmas.{HandsLabels-stopped}
+use Rattle.fm_labels.proofs.OwnLabels.{next_label, last_label}
 use Rattle.fm_test_support.specs.Replies.{error_labels}
 use Rattle.fm_test_support.proofs.ReplyLemmas.{optional_label}
 use Rattle.fm_test_support.proofs.replies.ReplyEncodeLabelSet.encode.Goals as goal

@@ -3,8 +3,8 @@ use Rattle.fm_grammar.specs.declared.MetricType.TheVariants.{Unknown}
 use Rattle.fm_grammar.specs.Exposition.{Label}
 use Rattle.fm_grammar.specs.WellFormed.{label_code_points}
 use Rattle.fm_exposition.specs.Samples.{labels_of}
-use Rattle.fm_encoder.specs.Labels.{LabelsClean, handed_again}
-use Rattle.fm_encoder.proofs.LabelsLemmas.{written_again}
+use Rattle.fm_labels.specs.Labels.{LabelsClean, handed_again}
+use Rattle.fm_labels.proofs.LabelsLemmas.{written_again}
 use Rattle.fm_encoder.proofs.ExemplarLemmas.{LabelsClean-again}
 use Rattle.fm_encoder.proofs.exemplar.exemplar_labels.ExemplarLabels.new.Goals as goal
 

@@ -2,7 +2,7 @@ use Rattle.std.proofs.Common.{[], map, refl}
 use Rattle.std.proofs.lemmas.List.{length-map}
 use Rattle.fm_grammar.specs.declared.SampleKind.TheVariants.{GCount, GSum}
 use Rattle.fm_encoder.specs.Points.{GaugeHistogramPoint, total_samples}
-use Rattle.fm_encoder.proofs.Cases.{none_from_answer}
+use Rattle.fm_labels.proofs.Cases.{none_from_answer}
 use Rattle.fm_encoder.proofs.BucketLemmas.{HandsPoints-buckets}
 use Rattle.fm_encoder.proofs.point.histogram.bare.encode_bare_gauge_histogram.Goals as goal
 

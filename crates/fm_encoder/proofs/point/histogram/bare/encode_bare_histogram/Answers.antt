@@ -3,7 +3,7 @@ use Rattle.std.specs.Option.{option_map}
 use Rattle.fm_grammar.specs.declared.SampleKind.TheVariants.{Count, Sum}
 use Rattle.std.proofs.lemmas.List.{length-map}
 use Rattle.fm_encoder.specs.Points.{HistogramPoint, millis, created_samples, total_samples}
-use Rattle.fm_encoder.proofs.Cases.{none_from_answer}
+use Rattle.fm_labels.proofs.Cases.{none_from_answer}
 use Rattle.fm_encoder.proofs.BucketLemmas.{HandsPoints-buckets}
 use Rattle.fm_encoder.proofs.point.histogram.bare.encode_bare_histogram.Goals as goal
 

@@ -1,6 +1,6 @@
 use Rattle.std.proofs.Common.{[], refl, sym, ap}
 use Rattle.std.proofs.lemmas.Result.{err_from_is_err_and}
-use Rattle.fm_encoder.specs.Gathered.{result_of}
+use Rattle.fm_labels.specs.Refusals.{result_of}
 use Rattle.fm_encoder.proofs.BucketLemmas.{PushedFirst-more, PushesBuckets-refused, PushesBuckets-never}
 use Rattle.fm_encoder.proofs.point.histogram.bare.push_bare_buckets.Goals as goal
 

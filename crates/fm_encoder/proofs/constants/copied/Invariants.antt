@@ -1,6 +1,0 @@
-use Rattle.std.proofs.Common.{◌≡◌, take}
-use Rattle.fm_exposition.specs.Samples.{labels_of}
-use Rattle.fm_encoder.proofs.constants.copied.Given as goal
-
-abbrev pub invariant-loop-label : goal.invariant-loop-label
-invariant-loop-label l = l.text.labels ≡ labels_of (take l.label-index l.labels)

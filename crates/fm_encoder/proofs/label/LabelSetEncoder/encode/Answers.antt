@@ -1,7 +1,0 @@
-use Rattle.std.proofs.Common.{refl}
-use Rattle.fm_encoder.proofs.LabelSetLemmas.{HandsLabels-one}
-use Rattle.fm_encoder.proofs.label.LabelSetEncoder.encode.Goals as goal
-
-pub returns : goal.returns
-returns g c =
-    rw (c.end_label.ensures.answered, ← c.self.view_is) (record { handed = HandsLabels-one _ _ c.self.inside.label _ _ _ c.encode-visited.ensures c.end_label.ensures.handed c.self.invariant; answered = refl })

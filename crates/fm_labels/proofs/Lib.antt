@@ -1,0 +1,7 @@
+pub mod Cases
+pub mod NameLemmas
+pub mod PiecesLemmas
+pub mod LabelsLemmas
+pub mod LabelSetLemmas
+pub mod OwnLabels
+pub mod KeptLemmas

@@ -1,0 +1,8 @@
+pub use Rattle.fm_grammar.specs.Exposition
+pub use Rattle.fm_grammar.specs.WellFormed
+pub mod Labels
+pub mod OwnLabels
+pub mod Refusals
+pub mod LabelEncoders
+pub mod Kept
+pub mod inside

@@ -1,0 +1,3 @@
+-- What public contracts don't cite: the words of private functions.
+pub mod FreeLabels
+pub mod Steps

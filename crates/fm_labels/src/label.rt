@@ -1,0 +1,200 @@
+//! Labels: what emits them, and the encoders that gather them.
+ghost use Rattle.std.specs.Prelude.{◌≡◌, [], ◌∷◌, ◌++◌, Bool, Some, None, Ok, Err, OnOk};
+ghost use Rattle.fm_encode_error.specs.declared.EncodeError.{EncodeError};
+ghost use Rattle.fm_labels.specs.Labels.{HandedLabel, NamePiece, ValuePiece, written};
+ghost use Rattle.fm_labels.specs.LabelEncoders.{GatheredPieces, GatheredLabels, HandsPieces, TakesPieces, TakesLabels};
+ghost use Rattle.fm_labels.specs.Refusals.{result_of, Takes};
+ghost use Rattle.fm_labels.specs.inside.Steps.{EndsLabel};
+
+use crate::first_refusal::{FirstRefusal, own_refusal};
+use crate::names::is_reserved;
+use fm_encode_error::EncodeError;
+use fm_grammar::MetricType;
+use fm_raw::name::is_label_name;
+use fm_text::LabelText;
+use std::marker::Model;
+
+mod gathering;
+
+/// A source of the name of a label.
+pub trait EncodeLabelName {
+    /// The pieces that `encode` emits: mostly one name.
+    ghost pieces: { Self → HandedLabel };
+
+    /// `encode` may return an error of its own other than `Memory`.
+    ghost may_fault: { Self → Type 0 } = { λ _. ⊥ };
+
+    /// Passes the name to the encoder by `encode_label_name`.
+    fn encode(&self, encoder: &mut LabelEncoder) -> Result<(), EncodeError>
+        ensures { HandsPieces (pieces self.now) (may_fault self.now)
+            encoder.old encoder.new result };
+}
+
+/// A source of the value of a label.
+pub trait EncodeLabelValue {
+    /// The pieces that `encode` emits: mostly one value.
+    ghost pieces: { Self → HandedLabel };
+
+    /// `encode` may return an error of its own other than `Memory`.
+    ghost may_fault: { Self → Type 0 } = { λ _. ⊥ };
+
+    /// A label with this value is left out.
+    ghost is_skipped: { Self → Bool };
+
+    /// Passes the value to the encoder by one of its `encode_.._value` calls.
+    fn encode(&self, encoder: &mut LabelEncoder) -> Result<(), EncodeError>
+        ensures { HandsPieces (pieces self.now) (may_fault self.now)
+            encoder.old encoder.new result };
+
+    /// Whether a label with this value is left out: `false` for most values.
+    fn skip_encoding(&self) -> bool
+        ensures { result ≡ is_skipped self.now };
+}
+
+/// A source of a label.
+pub trait EncodeLabel {
+    /// The pieces that `encode` emits: a name and a value, or nothing for a label that is left out.
+    ghost pieces: { Self → HandedLabel };
+
+    /// `encode` may return an error of its own other than `Memory`.
+    ghost may_fault: { Self → Type 0 } = { λ _. ⊥ };
+
+    /// Passes the label to the encoder.
+    fn encode(&self, encoder: &mut LabelEncoder) -> Result<(), EncodeError>
+        ensures { HandsPieces (pieces self.now) (may_fault self.now)
+            encoder.old encoder.new result };
+}
+
+/// Gathers the pieces of one label, which follows the labels before it.
+#[derive(Drop)]
+pub struct LabelEncoder {
+    metric_type: MetricType,
+    labels: LabelText,
+    refused: FirstRefusal,
+}
+
+impl Model for LabelEncoder {
+    ghost use Rattle.std.specs.Prelude.{◌≡◌, Some};
+    ghost use Rattle.fm_grammar.specs.Exposition.{Text};
+    ghost use Rattle.fm_labels.specs.Labels.{NameFits};
+    ghost use Rattle.fm_labels.specs.inside.Steps.{pieces_of};
+    ghost use Rattle.fm_labels.specs.LabelEncoders.{GatheredPieces};
+
+    ghost Value = { GatheredPieces };
+
+    ghost view = { λ e. record {
+      metric_type = e.metric_type;
+      labels = e.labels.labels;
+      pieces = pieces_of e.labels.name e.labels.value;
+      refused = e.refused.error;
+    } };
+
+    ghost invariant = { λ e. (name : Text) → e.labels.name ≡ Some name
+        → NameFits e.metric_type e.labels.labels name };
+}
+
+impl LabelEncoder {
+    /// Takes the label's name. Errors, in this order: the label already has a piece (`MalformedLabel`); the name is not a valid
+    /// label name (`InvalidLabelName`); the metric's type reserves the name for its own labels (`ReservedLabel`); an earlier
+    /// label has the name (`DuplicateLabel`); memory runs out (`Memory`).
+    pub fn encode_label_name(&mut self, name: &str) -> Result<(), EncodeError>
+        ensures { TakesPieces (NamePiece name.now ∷ []) ⊥ self.old self.new result }
+    {
+        self.refused.check()?;
+        if self.labels.is_named() || self.labels.is_valued() {
+            return self.refused.refuse(EncodeError::MalformedLabel);
+        }
+        if !is_label_name(name) {
+            return self.refused.refuse(EncodeError::InvalidLabelName);
+        }
+        if is_reserved(self.metric_type, name) {
+            return self.refused.refuse(EncodeError::ReservedLabel);
+        }
+        if self.labels.has_name(name) {
+            return self.refused.refuse(EncodeError::DuplicateLabel);
+        }
+        match self.labels.set_name(name) {
+            Ok(()) => Ok(()),
+            Err(_) => self.refused.refuse(EncodeError::Memory),
+        }
+    }
+
+    /// Takes the label's value as it is. Fails with `MalformedLabel` if the label has no name yet or already has a value, and
+    /// with `Memory` if memory runs out.
+    pub fn encode_str_value(&mut self, value: &str) -> Result<(), EncodeError>
+        ensures { TakesPieces (ValuePiece value.now ∷ []) ⊥ self.old self.new result }
+    {
+        self.refused.check()?;
+        if !self.labels.is_named() || self.labels.is_valued() {
+            return self.refused.refuse(EncodeError::MalformedLabel);
+        }
+        match self.labels.set_value(value) {
+            Ok(()) => Ok(()),
+            Err(_) => self.refused.refuse(EncodeError::Memory),
+        }
+    }
+
+    // Writes the current label, which has both pieces.
+    fn write_label(&mut self) -> Result<(), EncodeError>
+        requires accepting { self.old.refused ≡ None }
+        ensures type_kept { self.new.metric_type ≡ self.old.metric_type }
+        ensures pieces { self.new.refused ≡ None → self.new.pieces ≡ [] }
+        ensures labels { self.new.refused ≡ None
+            → self.new.labels ≡ self.old.labels ++ written self.old.pieces }
+        ensures refused { (k : EncodeError) → self.new.refused ≡ Some k → k ≡ EncodeError.Memory }
+        ensures answered { result ≡ result_of self.new.refused }
+    {
+        match self.labels.end_label() {
+            Ok(()) => Ok(()),
+            Err(_) => self.refused.refuse(EncodeError::Memory),
+        }
+    }
+
+    // Ends the current label, after the visited source returned `visited`.
+    fn end_label(&mut self, visited: Result<(), EncodeError>) -> Result<(), EncodeError>
+        ensures { Takes (EndsLabel visited self.old self.new) self.new.refused result }
+    {
+        self.refused.check()?;
+        if let Err(error) = visited {
+            return self.refused.refuse(own_refusal(error));
+        }
+        match (self.labels.is_named(), self.labels.is_valued()) {
+            (false, false) => Ok(()),
+            (true, true) => self.write_label(),
+            _ => self.refused.refuse(EncodeError::MalformedLabel),
+        }
+    }
+}
+
+/// Gathers the labels of a label set.
+#[derive(Drop)]
+pub struct LabelSetEncoder {
+    label: LabelEncoder,
+}
+
+impl Model for LabelSetEncoder {
+    ghost use Rattle.std.specs.Prelude.{◌≡◌, [], None};
+    ghost use Rattle.fm_labels.specs.LabelEncoders.{GatheredLabels};
+
+    ghost Value = { GatheredLabels };
+
+    ghost view = { λ e. record {
+      metric_type = e.label.metric_type;
+      labels = e.label.labels;
+      refused = e.label.refused;
+    } };
+
+    ghost invariant = { λ e. e.label.refused ≡ None → e.label.pieces ≡ [] };
+}
+
+impl LabelSetEncoder {
+    /// Takes one more label. Besides the errors of its name and its value: a name without a value is refused as
+    /// `MalformedLabel`, and the label's own error becomes `Memory` or `MetricFault`.
+    pub fn encode<L: EncodeLabel>(&mut self, label: &L) -> Result<(), EncodeError>
+        ensures { TakesLabels (L.pieces label.now ∷ []) (L.may_fault label.now)
+            self.old self.new result }
+    {
+        let visited = label.encode(&mut self.label);
+        self.label.end_label(visited)
+    }
+}

@@ -1,0 +1,86 @@
+-- Labels in one text: where their parts are, and what contracts see of them.
+use Rattle.std.specs.Prelude.{◌≡◌, ◌++◌, ◌≤◌, codes, None, Bool, true, false, List, [], ◌∷◌, length, map, Option, Some, IfSome}
+use Rattle.std.specs.List.{between, AllByRecursion}
+use Rattle.std.specs.Str.{IsUtf8}
+use Rattle.std.specs.Option.{option_map}
+use Rattle.fm_grammar.specs.Exposition.{Text, Label}
+use Rattle.fm_grammar.specs.Spelling.{escaped, label_list_text}
+use Rattle.fm_text.specs.declared.places.Part.{Part}
+use Rattle.fm_text.specs.declared.places.Place.{Place}
+
+-- the name or value at this place
+abbrev pub part_in : Text → Part → Text
+part_in text part = between part.start part.end text
+
+-- the label at this place
+abbrev pub label_in : Text → Place → Label
+label_in text place = record { name = part_in text place.name; value = part_in text place.value }
+
+abbrev pub labels_in : Text → List Place → List Label
+labels_in text places = map (label_in text) places
+
+abbrev pub names_in : Text → List Place → List Text
+names_in text places = map (λ label. label.name) (labels_in text places)
+
+-- a part of the text that is text itself
+pub record IsPart (text : Text) (part : Part) : Type 0 where
+  pub order : part.start ≤ part.end
+  pub within : part.end ≤ length text
+  pub utf8 : IsUtf8 (part_in text part)
+
+pub record IsPlace (text : Text) (place : Place) : Type 0 where
+  pub name : IsPart text place.name
+  pub value : IsPart text place.value
+
+-- all places are within the text, those of the current label too
+pub record AreParts (text : Text) (ps : List Place) (n v : Option Part) : Type 0 where
+  pub places : AllByRecursion (IsPlace text) ps
+  pub name : IfSome n (IsPart text)
+  pub value : IfSome v (IsPart text)
+
+-- the list of the labels before, with a comma after it
+abbrev pub list_before : List Label → Text
+list_before [] = []
+list_before (label ∷ labels) = label_list_text (label ∷ labels) ++ codes ","
+
+-- what comes before the name of a label: if another label precedes it, the quote that ends that one, and a comma
+abbrev pub name_in_list : Bool → Text → Text
+name_in_list true n = [] ++ (n ++ codes "=\"")
+name_in_list false n = codes "\"," ++ (n ++ codes "=\"")
+
+-- what comes behind such a list for a further one to follow: if a label precedes it, the quote that ends that one, and a comma
+abbrev pub further_list : Bool → Text → Text
+further_list true list = list
+further_list false list = codes "\"" ++ (codes "," ++ list)
+
+-- the text is the list of the labels, except for the quote at its end, and the parts of the current label
+abbrev pub IsListed : Option Text → Option Text → Text → List Label → Type 0
+IsListed None None text [] = text ≡ []
+IsListed None None text (label ∷ labels) = text ++ codes "\"" ≡ label_list_text (label ∷ labels)
+IsListed None (Some v) text labels = ⊥
+IsListed (Some n) None text labels = text ≡ list_before labels ++ (n ++ codes "=\"")
+IsListed (Some n) (Some v) text labels = text ≡ list_before labels ++ (n ++ (codes "=\"" ++ escaped v))
+
+abbrev pub AreListed : Bool → Option Text → Option Text → Text → List Label → Type 0
+AreListed true n v text labels = IsListed n v text labels
+AreListed false n v text labels = Unit {0}
+
+-- all parts are within the text, which may be the list of the labels
+pub record AreWithin (is_listed : Bool) (text : Text) (ps : List Place) (n v : Option Part) : Type 0 where
+  pub parts : AreParts text ps n v
+  pub listed : AreListed is_listed (option_map (part_in text) n) (option_map (part_in text) v) text (labels_in text ps)
+
+-- what contracts see: the labels, and the name and the value of the current label
+pub record LabelsState : Type 0 where
+  pub labels : List Label
+  pub name : Option Text
+  pub value : Option Text
+
+-- the label that has both a name and a value
+abbrev pub whole_label : Option Text → Option Text → List Label
+whole_label (Some n) (Some v) = record { name = n; value = v } ∷ []
+whole_label _ _ = []
+
+abbrev pub whole_place : Option Part → Option Part → List Place
+whole_place (Some n) (Some v) = record { name = n; value = v } ∷ []
+whole_place _ _ = []

@@ -1,0 +1,158 @@
+// A text that grows.
+ghost use Rattle.std.specs.Prelude.{◌≡◌, ◌+◌, ◌≤◌, ◌++◌, [], length, take, IfOk, OnOk, OnErr};
+ghost use Rattle.fm_text.specs.inside.Grown.{Grown};
+
+use crate::output::Output;
+use std::alloc::{AllocError, Global};
+use std::marker::Model;
+
+// How many bytes a text has room for at first.
+const FIRST_ROOM: usize = 64;
+
+// How many bytes a text is filled up with at most. What was filled is then still in the processor's cache when it is written to.
+const MOST_ROOM: usize = 4096;
+
+// Lengthens a list of bytes to this length or, if that is greater, to twice its length or by the most room.
+#[cold]
+fn lengthen(bytes: &mut Vec<u8>, at_least: usize) -> Result<(), AllocError>
+    requires { length bytes.old.items ≤ at_least }
+    ensures kept { take (length bytes.old.items) bytes.new.items ≡ bytes.old.items }
+    ensures longer { length bytes.old.items ≤ length bytes.new.items }
+    ensures enough { OnOk result (at_least ≤ length bytes.new.items) }
+{
+    let room = bytes.len().max(FIRST_ROOM).min(MOST_ROOM);
+    bytes.resize(bytes.len().saturating_add(room).max(at_least), 0)
+}
+
+// Writes a piece after the first `at` bytes, and returns where it ends.
+#[inline(always)]
+fn write_piece(bytes: &mut [u8], at: usize, piece: &[u8]) -> usize
+    requires { at + length piece.now ≤ length bytes.old }
+    ensures end { result ≡ at + length piece.now }
+    ensures written { take result bytes.new ≡ take at bytes.old ++ piece.now }
+{
+    let end = at + piece.len();
+    bytes[at..end].copy_from_slice(piece);
+    end
+}
+
+/// A text that grows at its end.
+#[derive(Drop)]
+pub struct GrowingText {
+    // The text, followed by room for more.
+    bytes: Vec<u8>,
+    // The length of the text in bytes.
+    end: usize,
+}
+
+impl Model for GrowingText {
+    ghost use Rattle.std.specs.Prelude.{◌≤◌, length, take};
+    ghost use Rattle.fm_grammar.specs.Exposition.{Text};
+
+    ghost Value = { Text };
+
+    ghost view = { λ t. take t.end t.bytes.items };
+
+    ghost invariant = { λ t. t.end ≤ length t.bytes.items };
+}
+
+impl GrowingText {
+    /// An empty text. It takes no memory.
+    pub fn new(alloc: Global) -> GrowingText
+        ensures { result ≡ [] }
+    {
+        GrowingText {
+            bytes: Vec::new(alloc),
+            end: 0,
+        }
+    }
+
+    /// An empty text with room for this number of bytes. Fails if memory runs out.
+    pub fn with_room(alloc: Global, room: usize) -> Result<GrowingText, AllocError>
+        ensures { IfOk result (λ text. text ≡ []) }
+    {
+        let mut bytes = Vec::new(alloc);
+        bytes.resize(room, 0)?;
+        Ok(GrowingText { bytes, end: 0 })
+    }
+
+    /// The bytes so far.
+    pub fn as_slice(&self) -> &[u8]
+        ensures { result.now ≡ self.now }
+    {
+        &self.bytes[..self.end]
+    }
+
+    /// Removes all bytes, and keeps the memory for later ones.
+    pub fn clear(&mut self)
+        ensures { self.new ≡ [] }
+    {
+        self.end = 0;
+    }
+
+    /// Replaces its bytes by those of another text. Fails if memory runs out, and then changes nothing.
+    pub fn assign(&mut self, other: &GrowingText) -> Result<(), AllocError>
+        ensures replaced { OnOk result (self.new ≡ other.now) }
+        ensures kept { OnErr result (self.new ≡ self.old) }
+    {
+        if other.end > self.bytes.len() {
+            lengthen(&mut self.bytes, other.end)?;
+        }
+        self.bytes[0..other.end].copy_from_slice(&other.bytes[..other.end]);
+        self.end = other.end;
+        Ok(())
+    }
+
+    /// Appends bytes. Fails if memory runs out, and then changes nothing.
+    pub fn append(&mut self, bytes: &[u8]) -> Result<(), AllocError>
+        ensures grown { OnOk result (Grown self.old self.new bytes.now) }
+        ensures kept { OnErr result (self.new ≡ self.old) }
+    {
+        let Some(end) = self.end.checked_add(bytes.len()) else {
+            return Err(AllocError);
+        };
+        if end > self.bytes.len() {
+            lengthen(&mut self.bytes, end)?;
+        }
+        self.bytes[self.end..end].copy_from_slice(bytes);
+        self.end = end;
+        Ok(())
+    }
+}
+
+impl Output for GrowingText {
+    ghost stands_for = { λ output text. output ≡ text };
+
+    fn put(&mut self, bytes: &[u8]) -> Result<(), AllocError> {
+        self.append(bytes)
+    }
+
+    // If memory runs out, nothing changes.
+    #[inline(always)]
+    fn put_three(&mut self, first: &[u8], second: &[u8], third: &[u8]) -> Result<(), AllocError>
+        ensures grown { OnOk result
+            (Grown self.old self.new (first.now ++ (second.now ++ third.now))) }
+        ensures kept { OnErr result (self.new ≡ self.old) }
+    {
+        let end = self
+            .end
+            .saturating_add(first.len())
+            .saturating_add(second.len())
+            .saturating_add(third.len());
+        if end > self.bytes.len() {
+            lengthen(&mut self.bytes, end)?;
+        }
+        let at = write_piece(&mut self.bytes, self.end, first);
+        let at = write_piece(&mut self.bytes, at, second);
+        self.end = write_piece(&mut self.bytes, at, third);
+        Ok(())
+    }
+
+    fn put_output(&mut self, other: &GrowingText) -> Result<(), AllocError> {
+        self.append(other.as_slice())
+    }
+
+    fn reset(&mut self) {
+        self.clear();
+    }
+}

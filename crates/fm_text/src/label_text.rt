@@ -1,0 +1,345 @@
+//! Labels that are kept in one text.
+ghost use Rattle.std.specs.Prelude.{◌≡◌, ◌++◌, ◌≤◌, ◌<◌, ◌↔◌, IsTrue, [], length, drop, map, Contains, OnOk, OnErr, IfOk, Some, None, IsSome, true, is_some, codes, IfSome};
+ghost use Rattle.std.specs.List.{Any};
+ghost use Rattle.fm_grammar.specs.Spelling.{label_list_text, escaped};
+ghost use Rattle.fm_exposition.specs.Samples.{labels_of, shown_label};
+ghost use Rattle.fm_text.specs.inside.Grown.{Grown};
+ghost use Rattle.fm_text.specs.inside.LabelTexts.{part_in, labels_in, IsPart, name_in_list, further_list, whole_label, whole_place};
+
+use crate::growing::GrowingText;
+use crate::labels::{LabelSource, append_placed_list};
+use crate::output::Output;
+use crate::places::{Part, Place, are_labels, has_name, has_name_of, pairs_at, push_behind};
+use crate::plain::is_plain;
+use std::alloc::{AllocError, Global};
+use std::marker::Model;
+
+// Appends a name or a value, and returns where it is.
+fn append_part(text: &mut GrowingText, part: &str) -> Result<Part, AllocError>
+    ensures grown { OnOk result (Grown text.old text.new part.now) }
+    ensures part { IfOk result (λ p. IsPart text.new p × (part_in text.new p ≡ part.now)) }
+    ensures kept { OnErr result (text.new ≡ text.old) }
+{
+    let start = text.as_slice().len();
+    text.append(part.as_bytes())?;
+    Ok(Part {
+        start,
+        end: text.as_slice().len(),
+    })
+}
+
+// Appends the name of a label, after the quote that ends the previous label and a comma, and then the start of the value.
+fn append_listed_name(text: &mut GrowingText, is_first: bool, name: &str) -> Result<(), AllocError>
+    ensures grown { OnOk result (Grown text.old text.new (name_in_list is_first name.now)) }
+    ensures kept { OnErr result (text.new ≡ text.old) }
+{
+    if is_first {
+        return text.put_three(b"", name.as_bytes(), b"=\"");
+    }
+    text.put_three(b"\",", name.as_bytes(), b"=\"")
+}
+
+// Appends the name of a label like this, and returns where it is.
+fn append_name(text: &mut GrowingText, is_first: bool, name: &str) -> Result<Part, AllocError>
+    ensures grown { OnOk result (Grown text.old text.new (name_in_list is_first name.now)) }
+    ensures part { IfOk result (λ p. IsPart text.new p × (part_in text.new p ≡ name.now)) }
+    ensures kept { OnErr result (text.new ≡ text.old) }
+{
+    append_listed_name(text, is_first, name)?;
+    let end = text.as_slice().len() - 2;
+    Ok(Part {
+        start: end - name.as_bytes().len(),
+        end,
+    })
+}
+
+// Appends the list of further labels, after the quote that ends the previous label and a comma, and returns where it begins.
+fn append_further_list(
+    text: &mut GrowingText,
+    is_first: bool,
+    list: &[u8],
+) -> Result<usize, AllocError>
+    ensures grown { OnOk result (Grown text.old text.new (further_list is_first list.now)) }
+    ensures begin { IfOk result (λ at. (at ≤ length text.new) × (drop at text.new ≡ list.now)) }
+    ensures kept { OnErr result (text.new ≡ text.old) }
+{
+    if is_first {
+        text.append(list)?;
+    } else {
+        text.put_three(b"\"", b",", list)?;
+    }
+    Ok(text.as_slice().len() - list.len())
+}
+
+// Adds the place of a label that has a name and a value.
+fn push_place(
+    places: &mut Vec<Place>,
+    name: Option<Part>,
+    value: Option<Part>,
+) -> Result<(), AllocError>
+    requires { IfSome value (λ part. part.start ≤ part.end) }
+    ensures pushed { OnOk result (places.new.items ≡ places.old.items ++ whole_place name value) }
+    ensures kept { OnErr result (places.new.items ≡ places.old.items) }
+{
+    match (name, value) {
+        (Some(name), Some(value)) => {
+            // The numbers are not copied as a pair: one load of both would wait for the stores of each.
+            let value = Part {
+                start: value.start,
+                end: value.end.max(value.start),
+            };
+            places.push(Place { name, value })?;
+            Ok(())
+        }
+        _ => Ok(()),
+    }
+}
+
+// Whether a text that is the labels' list, with these parts of the current label, is still that list after a further name.
+// Then it may also take further labels.
+fn may_take_name(is_listed: bool, name: Option<Part>, value: Option<Part>) -> bool
+    ensures { IsTrue result → (is_listed ≡ true) × (name ≡ None) × (value ≡ None) }
+{
+    is_listed && name.is_none() && value.is_none()
+}
+
+// The same after a further value.
+fn may_take_value(is_listed: bool, name: Option<Part>, value: Option<Part>, further: &[u8]) -> bool
+    ensures { IsTrue result
+        → (is_listed ≡ true) × IsSome name × (value ≡ None) × (escaped further.now ≡ further.now) }
+{
+    is_listed && name.is_some() && value.is_none() && is_plain(further)
+}
+
+// The same after the end of the current label.
+fn may_end(is_listed: bool, name: Option<Part>, value: Option<Part>) -> bool
+    ensures { IsTrue result → (is_listed ≡ true) × (is_some name ≡ is_some value) }
+{
+    is_listed && name.is_some() == value.is_some()
+}
+
+/// Labels that are kept in one text, and the name and the value of the current label, which has not ended yet.
+#[derive(Drop)]
+pub struct LabelText {
+    // The names and values, each where it is in the labels' list.
+    text: GrowingText,
+    places: Vec<Place>,
+    // The name and the value of the current label.
+    name: Option<Part>,
+    value: Option<Part>,
+    // Whether the text is the labels' list, except for the quote at its end.
+    is_listed: bool,
+}
+
+impl Model for LabelText {
+    ghost use Rattle.std.specs.Option.{option_map};
+    ghost use Rattle.fm_text.specs.inside.LabelTexts.{LabelsState, labels_in, part_in, AreWithin};
+
+    ghost Value = { LabelsState };
+
+    ghost view = { λ l. record {
+      labels = labels_in l.text l.places.items;
+      name = option_map (part_in l.text) l.name;
+      value = option_map (part_in l.text) l.value;
+    } };
+
+    ghost invariant = { λ l. AreWithin l.is_listed l.text l.places.items l.name l.value };
+}
+
+impl LabelText {
+    /// No labels. It takes no memory.
+    pub fn new(alloc: Global) -> LabelText
+        ensures { result ≡ record { labels = []; name = None; value = None } }
+    {
+        LabelText {
+            text: GrowingText::new(alloc),
+            places: Vec::new(alloc),
+            name: None,
+            value: None,
+            is_listed: true,
+        }
+    }
+
+    /// How many labels there are.
+    pub fn len(&self) -> usize
+        ensures { result ≡ length self.now.labels }
+    {
+        self.places.len()
+    }
+
+    /// Whether the current label has a name.
+    pub fn is_named(&self) -> bool
+        ensures { result ≡ is_some self.now.name }
+    {
+        self.name.is_some()
+    }
+
+    /// Whether the current label has a value.
+    pub fn is_valued(&self) -> bool
+        ensures { result ≡ is_some self.now.value }
+    {
+        self.value.is_some()
+    }
+
+    /// Whether one of the labels has this name.
+    pub fn has_name(&self, name: &str) -> bool
+        ensures { IsTrue result ↔ Contains (map (λ label. label.name) self.now.labels) name.now }
+    {
+        has_name(self.text.as_slice(), &self.places, name.as_bytes())
+    }
+
+    /// Whether one of its labels has the name of one of these.
+    pub fn has_name_of(&self, labels: &LabelText) -> bool
+        ensures { IsTrue result
+            ↔ Any (Contains (map (λ label. label.name) self.now.labels)) (map (λ label. label.name) labels.now.labels) }
+    {
+        let others = labels.text.as_slice();
+        has_name_of(self.text.as_slice(), &self.places, others, &labels.places)
+    }
+
+    /// Whether its labels are these, in this order.
+    pub fn are(&self, labels: &[(String, String)]) -> bool
+        ensures { IsTrue result → self.now.labels ≡ labels_of labels.now }
+    {
+        are_labels(self.text.as_slice(), &self.places, labels)
+    }
+
+    /// Removes all labels, and keeps the memory for later ones.
+    pub fn clear(&mut self)
+        ensures { self.new ≡ record { labels = []; name = None; value = None } }
+    {
+        self.text.clear();
+        self.places.clear();
+        self.name = None;
+        self.value = None;
+        self.is_listed = true;
+    }
+
+    /// Replaces its labels by copies of these. Fails if memory runs out; then nothing is known of its labels.
+    pub fn assign(&mut self, labels: &LabelText) -> Result<(), AllocError>
+        ensures assigned { OnOk result
+            (self.new ≡ record { labels = labels.now.labels; name = None; value = None }) }
+        ensures idle { (self.new.name ≡ None) × (self.new.value ≡ None) }
+    {
+        self.is_listed = false;
+        self.name = None;
+        self.value = None;
+        let places = &mut self.places;
+        places.clear();
+        self.text.assign(&labels.text)?;
+        places.extend_from_slice(&labels.places)?;
+        self.is_listed = labels.is_listed && labels.name.is_none() && labels.value.is_none();
+        Ok(())
+    }
+
+    /// Adds copies of these labels behind its own, and drops the current label. Fails if memory runs out; then nothing is known
+    /// of its labels.
+    pub fn append(&mut self, labels: &LabelText) -> Result<(), AllocError>
+        ensures appended { OnOk result (self.new ≡ record {
+          labels = self.old.labels ++ labels.now.labels;
+          name = None;
+          value = None;
+        }) }
+        ensures idle { (self.new.name ≡ None) × (self.new.value ≡ None) }
+    {
+        self.is_listed = may_take_name(self.is_listed, self.name, self.value);
+        self.name = None;
+        self.value = None;
+        if labels.places.as_slice().is_empty() {
+            return Ok(());
+        }
+        let are_listed = self.is_listed
+            && may_take_name(labels.is_listed, labels.name, labels.value);
+        self.is_listed = false;
+        let is_first = self.places.as_slice().is_empty();
+        let by = append_further_list(&mut self.text, is_first, labels.text.as_slice())?;
+        push_behind(&mut self.places, self.text.as_slice(), by, &labels.places)?;
+        self.is_listed = are_listed;
+        Ok(())
+    }
+
+    /// Begins a label with this name. Fails if memory runs out, and then changes nothing.
+    pub fn set_name(&mut self, name: &str) -> Result<(), AllocError>
+        ensures set { OnOk result (self.new ≡ record self.old { name = Some name.now }) }
+        ensures kept { OnErr result (self.new ≡ self.old) }
+    {
+        let part = append_name(&mut self.text, self.places.as_slice().is_empty(), name)?;
+        self.is_listed = may_take_name(self.is_listed, self.name, self.value);
+        self.name = Some(part);
+        Ok(())
+    }
+
+    /// Gives the current label this value. Fails if memory runs out, and then changes nothing.
+    pub fn set_value(&mut self, value: &str) -> Result<(), AllocError>
+        ensures set { OnOk result (self.new ≡ record self.old { value = Some value.now }) }
+        ensures kept { OnErr result (self.new ≡ self.old) }
+    {
+        let part = append_part(&mut self.text, value)?;
+        self.is_listed = may_take_value(self.is_listed, self.name, self.value, value.as_bytes());
+        self.value = Some(part);
+        Ok(())
+    }
+
+    /// Ends the current label: if it has a name and a value, it becomes the last of the labels, else it is dropped. Fails if
+    /// memory runs out, and then changes nothing.
+    pub fn end_label(&mut self) -> Result<(), AllocError>
+        ensures ended { OnOk result (self.new ≡ record {
+          labels = self.old.labels ++ whole_label self.old.name self.old.value;
+          name = None;
+          value = None;
+        }) }
+        ensures kept { OnErr result (self.new ≡ self.old) }
+    {
+        push_place(&mut self.places, self.name, self.value)?;
+        self.is_listed = may_end(self.is_listed, self.name, self.value);
+        self.name = None;
+        self.value = None;
+        Ok(())
+    }
+
+    /// Appends the front of a line, and then the labels with commas between them and the end of their block. Fails if memory runs out.
+    pub fn append_behind(
+        &self,
+        text: &mut GrowingText,
+        front: &GrowingText,
+    ) -> Result<(), AllocError>
+        requires { 0 < length self.now.labels }
+        ensures { OnOk result (Grown text.old text.new
+            (front.now ++ (label_list_text self.now.labels ++ codes "} "))) }
+    {
+        if !self.is_listed || self.name.is_some() || self.value.is_some() {
+            text.append(front.as_slice())?;
+            return self.append_before(text, b"} ");
+        }
+        text.put_three(front.as_slice(), self.text.as_slice(), b"\"} ")
+    }
+
+    /// The labels from an index on, as borrowed pairs. Fails if memory runs out.
+    pub fn pairs(&self, alloc: Global, from: usize) -> Result<Vec<(&str, &str)>, AllocError>
+        requires { from ≤ length self.now.labels }
+        ensures { IfOk result (λ pairs. map shown_label pairs.items ≡ drop from self.now.labels) }
+    {
+        pairs_at(alloc, self.text.as_slice(), &self.places[from..])
+    }
+}
+
+impl<O: Output> LabelSource<O> for LabelText {
+    ghost labels = { λ source. source.labels };
+
+    fn len(&self) -> usize {
+        self.len()
+    }
+
+    #[tactic(auto, using(crate::proofs::GrownLemmas::grown))]
+    fn append_before(&self, text: &mut O, after: &[u8]) -> Result<(), AllocError> {
+        if !self.is_listed || self.name.is_some() || self.value.is_some() {
+            append_placed_list(text, self.text.as_slice(), &self.places)?;
+            return text.put(after);
+        }
+        if self.places.as_slice().is_empty() {
+            text.put_three(self.text.as_slice(), b"", after)
+        } else {
+            text.put_three(self.text.as_slice(), b"\"", after)
+        }
+    }
+}

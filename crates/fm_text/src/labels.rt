@@ -1,0 +1,162 @@
+// The labels of a sample's line, appended to an output.
+ghost use Rattle.std.specs.Prelude.{◌≡◌, ◌++◌, ◌⊎◌, ◌<◌, List, [], length, codes, OnOk};
+ghost use Rattle.std.specs.List.{AllByRecursion};
+ghost use Rattle.fm_grammar.specs.Exposition.{Label};
+ghost use Rattle.fm_grammar.specs.Spelling.{escaped, label_text, label_list_text, in_braces};
+ghost use Rattle.fm_exposition.specs.Samples.{labels_of};
+ghost use Rattle.fm_text.specs.inside.Grown.{Grows};
+ghost use Rattle.fm_text.specs.inside.LabelTexts.{labels_in, IsPlace};
+
+use crate::escaping::append_escaped;
+use crate::output::Output;
+use crate::places::{Place, part_at};
+use crate::plain::is_plain;
+use std::alloc::AllocError;
+
+/// Labels of samples, the common ones or their own.
+pub trait LabelSource<O: Output> {
+    // The labels.
+    ghost labels: { Self → List Label };
+
+    // Whether their text may be appended.
+    ghost is_ready: { Self → Type 0 } = { λ _. Unit {0} };
+
+    fn len(&self) -> usize
+        ensures { result ≡ length (labels self.now) };
+
+    // Appends the labels with commas between them, and the text that comes after them. Fails if memory runs out.
+    fn append_before(&self, text: &mut O, after: &[u8]) -> Result<(), AllocError>
+        requires { is_ready self.now }
+        ensures { OnOk result (Grows (O.stands_for text.old) (O.stands_for text.new)
+            (label_list_text (labels self.now) ++ after.now)) };
+}
+
+/// Labels, and their text as it was rendered before.
+#[derive(Drop)]
+pub struct Rendered<'a, O> {
+    pub labels: &'a [(String, String)],
+    pub text: &'a O,
+}
+
+impl<O: Output> LabelSource<O> for Rendered<'_, O> {
+    ghost labels = { λ source. labels_of source.labels.now };
+
+    ghost is_ready = { λ source.
+        O.stands_for source.text.now (label_list_text (labels_of source.labels.now)) };
+
+    #[tactic(auto, using(crate::proofs::GrownLemmas::two_blocks))]
+    fn len(&self) -> usize {
+        self.labels.len()
+    }
+
+    #[tactic(auto, using(crate::proofs::GrownLemmas::grown))]
+    fn append_before(&self, text: &mut O, after: &[u8]) -> Result<(), AllocError> {
+        text.put_output(self.text)?;
+        text.put(after)
+    }
+}
+
+impl<O: Output> LabelSource<O> for &[(String, String)] {
+    ghost labels = { λ source. labels_of source.now };
+
+    #[tactic(auto, using(crate::proofs::GrownLemmas::two_blocks))]
+    fn len(&self) -> usize {
+        <[(String, String)]>::len(self)
+    }
+
+    #[tactic(auto, using(crate::proofs::GrownLemmas::grown))]
+    fn append_before(&self, text: &mut O, after: &[u8]) -> Result<(), AllocError> {
+        append_label_list(text, self)?;
+        text.put(after)
+    }
+}
+
+// Appends the value of a label, and the quote after it.
+#[tactic(auto, using(crate::proofs::GrownLemmas::grown))]
+fn append_quoted<O: Output>(text: &mut O, value: &[u8]) -> Result<(), AllocError>
+    ensures { OnOk result (Grows (O.stands_for text.old) (O.stands_for text.new)
+        (escaped value.now ++ codes "\"")) }
+{
+    if is_plain(value) {
+        return text.put_three(value, b"\"", b"");
+    }
+    append_escaped(text, value)?;
+    text.put(b"\"")
+}
+
+// Appends a label after a separator.
+#[tactic(auto, using(crate::proofs::GrownLemmas::line), unfolding(fm_grammar::specs::Spelling::label_text))]
+#[inline(always)]
+fn append_separated<O: Output>(
+    text: &mut O,
+    separator: &[u8],
+    name: &[u8],
+    value: &[u8],
+) -> Result<(), AllocError>
+    ensures { OnOk result (Grows (O.stands_for text.old) (O.stands_for text.new)
+        (separator.now ++ label_text (record { name = name.now; value = value.now }))) }
+{
+    text.put_three(separator, name, b"=\"")?;
+    append_quoted(text, value)
+}
+
+// What comes before the label at an index of a list.
+fn separator(index: usize) -> &'static [u8]
+    ensures { ((index ≡ 0) × (result.now ≡ [])) ⊎ ((0 < index) × (result.now ≡ codes ",")) }
+{
+    if index == 0 { b"" } else { b"," }
+}
+
+// Appends labels with commas between them.
+fn append_label_list<O: Output>(text: &mut O, labels: &[(String, String)]) -> Result<(), AllocError>
+    ensures { OnOk result (Grows (O.stands_for text.old) (O.stands_for text.new)
+        (label_list_text (labels_of labels.now))) }
+{
+    for i in 0..labels.len() {
+        let label = &labels[i];
+        append_separated(text, separator(i), label.0.as_bytes(), label.1.as_bytes())?;
+    }
+    Ok(())
+}
+
+/// Appends labels that are kept in another text, with commas between them.
+pub fn append_placed_list<O: Output>(
+    text: &mut O,
+    raw: &[u8],
+    places: &[Place],
+) -> Result<(), AllocError>
+    requires { AllByRecursion (IsPlace raw.now) places.now }
+    ensures { OnOk result (Grows (O.stands_for text.old) (O.stands_for text.new)
+        (label_list_text (labels_in raw.now places.now))) }
+{
+    for i in 0..places.len() {
+        let name = part_at(raw, places[i].name);
+        append_separated(text, separator(i), name, part_at(raw, places[i].value))?;
+    }
+    Ok(())
+}
+
+/// Replaces an output by the text of labels with commas between them.
+pub fn render_label_list<O: Output>(
+    text: &mut O,
+    labels: &[(String, String)],
+) -> Result<(), AllocError>
+    ensures { OnOk result (O.stands_for text.new (label_list_text (labels_of labels.now))) }
+{
+    text.reset();
+    append_label_list(text, labels)
+}
+
+/// Appends labels in braces.
+#[tactic(auto, using(crate::proofs::GrownLemmas::grown), unfolding(fm_grammar::specs::Spelling::in_braces))]
+pub fn append_in_braces<O: Output>(
+    text: &mut O,
+    labels: &[(String, String)],
+) -> Result<(), AllocError>
+    ensures { OnOk result (Grows (O.stands_for text.old) (O.stands_for text.new)
+        (in_braces (labels_of labels.now))) }
+{
+    text.put(b"{")?;
+    append_label_list(text, labels)?;
+    text.put(b"}")
+}

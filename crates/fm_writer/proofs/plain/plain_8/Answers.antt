@@ -1,6 +1,0 @@
-use Rattle.std.proofs.Common.{arith}
-use Rattle.fm_writer.proofs.PlainLemmas.{plain_from_lanes}
-use Rattle.fm_writer.proofs.plain.plain_8.Goals as goal
-
-pub returns : goal.returns
-returns c = plain_from_lanes c.args.raw.now c.args.at 8 c.requires (omega arith)

@@ -1,5 +1,0 @@
-use Rattle.fm_writer.specs.inside.Plain.{IsPlainBetween}
-use Rattle.fm_writer.proofs.plain.plain_few.Given as goal
-
-abbrev pub invariant-loop-byte : goal.invariant-loop-byte
-invariant-loop-byte l = IsPlainBetween l.raw 0 l.byte-index
