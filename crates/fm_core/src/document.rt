@@ -19,10 +19,8 @@ ghost use Rattle.fm_core.specs.inside.Documents.{heading_of, heading_rows, text_
 use crate::family::{join_name, text_of};
 use fm_encode_error::EncodeError;
 use fm_encoder::{EncodeMetric, MetricEncoder, collector, whole_millis};
-use fm_exposition::write_text;
 use fm_registry::{ListedMetric, Registry};
-use fm_text::GrowingText;
-use fm_writer::FamilyHead;
+use fm_writer::{FamilyHead, TextBlocks};
 use std::alloc::{AllocError, Global};
 use std::io::Write;
 
@@ -90,7 +88,7 @@ fn add_listed<M: EncodeMetric>(
 }
 
 // The lines of an encoder, with the last one of a document.
-fn ended_lines(encoder: MetricEncoder) -> Result<GrowingText, AllocError>
+fn ended_lines(encoder: MetricEncoder) -> Result<TextBlocks, AllocError>
     requires { HasLines encoder }
     ensures { IfOk result (λ lines. lines ≡ text_so_far encoder.output ++ codes "# EOF\n") }
 {
@@ -108,7 +106,7 @@ fn ended_lines(encoder: MetricEncoder) -> Result<GrowingText, AllocError>
 pub(crate) fn document_lines<M: EncodeMetric>(
     alloc: Global,
     registry: &Registry<M>,
-) -> Result<GrowingText, EncodeError>
+) -> Result<TextBlocks, EncodeError>
     requires { HasHistory registry.now }
     ensures text { IfOk result (λ lines. (e : Exposition)
         × AdmittedBy (λ m. M.offers m) (λ m. M.stamps m) (λ m. M.may_be_empty m) registry.now e
@@ -130,7 +128,7 @@ pub(crate) fn document_lines<M: EncodeMetric>(
 }
 
 // Writes the lines of a document, all or a beginning of them.
-pub(crate) fn write_lines<W: Write>(writer: &mut W, lines: &GrowingText) -> Result<(), EncodeError>
+pub(crate) fn write_lines<W: Write>(writer: &mut W, lines: &TextBlocks) -> Result<(), EncodeError>
     ensures document { (e : Exposition) → IsExposition e → lines.now ≡ document_rows e
         → OnOk result (AppendsDocument (W.contents writer.old) (W.contents writer.new) e) }
     ensures stopped { (e : Exposition) → IsExposition e → lines.now ≡ document_rows e
@@ -138,5 +136,5 @@ pub(crate) fn write_lines<W: Write>(writer: &mut W, lines: &GrowingText) -> Resu
         → AppendsBeginningOfDocument (W.contents writer.old) (W.contents writer.new) e) }
     ensures fault { IfErr result IsWritersFault }
 {
-    write_text(writer, lines.as_slice())
+    lines.write_to(writer)
 }

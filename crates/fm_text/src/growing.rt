@@ -76,6 +76,16 @@ impl GrowingText {
         Ok(GrowingText { bytes, end: 0 })
     }
 
+    /// An empty text that can grow to this number of bytes without being moved. Fails if memory runs out.
+    pub fn with_capacity(alloc: Global, capacity: usize) -> Result<GrowingText, AllocError>
+        ensures { IfOk result (λ text. text ≡ []) }
+    {
+        Ok(GrowingText {
+            bytes: Vec::with_capacity(alloc, capacity)?,
+            end: 0,
+        })
+    }
+
     /// The bytes so far.
     pub fn as_slice(&self) -> &[u8]
         ensures { result.now ≡ self.now }

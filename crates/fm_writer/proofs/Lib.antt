@@ -1,3 +1,4 @@
+pub mod BlockLemmas
 pub mod FrontLemmas
 pub mod OutputLemmas
 pub mod PartLemmas

@@ -3,10 +3,12 @@ ghost use Rattle.std.specs.Prelude.{◌≡◌, ◌++◌, None, Some, [], ◌∷�
 ghost use Rattle.std.specs.Option.{option_map};
 ghost use Rattle.fm_exposition.specs.Rows.{head_rows};
 ghost use Rattle.fm_exposition.specs.Samples.{labels_of, shared_labels, shown_label};
+ghost use Rattle.fm_text.specs.inside.Grown.{Grown};
 ghost use Rattle.fm_writer.specs.Heads.{headed};
 ghost use Rattle.fm_writer.specs.NewSamples.{new_sample, IsFrontOf};
 ghost use Rattle.fm_writer.specs.Output.{OutputSamples, OutputText, AreShared, shared_by, appended, with_lines, samples_in, text_in};
 
+use crate::blocks::TextBlocks;
 use crate::front::append_row_behind;
 use crate::heads::{FamilyHead, append_heads};
 use crate::new_sample::NewSample;
@@ -21,7 +23,7 @@ use std::sync::Arc;
 enum Form {
     // The samples, and whether the next ones share the store's common labels.
     Samples(SampleStore, bool),
-    Text(GrowingText),
+    Text(TextBlocks),
 }
 
 // The labels, for samples to share.
@@ -41,6 +43,33 @@ fn keep(alloc: Global, store: &mut SampleStore, sample: NewSample<'_>) -> Result
 {
     let own = sample.own.to_owned(alloc)?;
     store.push(sample.kind, own, sample.value, sample.time, sample.exemplar)
+}
+
+// Appends the lines of a family that come before its samples, to a text in blocks.
+fn append_heads_in_blocks(
+    blocks: &mut TextBlocks,
+    name: &str,
+    head: FamilyHead<'_>,
+) -> Result<(), AllocError>
+    ensures { OnOk result (Grown blocks.old blocks.new (head_rows (headed name.now head.entry))) }
+{
+    append_heads(&mut blocks.last, name, head)?;
+    blocks.settle()
+}
+
+// Appends the line of a sample to a text in blocks.
+fn append_row_in_blocks(
+    blocks: &mut TextBlocks,
+    name: &str,
+    sample: &NewSample<'_>,
+    front: Option<&GrowingText>,
+) -> Result<(), AllocError>
+    requires { IfSome front (λ f. IsFrontOf sample.now name.now f.now) }
+    ensures { OnOk result
+        (OutputText blocks.new ≡ appended name.now (OutputText blocks.old) (new_sample sample.now ∷ [])) }
+{
+    append_row(&mut blocks.last, name, sample, front)?;
+    blocks.settle()
 }
 
 // Appends the line of a sample, or only what comes behind its front, if that was rendered before.
@@ -95,7 +124,7 @@ impl Sink {
     }
 
     /// A sink that appends lines to this text.
-    pub fn text(alloc: Global, text: GrowingText) -> Sink
+    pub fn text(alloc: Global, text: TextBlocks) -> Sink
         ensures { result ≡ record { shared = None; output = OutputText text } }
     {
         Sink {
@@ -113,7 +142,7 @@ impl Sink {
     {
         match &mut self.form {
             Form::Samples(_, _) => Ok(()),
-            Form::Text(text) => append_heads(text, name, head),
+            Form::Text(text) => append_heads_in_blocks(text, name, head),
         }
     }
 
@@ -161,7 +190,7 @@ impl Sink {
                 *are_shared = true;
                 keep(self.alloc, store, sample)
             }
-            Form::Text(text) => append_row(text, name, &sample, front),
+            Form::Text(text) => append_row_in_blocks(text, name, &sample, front),
         }
     }
 
@@ -177,7 +206,7 @@ impl Sink {
     }
 
     /// The text, or `None` if the sink keeps samples.
-    pub fn into_text(self) -> Option<GrowingText>
+    pub fn into_text(self) -> Option<TextBlocks>
         ensures { result ≡ text_in self.output }
     {
         let Sink { form, .. } = self;

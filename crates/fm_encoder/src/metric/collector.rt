@@ -19,8 +19,7 @@ use fm_encode_error::EncodeError;
 use fm_grammar::MetricType;
 use fm_labels::kept::KeptLabels;
 use fm_labels::label_set::EncodeLabelSet;
-use fm_text::GrowingText;
-use fm_writer::{FamilyHead, Sink};
+use fm_writer::{FamilyHead, Sink, TextBlocks};
 use std::alloc::Global;
 
 /// An encoder for the family with this printed name, this type, these constant labels and this timestamp in milliseconds.
@@ -61,7 +60,7 @@ pub fn for_lines(alloc: Global) -> Result<MetricEncoder, EncodeError>
     ensures memory { IfErr result (λ e. e ≡ EncodeError.Memory) }
 {
     let name = String::from_str(alloc, "unnamed")?;
-    let sink = Sink::text(alloc, GrowingText::new(alloc));
+    let sink = Sink::text(alloc, TextBlocks::new(alloc));
     for_family(alloc, name, MetricType::Unknown, &[], None, sink)
 }
 

@@ -1,0 +1,92 @@
+//! A text in blocks, so that a long one isn't moved while it grows.
+ghost use Rattle.std.specs.Prelude.{◌≡◌, ◌++◌, [], OnOk, OnErr, IfErr};
+ghost use Rattle.std.specs.Io.KnownBytes.{Appends};
+ghost use Rattle.fm_exposition.specs.Written.{AppendsBeginning, IsWritersFault};
+ghost use Rattle.fm_text.specs.inside.Grown.{Grown};
+
+use fm_encode_error::EncodeError;
+use fm_exposition::write_text;
+use fm_text::GrowingText;
+use std::alloc::{AllocError, Global};
+use std::io::Write;
+use std::marker::Model;
+use std::mem;
+
+// How many bytes a block has room for, but for the first one, which grows up to this.
+const BLOCK: usize = 65_536;
+
+// From how many bytes on a block is full. The line that is appended last mostly fits into what is left.
+const FULL: usize = 64_512;
+
+/// A text in blocks: full ones, and the last one, to whose end a text is appended.
+#[derive(Drop)]
+pub struct TextBlocks {
+    alloc: Global,
+    pub(crate) full: Vec<GrowingText>,
+    pub(crate) last: GrowingText,
+}
+
+impl Model for TextBlocks {
+    ghost use Rattle.std.specs.Prelude.{◌++◌};
+    ghost use Rattle.std.specs.List.{concat};
+    ghost use Rattle.fm_grammar.specs.Exposition.{Text};
+
+    ghost Value = { Text };
+
+    ghost view = { λ b. concat b.full.items ++ b.last };
+}
+
+impl TextBlocks {
+    /// An empty text. It takes no memory.
+    pub fn new(alloc: Global) -> TextBlocks
+        ensures { result ≡ [] }
+    {
+        TextBlocks {
+            alloc,
+            full: Vec::new(alloc),
+            last: GrowingText::new(alloc),
+        }
+    }
+
+    /// Appends bytes. Fails if memory runs out.
+    pub fn append(&mut self, bytes: &[u8]) -> Result<(), AllocError>
+        ensures { OnOk result (Grown self.old self.new bytes.now) }
+    {
+        self.last.append(bytes)
+    }
+
+    /// Writes the text, block by block. Fails with `Write` if the writer returns an error, and with `WriteZero` if it returns 0; then only
+    /// a beginning of the text was written. No call is tried again, and the writer is not flushed.
+    pub fn write_to<W: Write>(&self, writer: &mut W) -> Result<(), EncodeError>
+        ensures ok { OnOk result (Appends (W.contents writer.old) (W.contents writer.new) self.now) }
+        ensures stopped { OnErr result
+            (AppendsBeginning (W.contents writer.old) (W.contents writer.new) self.now) }
+        ensures fault { IfErr result IsWritersFault }
+    {
+        for block in &self.full {
+            write_text(writer, block.as_slice())?;
+        }
+        write_text(writer, self.last.as_slice())
+    }
+
+    // Begins another block if the last one is full. Fails if memory runs out. The text stays as it is.
+    #[inline(always)]
+    pub(crate) fn settle(&mut self) -> Result<(), AllocError>
+        ensures { self.new ≡ self.old }
+    {
+        if self.last.as_slice().len() < FULL {
+            return Ok(());
+        }
+        self.begin_block()
+    }
+
+    #[cold]
+    fn begin_block(&mut self) -> Result<(), AllocError>
+        ensures { self.new ≡ self.old }
+    {
+        let next = GrowingText::with_capacity(self.alloc, BLOCK)?;
+        self.full.reserve(1)?;
+        self.full.push_reserved(mem::replace(&mut self.last, next));
+        Ok(())
+    }
+}
