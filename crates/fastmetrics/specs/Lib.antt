@@ -34,11 +34,11 @@ pub use Rattle.fm_registry_model.specs.Listing
 pub use Rattle.fm_registry_model.specs.Running
 pub use Rattle.fm_labels.specs.Labels
 pub use Rattle.fm_labels.specs.OwnLabels
-pub use Rattle.fm_labels.specs.Kept
+pub use Rattle.fm_labels.specs.WrittenLabels
 pub use Rattle.fm_encoder.specs.Points
 pub use Rattle.fm_encoder.specs.Gathered
 pub use Rattle.fm_encoder.specs.Buckets
-pub use Rattle.fm_encoder.specs.Hands
+pub use Rattle.fm_encoder.specs.Emits
 pub use Rattle.fm_encoder.specs.Takes
 pub use Rattle.fm_encoder.specs.Offers
 pub use Rattle.fm_registry.specs.HasHistory

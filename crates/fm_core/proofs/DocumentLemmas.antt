@@ -20,7 +20,7 @@ use Rattle.fm_encoder.specs.Points.{Member}
 use Rattle.fm_encoder.specs.Offers.{context_at}
 use Rattle.fm_encoder.specs.Gathered.{GatheredMembers}
 use Rattle.fm_labels.specs.Refusals.{own_refusal}
-use Rattle.fm_encoder.specs.Hands.{HandsMembers}
+use Rattle.fm_encoder.specs.Emits.{EmitsMembers}
 use Rattle.fm_registry.specs.Seen.{seen_list, seen_listed}
 use Rattle.fm_registry.specs.declared.listed.ListedMetric.{ListedMetric}
 use Rattle.fm_core.specs.Families.{Heading, FaultUnder}
@@ -62,15 +62,15 @@ still_text name old new text samples was is =
 pub family_added : (Offers : Option ℕ → List Member → Type 0) (Stamps : Option ℕ → Type 0) (MayBeEmpty MayFault : Type 0) (heading : Heading) (stamp : Option ℕ) (old begun new : GatheredMembers) (visited made : Result (Unit {0}) EncodeError)
     → IsListable heading → HasLines old → Stamps stamp
     → begun ≡ record { context = context_at (listed_name heading) heading.registration.metric_type heading.labels stamp; output = with_lines old.output (heading_rows heading); refused = None }
-    → HandsMembers (Offers begun.context.setting.time) MayFault begun new visited
+    → EmitsMembers (Offers begun.context.setting.time) MayFault begun new visited
     → MatchResult made (λ _. (new.refused ≡ None) × (visited ≡ Ok tt)) (λ k. (new.refused ≡ Some k) ⊎ ((e : EncodeError) × (new.refused ≡ None) × (visited ≡ Err e) × (k ≡ own_refusal e)))
     → MatchResult made (λ _. HasLines new × AddsRows Offers Stamps MayBeEmpty heading (text_so_far old.output) (text_so_far new.output)) (λ k. (k ≡ Memory) ⊎ FaultUnder Offers Stamps k MayFault heading)
-family_added Offers Stamps MayBeEmpty MayFault heading stamp old begun new visited made heads lines stamped is hands ends =
+family_added Offers Stamps MayBeEmpty MayFault heading stamp old begun new visited made heads lines stamped is emits ends =
     let text = text_so_far old.output in
     let headed = OutputText (text ++ heading_rows heading) in
     let same : begun ≡ record { context = context_at (listed_name heading) heading.registration.metric_type heading.labels stamp; output = headed; refused = None } =
     is ∙ (λ i. record { context = context_at (listed_name heading) heading.registration.metric_type heading.labels stamp; output = with_lines (lines.text i) (heading_rows heading); refused = None }) in
-    added made ends (offered_made Offers Stamps MayFault (listed_name heading) heading.registration.metric_type heading.labels stamp headed (λ _. new.context.setting.name) (λ _. new.output) begun new visited made same stamped hands (ended made ends))
+    added made ends (offered_made Offers Stamps MayFault (listed_name heading) heading.registration.metric_type heading.labels stamp headed (λ _. new.context.setting.name) (λ _. new.output) begun new visited made same stamped emits (ended made ends))
   where
     headed_output : Output
     headed_output = OutputText (text_so_far old.output ++ heading_rows heading)

@@ -9,9 +9,9 @@ use Rattle.fm_encoder.specs.Points.{Member, Context, members_samples}
 use Rattle.fm_encoder.specs.Offers.{MetricHasFault, context_at}
 use Rattle.fm_encoder.specs.Gathered.{GatheredMembers}
 use Rattle.fm_labels.specs.Refusals.{OwnRefusal, own_refusal}
-use Rattle.fm_encoder.specs.Hands.{HandsMembers}
+use Rattle.fm_encoder.specs.Emits.{EmitsMembers}
 use Rattle.fm_labels.proofs.LabelSetLemmas.{own_refusal_is}
-use Rattle.fm_encoder.proofs.MemberLemmas.{MembersClean-formed}
+use Rattle.fm_encoder.proofs.MemberLemmas.{MembersValid-formed}
 use Rattle.fm_core.specs.inside.Offered.{Offered}
 
 module _ (Offers : Option ℕ → List Member → Type 0) (Stamps : Option ℕ → Type 0) (MayFault : Type 0) (name : Text) (type : MetricType) (constants : List Label) (stamp : Option ℕ) (output : Output) where
@@ -36,24 +36,24 @@ module _ (Offers : Option ℕ → List Member → Type 0) (Stamps : Option ℕ �
   fault_of k (inl memory) = inl memory
   fault_of k (inr fault) = inr (inl fault)
 
-  made_from : {A : Type 0} (name_of : A → Text) (output_of : A → Output) (new : GatheredMembers) (visited : Result (Unit {0}) EncodeError) (made : Result A EncodeError) → Stamps stamp → HandsMembers (Offers stamp) MayFault begun new visited → Ends name_of output_of new visited made → Makes name_of output_of made
-  made_from name_of output_of new visited (Ok m) stamped hands h =
-      let x = hands.handed refl h.0 h.1 in (
-        h.2 ∙ ap (λ (x : Context). x.setting.name) hands.context,
+  made_from : {A : Type 0} (name_of : A → Text) (output_of : A → Output) (new : GatheredMembers) (visited : Result (Unit {0}) EncodeError) (made : Result A EncodeError) → Stamps stamp → EmitsMembers (Offers stamp) MayFault begun new visited → Ends name_of output_of new visited made → Makes name_of output_of made
+  made_from name_of output_of new visited (Ok m) stamped emits h =
+      let x = emits.emitted refl h.0 h.1 in (
+        h.2 ∙ ap (λ (x : Context). x.setting.name) emits.context,
         record {
           samples = members_samples context x.0;
           admitted = (x.0, stamp, stamped, x.1, x.2, refl);
-          formed = MembersClean-formed context x.0 x.2;
+          formed = MembersValid-formed context x.0 x.2;
           is = h.3 ∙ x.3;
         },
       )
-  made_from name_of output_of new visited (Err k) stamped hands (inl refused) = elim (hands.refused k refl refused) [
+  made_from name_of output_of new visited (Err k) stamped emits (inl refused) = elim (emits.refused k refl refused) [
     | inl own ↦ fault_of k own
     | inr (ms, offered, fault) ↦ inr (inr (ms, stamp, stamped, offered, fault))
   ]
-  made_from name_of output_of new visited (Err k) stamped hands (inr (e, none, err, is)) =
-      fault_of k (subst (OwnRefusal MayFault) (sym is) (own_refusal_is MayFault e (hands.own e none err)))
+  made_from name_of output_of new visited (Err k) stamped emits (inr (e, none, err, is)) =
+      fault_of k (subst (OwnRefusal MayFault) (sym is) (own_refusal_is MayFault e (emits.own e none err)))
 
-  pub offered_made : {A : Type 0} (name_of : A → Text) (output_of : A → Output) (encoder new : GatheredMembers) (visited : Result (Unit {0}) EncodeError) (made : Result A EncodeError) → encoder ≡ begun → Stamps stamp → HandsMembers (Offers encoder.context.setting.time) MayFault encoder new visited → Ends name_of output_of new visited made → Makes name_of output_of made
-  offered_made name_of output_of encoder new visited made is stamped hands ends =
-      made_from name_of output_of new visited made stamped (subst (λ (g : GatheredMembers). HandsMembers (Offers g.context.setting.time) MayFault g new visited) is hands) ends
+  pub offered_made : {A : Type 0} (name_of : A → Text) (output_of : A → Output) (encoder new : GatheredMembers) (visited : Result (Unit {0}) EncodeError) (made : Result A EncodeError) → encoder ≡ begun → Stamps stamp → EmitsMembers (Offers encoder.context.setting.time) MayFault encoder new visited → Ends name_of output_of new visited made → Makes name_of output_of made
+  offered_made name_of output_of encoder new visited made is stamped emits ends =
+      made_from name_of output_of new visited made stamped (subst (λ (g : GatheredMembers). EmitsMembers (Offers g.context.setting.time) MayFault g new visited) is emits) ends

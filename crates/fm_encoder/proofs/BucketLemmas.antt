@@ -18,10 +18,10 @@ use Rattle.fm_writer.proofs.OutputLemmas.{appended-append}
 use Rattle.fm_labels.specs.Labels.{IsReserved}
 use Rattle.fm_grammar.proofs.Runs.{all_append}
 use Rattle.fm_encode_error.specs.declared.EncodeError.{EncodeError}
-use Rattle.fm_encoder.specs.Points.{PartsFault, HandedExemplar, Setting, Point, ExemplarClean, values_in, BucketsClean, BucketsFault, PartsClean, type_of, point_samples, bucket_line, bucket_sample, bucket_samples}
+use Rattle.fm_encoder.specs.Points.{PartsFault, EmittedExemplar, Setting, Point, ExemplarValid, values_in, BucketsValid, BucketsFault, PartsValid, type_of, point_samples, bucket_line, bucket_sample, bucket_samples}
 use Rattle.fm_encoder.specs.Gathered.{GatheredPoints}
 use Rattle.fm_labels.specs.Refusals.{OwnRefusal, result_of}
-use Rattle.fm_encoder.specs.Hands.{SamePlace, HandsPoints, points_samples}
+use Rattle.fm_encoder.specs.Emits.{SameContext, EmitsPoints, points_samples}
 use Rattle.fm_encoder.specs.inside.Steps.{BeginsPoint, FitsType, PushesSample, PushesSamples}
 use Rattle.fm_encoder.specs.Buckets.{slots_of}
 use Rattle.fm_encoder.specs.inside.BucketSteps.{HasBuckets, HasTotals, BeginsBuckets, PushesBucket, PushesBuckets}
@@ -60,7 +60,7 @@ IsSample-bucket type labels values time None has are fits millis is = record { k
 IsSample-bucket type labels values time (Some x) has are fits millis is = record { kind = has_bucket type has; labels = are; suits = tt; value = fits; time = millis; allowed = tt; exemplar = is }
 
 -- one bucket and its slot more
-pub bucket_samples-push : (setting : Setting) (common : List Label) (before buckets : List Bucket) (slots : List (List HandedExemplar)) (bucket : Bucket) (exemplars : List HandedExemplar) → length slots ≡ length buckets → bucket_samples setting common before (buckets ++ bucket ∷ []) (slots ++ exemplars ∷ []) ≡ bucket_samples setting common before buckets slots ++ bucket_sample setting common (before ++ buckets) bucket exemplars ∷ []
+pub bucket_samples-push : (setting : Setting) (common : List Label) (before buckets : List Bucket) (slots : List (List EmittedExemplar)) (bucket : Bucket) (exemplars : List EmittedExemplar) → length slots ≡ length buckets → bucket_samples setting common before (buckets ++ bucket ∷ []) (slots ++ exemplars ∷ []) ≡ bucket_samples setting common before buckets slots ++ bucket_sample setting common (before ++ buckets) bucket exemplars ∷ []
 bucket_samples-push setting common before [] [] bucket exemplars same =
     ap (λ (front : List Bucket). bucket_sample setting common front bucket exemplars ∷ []) (sym (append-nil before))
 bucket_samples-push setting common before (b ∷ buckets) (x ∷ slots) bucket exemplars same =
@@ -70,22 +70,22 @@ bucket_samples-push setting common before (b ∷ buckets) (x ∷ slots) bucket e
 bucket_samples-push setting common before [] (x ∷ slots) bucket exemplars same = absurd (omega arith)
 bucket_samples-push setting common before (b ∷ buckets) [] bucket exemplars same = absurd (omega arith)
 
-pub all_clean-push : (slots : List (List HandedExemplar)) (exemplars : List HandedExemplar) → AllByRecursion ExemplarClean slots → ExemplarClean exemplars → AllByRecursion ExemplarClean (slots ++ exemplars ∷ [])
-all_clean-push [] exemplars h clean = (clean, tt)
-all_clean-push (x ∷ slots) exemplars h clean = (h.0, all_clean-push slots exemplars h.1 clean)
+pub all_valid-push : (slots : List (List EmittedExemplar)) (exemplars : List EmittedExemplar) → AllByRecursion ExemplarValid slots → ExemplarValid exemplars → AllByRecursion ExemplarValid (slots ++ exemplars ∷ [])
+all_valid-push [] exemplars h valid = (valid, tt)
+all_valid-push (x ∷ slots) exemplars h valid = (h.0, all_valid-push slots exemplars h.1 valid)
 
 -- the samples of the first buckets are there, which have this number of values
-pub record PushedFirst {S : Type 0} (f : S → List HandedExemplar) (buckets : List Bucket) (slots : List S) (i values : ℕ) (old new : GatheredPoints) : Type 0 where
-  pub place : SamePlace old new
+pub record PushedFirst {S : Type 0} (f : S → List EmittedExemplar) (buckets : List Bucket) (slots : List S) (i values : ℕ) (old new : GatheredPoints) : Type 0 where
+  pub same : SameContext old new
   pub accepting : new.refused ≡ None
   pub values_are : values ≡ values_in (take i buckets)
   pub fits : values < 2 ^ 64
-  pub clean : AllByRecursion ExemplarClean (map f (take i slots))
+  pub valid : AllByRecursion ExemplarValid (map f (take i slots))
   pub output : new.output ≡ appended old.setting.name old.output (bucket_samples old.setting old.common [] (take i buckets) (map f (take i slots)))
   pub formed : AllByRecursion (IsSample old.setting.metric_type) (bucket_samples old.setting old.common [] (take i buckets) (map f (take i slots)))
 
-SamePlace-then : (old mid new : GatheredPoints) → SamePlace old mid → SamePlace mid new → SamePlace old new
-SamePlace-then old mid new a b = record { setting = b.setting ∙ a.setting; common = b.common ∙ a.common; deferred = b.deferred ∙ a.deferred }
+SameContext-then : (old mid new : GatheredPoints) → SameContext old mid → SameContext mid new → SameContext old new
+SameContext-then old mid new a b = record { setting = b.setting ∙ a.setting; common = b.common ∙ a.common; deferred = b.deferred ∙ a.deferred }
 
 map-push : {S T : Type 0} (f : S → T) (xs : List S) (x : S) → map f (xs ++ x ∷ []) ≡ map f xs ++ f x ∷ []
 map-push f [] x = refl
@@ -112,40 +112,40 @@ Contains-map f (y ∷ xs) x (suc i, within, is) =
     (let there = Contains-map f xs x (i, omega arith, is) in (suc there.0, omega arith, there.2))
 
 -- the next bucket's sample is there too
-pub PushedFirst-more : {S : Type 0} (f : S → List HandedExemplar) (F : Type 0) (buckets : List Bucket) (slots : List S) (i before values : ℕ) (b : Bucket) (s : S) (old mid new : GatheredPoints) (r : Result ℕ EncodeError) → i < length buckets → length slots ≡ length buckets → b ≡ get_or buckets i b → s ≡ get_or slots i s → PushedFirst f buckets slots i before old mid → PushesBucket before b (f s) F mid new r → r ≡ Ok values → PushedFirst f buckets slots (i + 1) values old new
+pub PushedFirst-more : {S : Type 0} (f : S → List EmittedExemplar) (F : Type 0) (buckets : List Bucket) (slots : List S) (i before values : ℕ) (b : Bucket) (s : S) (old mid new : GatheredPoints) (r : Result ℕ EncodeError) → i < length buckets → length slots ≡ length buckets → b ≡ get_or buckets i b → s ≡ get_or slots i s → PushedFirst f buckets slots i before old mid → PushesBucket before b (f s) F mid new r → r ≡ Ok values → PushedFirst f buckets slots (i + 1) values old new
 PushedFirst-more f F buckets slots i before values b s old mid new r within same b_is s_is first push ok =
     let more_buckets : take (i + 1) buckets ≡ take i buckets ++ b ∷ [] = take_more buckets i b within ∙ ap (λ (x : Bucket). take i buckets ++ x ∷ []) (sym b_is) in
     let more_slots : take (i + 1) slots ≡ take i slots ++ s ∷ [] = take_more slots i s (omega arith) ∙ ap (λ (x : _). take i slots ++ x ∷ []) (sym s_is) in
     let mapped : map f (take (i + 1) slots) ≡ map f (take i slots) ++ f s ∷ [] = ap (map f) more_slots ∙ map-push f (take i slots) s in
-    let pushed = rw ok at push.answered in
+    let pushed = rw ok at push.returned in
     let line = bucket_sample old.setting old.common (take i buckets) b (f s) in
     let pushed_all = bucket_samples-push old.setting old.common [] (take i buckets) (map f (take i slots)) b (f s) (same_length f buckets slots i same) in
     let values_are : values ≡ values_in (take i buckets ++ b ∷ []) = pushed.0 ∙ ap (λ (n : ℕ). n + b.count) first.values_are ∙ sym (values_in-push (take i buckets) b) in
     let placed =
-    (λ j. appended (first.place.setting j).name mid.output (bucket_line (first.place.setting j) (first.place.common j) b.upper_bound (values_are j) (f s) ∷ []))
+    (λ j. appended (first.same.setting j).name mid.output (bucket_line (first.same.setting j) (first.same.common j) b.upper_bound (values_are j) (f s) ∷ []))
     ∙ (ap (λ (front : Output). appended old.setting.name front (line ∷ [])) first.output
     ∙ (sym (appended-append old.setting.name old.output (bucket_samples old.setting old.common [] (take i buckets) (map f (take i slots))) (line ∷ []))
     ∙ ap (λ (more : List Sample). appended old.setting.name old.output more) (sym pushed_all)))
     in
     let line_at = λ (g : Setting) (common : List Label) (n : ℕ). bucket_line g common b.upper_bound n (f s) in
-    let formed_here = subst (λ (g : Setting). IsSample g.metric_type (line_at g mid.common values)) first.place.setting pushed.5 in
-    let formed_under = subst (λ (ls : List Label). IsSample old.setting.metric_type (line_at old.setting ls values)) first.place.common formed_here in
+    let formed_here = subst (λ (g : Setting). IsSample g.metric_type (line_at g mid.common values)) first.same.setting pushed.5 in
+    let formed_under = subst (λ (ls : List Label). IsSample old.setting.metric_type (line_at old.setting ls values)) first.same.common formed_here in
     let formed_line : IsSample old.setting.metric_type line = subst (λ (n : ℕ). IsSample old.setting.metric_type (line_at old.setting old.common n)) values_are formed_under in
     let formed_all = subst (λ (ss : List Sample). AllByRecursion (IsSample old.setting.metric_type) ss) (sym pushed_all) (all_append (IsSample old.setting.metric_type) (bucket_samples old.setting old.common [] (take i buckets) (map f (take i slots))) (line ∷ []) first.formed (formed_line, tt)) in
     record {
-      place = SamePlace-then old mid new first.place push.place;
+      same = SameContext-then old mid new first.same push.same;
       accepting = pushed.2;
       values_are = values_are ∙ ap values_in (sym more_buckets);
       fits = pushed.1;
-      clean = rw mapped (all_clean-push (map f (take i slots)) (f s) first.clean pushed.3);
+      valid = rw mapped (all_valid-push (map f (take i slots)) (f s) first.valid pushed.3);
       output = rw (more_buckets, mapped) (pushed.4 ∙ placed);
       formed = rw (more_buckets, mapped) formed_all;
     }
 
 -- the next bucket is refused
-pub PushesBuckets-refused : {S : Type 0} (f : S → List HandedExemplar) (F : S → Type 0) (buckets : List Bucket) (slots : List S) (i before : ℕ) (k : EncodeError) (b : Bucket) (s : S) (old mid new : GatheredPoints) (r : Result ℕ EncodeError) → i < length buckets → length slots ≡ length buckets → b ≡ get_or buckets i b → s ≡ get_or slots i s → PushedFirst f buckets slots i before old mid → PushesBucket before b (f s) (F s) mid new r → r ≡ Err k → PushesBuckets buckets (map f slots) ((slot : S) × Contains slots slot × F slot) old new
+pub PushesBuckets-refused : {S : Type 0} (f : S → List EmittedExemplar) (F : S → Type 0) (buckets : List Bucket) (slots : List S) (i before : ℕ) (k : EncodeError) (b : Bucket) (s : S) (old mid new : GatheredPoints) (r : Result ℕ EncodeError) → i < length buckets → length slots ≡ length buckets → b ≡ get_or buckets i b → s ≡ get_or slots i s → PushedFirst f buckets slots i before old mid → PushesBucket before b (f s) (F s) mid new r → r ≡ Err k → PushesBuckets buckets (map f slots) ((slot : S) × Contains slots slot × F slot) old new
 PushesBuckets-refused {S} f F buckets slots i before k b s old mid new r within same b_is s_is first push err =
-    let pushed = rw err at push.answered in
+    let pushed = rw err at push.returned in
     let there : Contains slots s = subst (Contains slots) (sym s_is) (Contains-get_or slots i s (omega arith)) in
     let most = sum_by_more_le (λ (x : Bucket). x.count) buckets i b within in
     let so_far : before + b.count ≤ values_in buckets = subst (λ (x : Bucket). before + x.count ≤ values_in buckets) (sym b_is) (subst (λ (n : ℕ). n + (get_or buckets i b).count ≤ values_in buckets) (sym first.values_are) most) in
@@ -156,20 +156,20 @@ PushesBuckets-refused {S} f F buckets slots i before k b s old mid new r within 
       | inr (inr exemplar) ↦ inr (inr (f s, Contains-map f slots s there, exemplar))
     ] in
     record {
-      place = SamePlace-then old mid new first.place push.place;
+      same = SameContext-then old mid new first.same push.same;
       fits = λ none. absurd cc;
-      clean = λ none. absurd cc;
+      valid = λ none. absurd cc;
       output = λ none. absurd cc;
       formed = λ none. absurd cc;
       refused = λ j is. (let equal : k ≡ j = cc in subst (λ (e : EncodeError). OwnRefusal ((slot : S) × Contains slots slot × F slot) e ⊎ BucketsFault e buckets (map f slots)) equal fault);
     }
 
 -- if no slot may return an error of its own
-pub PushesBuckets-never : {F : Type 0} (buckets : List Bucket) (slots : List (List HandedExemplar)) (old new : GatheredPoints) → ¬ F → PushesBuckets buckets slots F old new → PushesBuckets buckets slots ⊥ old new
+pub PushesBuckets-never : {F : Type 0} (buckets : List Bucket) (slots : List (List EmittedExemplar)) (old new : GatheredPoints) → ¬ F → PushesBuckets buckets slots F old new → PushesBuckets buckets slots ⊥ old new
 PushesBuckets-never buckets slots old new never a = record {
-  place = a.place;
+  same = a.same;
   fits = a.fits;
-  clean = a.clean;
+  valid = a.valid;
   output = a.output;
   formed = a.formed;
   refused = λ k is. elim (a.refused k is) [
@@ -179,20 +179,20 @@ PushesBuckets-never buckets slots old new never a = record {
   ];
 }
 
-pub length-slots_of : {E : Type 0} (exemplars : E → List HandedExemplar) (slots : List (Option (Bor E))) → length (slots_of exemplars slots) ≡ length slots
+pub length-slots_of : {E : Type 0} (exemplars : E → List EmittedExemplar) (slots : List (Option (Bor E))) → length (slots_of exemplars slots) ≡ length slots
 length-slots_of exemplars slots = length-map slots _
 
 -- a sample, and then others
 pub PushesSamples-after : (f : Setting → List Label → Sample) (fs : Setting → List Label → List Sample) (sample : Sample) (old mid new : GatheredPoints) → PushesSample sample old mid → mid.refused ≡ None → PushesSamples (fs mid.setting mid.common) mid new → sample ≡ f old.setting old.common → PushesSamples (f old.setting old.common ∷ fs old.setting old.common) old new
 PushesSamples-after f fs sample old mid new one accepting more is = record {
-  place = SamePlace-then old mid new one.place more.place;
+  same = SameContext-then old mid new one.same more.same;
   formed = λ none. (
     subst (IsSample old.setting.metric_type) is (one.formed accepting),
-    subst (λ (ls : List Label). AllByRecursion (IsSample old.setting.metric_type) (fs old.setting ls)) one.place.common
-        (subst (λ (s : Setting). AllByRecursion (IsSample s.metric_type) (fs s mid.common)) one.place.setting (more.formed none)),
+    subst (λ (ls : List Label). AllByRecursion (IsSample old.setting.metric_type) (fs old.setting ls)) one.same.common
+        (subst (λ (s : Setting). AllByRecursion (IsSample s.metric_type) (fs s mid.common)) one.same.setting (more.formed none)),
   );
   output = λ none. more.output none
-      ∙ ((λ i. appended (one.place.setting i).name (one.output accepting i) (fs (one.place.setting i) (one.place.common i)))
+      ∙ ((λ i. appended (one.same.setting i).name (one.output accepting i) (fs (one.same.setting i) (one.same.common i)))
       ∙ ((λ i. appended old.setting.name (appended old.setting.name old.output (is i ∷ [])) (fs old.setting old.common))
       ∙ sym (appended-append old.setting.name old.output (f old.setting old.common ∷ []) (fs old.setting old.common))));
   refused = more.refused;
@@ -201,14 +201,14 @@ PushesSamples-after f fs sample old mid new one accepting more is = record {
 -- samples, and then one more
 pub PushesSamples-push : (f : Setting → List Label → Sample) (xs : List Sample) (old mid new : GatheredPoints) → PushesSamples xs old mid → mid.refused ≡ None → PushesSample (f mid.setting mid.common) mid new → PushesSamples (xs ++ f old.setting old.common ∷ []) old new
 PushesSamples-push f xs old mid new before accepting one = record {
-  place = SamePlace-then old mid new before.place one.place;
+  same = SameContext-then old mid new before.same one.same;
   formed = λ none. all_append (IsSample old.setting.metric_type) xs (f old.setting old.common ∷ []) (before.formed accepting) (
-    subst (λ (ls : List Label). IsSample old.setting.metric_type (f old.setting ls)) before.place.common
-        (subst (λ (s : Setting). IsSample s.metric_type (f s mid.common)) before.place.setting (one.formed none)),
+    subst (λ (ls : List Label). IsSample old.setting.metric_type (f old.setting ls)) before.same.common
+        (subst (λ (s : Setting). IsSample s.metric_type (f s mid.common)) before.same.setting (one.formed none)),
     tt,
   );
   output = λ none. one.output none
-      ∙ ((λ i. appended (before.place.setting i).name (before.output accepting i) (f (before.place.setting i) (before.place.common i) ∷ []))
+      ∙ ((λ i. appended (before.same.setting i).name (before.output accepting i) (f (before.same.setting i) (before.same.common i) ∷ []))
       ∙ sym (appended-append old.setting.name old.output xs (f old.setting old.common ∷ [])));
   refused = one.refused;
 }
@@ -233,13 +233,13 @@ PushesSamples-seen view f xs i d old mid new within before accepting one =
 -- samples, and then others
 pub PushesSamples-then : (xs : List Sample) (ys : Setting → List Label → List Sample) (old mid new : GatheredPoints) → PushesSamples xs old mid → mid.refused ≡ None → PushesSamples (ys mid.setting mid.common) mid new → PushesSamples (xs ++ ys old.setting old.common) old new
 PushesSamples-then xs ys old mid new before accepting more = record {
-  place = SamePlace-then old mid new before.place more.place;
+  same = SameContext-then old mid new before.same more.same;
   formed = λ none. all_append (IsSample old.setting.metric_type) xs (ys old.setting old.common) (before.formed accepting) (
-      subst (λ (ls : List Label). AllByRecursion (IsSample old.setting.metric_type) (ys old.setting ls)) before.place.common
-      (subst (λ (s : Setting). AllByRecursion (IsSample s.metric_type) (ys s mid.common)) before.place.setting (more.formed none))
+      subst (λ (ls : List Label). AllByRecursion (IsSample old.setting.metric_type) (ys old.setting ls)) before.same.common
+      (subst (λ (s : Setting). AllByRecursion (IsSample s.metric_type) (ys s mid.common)) before.same.setting (more.formed none))
       );
   output = λ none. more.output none
-      ∙ ((λ i. appended (before.place.setting i).name (before.output accepting i) (ys (before.place.setting i) (before.place.common i)))
+      ∙ ((λ i. appended (before.same.setting i).name (before.output accepting i) (ys (before.same.setting i) (before.same.common i)))
       ∙ sym (appended-append old.setting.name old.output xs (ys old.setting old.common)));
   refused = more.refused;
 }
@@ -247,49 +247,49 @@ PushesSamples-then xs ys old mid new before accepting more = record {
 -- one sample alone
 pub PushesSamples-one : (wanted sample : Sample) (old new : GatheredPoints) → PushesSample sample old new → sample ≡ wanted → PushesSamples (wanted ∷ []) old new
 PushesSamples-one wanted sample old new one is = subst (λ (s : Sample). PushesSamples (s ∷ []) old new) is (record {
-  place = one.place;
+  same = one.same;
   formed = λ none. (one.formed none, tt);
   output = one.output;
   refused = one.refused;
 })
 
 -- the samples of buckets are there
-PushesSamples-buckets : (buckets : List Bucket) (slots : List (List HandedExemplar)) (F : Type 0) (old new : GatheredPoints) → PushesBuckets buckets slots F old new → new.refused ≡ None → PushesSamples (bucket_samples old.setting old.common [] buckets slots) old new
+PushesSamples-buckets : (buckets : List Bucket) (slots : List (List EmittedExemplar)) (F : Type 0) (old new : GatheredPoints) → PushesBuckets buckets slots F old new → new.refused ≡ None → PushesSamples (bucket_samples old.setting old.common [] buckets slots) old new
 PushesSamples-buckets buckets slots F old new push none = record {
-  place = push.place;
+  same = push.same;
   formed = push.formed;
   output = push.output;
   refused = λ k is. absurd cc;
 }
 
 -- a point whose first tests passed, and the samples that it has then
-pub HandsPoints-made : (point : Point) (xs : Setting → List Label → List Sample) (F : Type 0) (old begun new : GatheredPoints) → SamePlace old begun → begun.output ≡ old.output → ((k : EncodeError) → old.refused ≡ Some k → begun ≡ old) → begun.refused ≡ None → type_of point ≡ old.setting.metric_type → old.deferred ≡ None → PartsClean old.setting old.common point → point_samples old.setting old.common point ≡ xs old.setting old.common → PushesSamples (xs begun.setting begun.common) begun new → HandsPoints (λ ps. ps ≡ point ∷ []) F old new (result_of new.refused)
-HandsPoints-made point xs F old begun new place output kept begun_none type deferred parts is push =
+pub EmitsPoints-made : (point : Point) (xs : Setting → List Label → List Sample) (F : Type 0) (old begun new : GatheredPoints) → SameContext old begun → begun.output ≡ old.output → ((k : EncodeError) → old.refused ≡ Some k → begun ≡ old) → begun.refused ≡ None → type_of point ≡ old.setting.metric_type → old.deferred ≡ None → PartsValid old.setting old.common point → point_samples old.setting old.common point ≡ xs old.setting old.common → PushesSamples (xs begun.setting begun.common) begun new → EmitsPoints (λ ps. ps ≡ point ∷ []) F old new (result_of new.refused)
+EmitsPoints-made point xs F old begun new same output kept begun_none type deferred parts is push =
     let name = old.setting.name in
     let never : (k : EncodeError) → ¬ (old.refused ≡ Some k) = λ k e. (let same : begun ≡ old = kept k e in cc) in
     let put : new.refused ≡ None → new.output ≡ appended name old.output (points_samples old (point ∷ [])) = λ none.
     push.output none
-    ∙ ((λ i. appended (place.setting i).name (output i) (xs (place.setting i) (place.common i)))
+    ∙ ((λ i. appended (same.setting i).name (output i) (xs (same.setting i) (same.common i)))
     ∙ ap (λ (more : List Sample). appended name old.output more) (sym (append-nil (point_samples old.setting old.common point) ∙ is)))
     in
     let formed = λ (none : new.refused ≡ None). subst (AllByRecursion (IsSample old.setting.metric_type)) (sym is)
-    (subst (λ (ls : List Label). AllByRecursion (IsSample old.setting.metric_type) (xs old.setting ls)) place.common
-    (subst (λ (s : Setting). AllByRecursion (IsSample s.metric_type) (xs s begun.common)) place.setting (push.formed none)))
+    (subst (λ (ls : List Label). AllByRecursion (IsSample old.setting.metric_type) (xs old.setting ls)) same.common
+    (subst (λ (s : Setting). AllByRecursion (IsSample s.metric_type) (xs s begun.common)) same.setting (push.formed none)))
     in
     record {
-      place = SamePlace-then old begun new place push.place;
+      same = SameContext-then old begun new same push.same;
       kept = λ k e. absurd (never k e);
-      handed = λ o none r. (point ∷ [], refl, ((deferred, record { type = type; parts = parts; formed = formed none }, tt)), put none);
+      emitted = λ o none r. (point ∷ [], refl, ((deferred, record { type = type; parts = parts; formed = formed none }, tt)), put none);
       own = λ e none r. (let not : Ok tt ≡ Err e = rw none at r in absurd cc);
       refused = λ k o e. inl (inl (push.refused k e));
     }
 
 -- a point whose first tests passed, and what refuses it then
-pub HandsPoints-refused : (point : Point) (F : Type 0) (old begun new : GatheredPoints) (k : EncodeError) → BeginsPoint (type_of point) old begun → begun.refused ≡ None → new ≡ record begun { refused = Some k } → OwnRefusal F k ⊎ PartsFault k old.setting old.common point → HandsPoints (λ ps. ps ≡ point ∷ []) F old new (Err k)
-HandsPoints-refused point F old begun new k begins begun_none is fault = record {
-  place = subst (SamePlace old) (sym is) (record { setting = begins.place.setting; common = begins.place.common; deferred = begins.place.deferred });
+pub EmitsPoints-refused : (point : Point) (F : Type 0) (old begun new : GatheredPoints) (k : EncodeError) → BeginsPoint (type_of point) old begun → begun.refused ≡ None → new ≡ record begun { refused = Some k } → OwnRefusal F k ⊎ PartsFault k old.setting old.common point → EmitsPoints (λ ps. ps ≡ point ∷ []) F old new (Err k)
+EmitsPoints-refused point F old begun new k begins begun_none is fault = record {
+  same = subst (SameContext old) (sym is) (record { setting = begins.same.setting; common = begins.same.common; deferred = begins.same.deferred });
   kept = λ j e. (let same : begun ≡ old = begins.kept j e in absurd cc);
-  handed = λ o none r. absurd cc;
+  emitted = λ o none r. absurd cc;
   own = λ e none r. (let refused : new.refused ≡ Some k = ap (λ (g : GatheredPoints). g.refused) is in absurd cc);
   refused = λ j o e.
       (let refused : new.refused ≡ Some k = ap (λ (g : GatheredPoints). g.refused) is in
@@ -301,11 +301,11 @@ HandsPoints-refused point F old begun new k begins begun_none is fault = record 
 }
 
 -- a point with buckets: its first tests, its buckets, and the totals after them
-pub HandsPoints-buckets : (point : Point) (totals : Setting → List Label → List Sample) (buckets : List Bucket) (slots : List (List HandedExemplar)) (F : Type 0) (n : ℕ) (old begun pushed new : GatheredPoints) → ((common : List Label) → BucketsClean buckets slots → PartsClean old.setting common point) → ((common : List Label) → point_samples old.setting common point ≡ bucket_samples old.setting common [] buckets slots ++ totals old.setting common) → length slots ≡ n → BeginsBuckets (type_of point) (length buckets) n old begun → begun.refused ≡ None → PushesBuckets buckets slots F begun pushed → pushed.refused ≡ None → PushesSamples (totals pushed.setting pushed.common) pushed new → HandsPoints (λ ps. ps ≡ point ∷ []) F old new (result_of new.refused)
-HandsPoints-buckets point totals buckets slots F n old begun pushed new clean is same_number begins begun_none push pushed_none added =
+pub EmitsPoints-buckets : (point : Point) (totals : Setting → List Label → List Sample) (buckets : List Bucket) (slots : List (List EmittedExemplar)) (F : Type 0) (n : ℕ) (old begun pushed new : GatheredPoints) → ((common : List Label) → BucketsValid buckets slots → PartsValid old.setting common point) → ((common : List Label) → point_samples old.setting common point ≡ bucket_samples old.setting common [] buckets slots ++ totals old.setting common) → length slots ≡ n → BeginsBuckets (type_of point) (length buckets) n old begun → begun.refused ≡ None → PushesBuckets buckets slots F begun pushed → pushed.refused ≡ None → PushesSamples (totals pushed.setting pushed.common) pushed new → EmitsPoints (λ ps. ps ≡ point ∷ []) F old new (result_of new.refused)
+EmitsPoints-buckets point totals buckets slots F n old begun pushed new valid is same_number begins begun_none push pushed_none added =
     let all = PushesSamples-then (bucket_samples begun.setting begun.common [] buckets slots) totals begun pushed new (PushesSamples-buckets buckets slots F begun pushed push pushed_none) pushed_none added in
-    let parts = clean old.common (same_number ∙ begins.same_number begun_none, push.fits pushed_none, push.clean pushed_none) in
-    HandsPoints-made point (λ s common. bucket_samples s common [] buckets slots ++ totals s common) F old begun new begins.place begins.output begins.kept begun_none (begins.same_type begun_none) (begins.no_deferred begun_none) parts (is old.common) all
+    let parts = valid old.common (same_number ∙ begins.same_number begun_none, push.fits pushed_none, push.valid pushed_none) in
+    EmitsPoints-made point (λ s common. bucket_samples s common [] buckets slots ++ totals s common) F old begun new begins.same begins.output begins.kept begun_none (begins.same_type begun_none) (begins.no_deferred begun_none) parts (is old.common) all
 
 -- a count and a sum are values of a point's totals
 pub FitsType-count : (type : MetricType) (of_count of_sum : SampleKind) (v : Value) (count : ℕ) → HasTotals type of_count of_sum → v ≡ Whole (pos count) → ValueFits (Whole (pos count)) → FitsType type of_count v None

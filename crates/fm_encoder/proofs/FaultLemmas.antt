@@ -6,8 +6,8 @@ use Rattle.fm_encode_error.specs.declared.EncodeError.{EncodeError}
 use Rattle.fm_encode_error.specs.declared.EncodeError.TheVariants.{MalformedLabel, KindMismatch, DuplicateLabel, ExemplarCountMismatch, BucketOverflow, ExemplarTwice, ExemplarTooLong, MetricFault, Write, WriteZero}
 use Rattle.fm_exposition.specs.Written.{IsWritersFault}
 use Rattle.fm_raw.specs.declared.bucket.bound.Bucket.{Bucket}
-use Rattle.fm_labels.specs.Labels.{HandedLabel, NameFault, LabelFault, LabelsFault}
-use Rattle.fm_encoder.specs.Points.{HandedExemplar, Point, UnknownPoint, GaugePoint, CounterPoint, StateSetPoint, InfoPoint, HistogramPoint, GaugeHistogramPoint, SummaryPoint, Member, Setting, Context, NumberFault, ExemplarFault, BucketsFault, PartsFault, PointFault, MembersFault}
+use Rattle.fm_labels.specs.Labels.{EmittedLabel, NameFault, LabelFault, LabelsFault}
+use Rattle.fm_encoder.specs.Points.{EmittedExemplar, Point, UnknownPoint, GaugePoint, CounterPoint, StateSetPoint, InfoPoint, HistogramPoint, GaugeHistogramPoint, SummaryPoint, Member, Setting, Context, NumberFault, ExemplarFault, BucketsFault, PartsFault, PointFault, MembersFault}
 use Rattle.fm_encoder.specs.Offers.{MetricHasFault, context_at}
 
 is_other : (k j : EncodeError) → k ≡ j → ¬ (IsWritersFault j) → ¬ (IsWritersFault k)
@@ -18,11 +18,11 @@ NameFault-not_writing Write type before name fault writing = fault
 NameFault-not_writing WriteZero type before name fault writing = fault
 NameFault-not_writing _ type before name fault writing = writing
 
-LabelFault-not_writing : (k : EncodeError) (type : MetricType) (before : List Label) (label : HandedLabel) → LabelFault k type before label → ¬ (IsWritersFault k)
+LabelFault-not_writing : (k : EncodeError) (type : MetricType) (before : List Label) (label : EmittedLabel) → LabelFault k type before label → ¬ (IsWritersFault k)
 LabelFault-not_writing k type before label (inl (is, malformed)) = is_other k MalformedLabel is (λ never. never)
 LabelFault-not_writing k type before label (inr (name, there, fault)) = NameFault-not_writing k type before name fault
 
-LabelsFault-not_writing : (k : EncodeError) (type : MetricType) (before : List Label) (labels : List HandedLabel) → LabelsFault k type before labels → ¬ (IsWritersFault k)
+LabelsFault-not_writing : (k : EncodeError) (type : MetricType) (before : List Label) (labels : List EmittedLabel) → LabelsFault k type before labels → ¬ (IsWritersFault k)
 LabelsFault-not_writing k type before [] fault = absurd fault
 LabelsFault-not_writing k type before (label ∷ labels) (inl fault) = LabelFault-not_writing k type before label fault
 LabelsFault-not_writing k type before (label ∷ labels) (inr fault) = LabelsFault-not_writing k type _ labels fault
@@ -32,12 +32,12 @@ NumberFault-not_writing Write numbers fault writing = fault
 NumberFault-not_writing WriteZero numbers fault writing = fault
 NumberFault-not_writing _ numbers fault writing = writing
 
-ExemplarFault-not_writing : (k : EncodeError) (exemplars : List HandedExemplar) → ExemplarFault k exemplars → ¬ (IsWritersFault k)
+ExemplarFault-not_writing : (k : EncodeError) (exemplars : List EmittedExemplar) → ExemplarFault k exemplars → ¬ (IsWritersFault k)
 ExemplarFault-not_writing k exemplars (inl (is, twice)) = is_other k ExemplarTwice is (λ never. never)
 ExemplarFault-not_writing k exemplars (inr (exemplar, there, inl fault)) = LabelsFault-not_writing k _ _ exemplar.labels fault
 ExemplarFault-not_writing k exemplars (inr (exemplar, there, inr (is, long))) = is_other k ExemplarTooLong is (λ never. never)
 
-BucketsFault-not_writing : (k : EncodeError) (buckets : List Bucket) (slots : List (List HandedExemplar)) → BucketsFault k buckets slots → ¬ (IsWritersFault k)
+BucketsFault-not_writing : (k : EncodeError) (buckets : List Bucket) (slots : List (List EmittedExemplar)) → BucketsFault k buckets slots → ¬ (IsWritersFault k)
 BucketsFault-not_writing k buckets slots (inl (is, overflow)) = is_other k BucketOverflow is (λ never. never)
 BucketsFault-not_writing k buckets slots (inr (exemplars, there, fault)) = ExemplarFault-not_writing k exemplars fault
 

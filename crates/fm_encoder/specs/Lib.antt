@@ -5,11 +5,11 @@ pub use Rattle.fm_labels.specs.Labels
 pub use Rattle.fm_labels.specs.OwnLabels
 pub use Rattle.fm_labels.specs.Refusals
 pub use Rattle.fm_labels.specs.LabelEncoders
-pub use Rattle.fm_labels.specs.Kept
+pub use Rattle.fm_labels.specs.WrittenLabels
 pub mod Points
 pub mod States
 pub mod Gathered
-pub mod Hands
+pub mod Emits
 pub mod Takes
 pub mod Buckets
 pub mod Offers

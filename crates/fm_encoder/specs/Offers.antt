@@ -5,7 +5,7 @@ use Rattle.fm_grammar.specs.declared.MetricType.{MetricType}
 use Rattle.fm_grammar.specs.Exposition.{Text, Label}
 use Rattle.fm_encode_error.specs.declared.EncodeError.{EncodeError}
 use Rattle.fm_encode_error.specs.declared.EncodeError.TheVariants.{MetricFault}
-use Rattle.fm_encoder.specs.Points.{Member, Context, MembersClean, MembersFault, members_samples}
+use Rattle.fm_encoder.specs.Points.{Member, Context, MembersValid, MembersFault, members_samples}
 
 -- the context of a family's members: its printed name, type, constant labels and timestamp
 abbrev pub context_at : Text → MetricType → List Label → Option ℕ → Context
@@ -15,7 +15,7 @@ context_at n type labels stamp = record { setting = record { name = n; metric_ty
 abbrev pub AdmitsSamples : (Option ℕ → List Member → Type 0) → (Option ℕ → Type 0) → Text → MetricType → List Label → List Sample → Type 0
 AdmitsSamples Offers Stamps name type constants samples =
     (members : List Member) × (stamp : Option ℕ) × Stamps stamp × Offers stamp members
-    × MembersClean (context_at name type constants stamp) members
+    × MembersValid (context_at name type constants stamp) members
     × (samples ≡ members_samples (context_at name type constants stamp) members)
 
 -- The fault is in an offer that the metric admits, or the metric declares that it may return an error of its own.

@@ -17,15 +17,15 @@ use Rattle.fm_raw.specs.BoundTests.{bound_text}
 use Rattle.fm_raw.specs.declared.bucket.bound.Bound.{Bound}
 use Rattle.fm_raw.specs.declared.bucket.bound.Bucket.{Bucket}
 use Rattle.fm_raw.specs.declared.quantile.Quantile.{Quantile}
-use Rattle.fm_labels.specs.Labels.{HandedLabel, LabelsFault, LabelsClean, all_written, handed_again, label_names}
+use Rattle.fm_labels.specs.Labels.{EmittedLabel, LabelsFault, LabelsValid, all_written, emitted_again, label_names}
 
 -- the whole milliseconds of a duration
 abbrev pub millis : Duration → ℕ
 millis duration = as_nanos duration / 1000000
 
 -- an exemplar as it is emitted; its value is in millionths, its time in milliseconds
-pub record HandedExemplar : Type 0 where
-  pub labels : List HandedLabel
+pub record EmittedExemplar : Type 0 where
+  pub labels : List EmittedLabel
   pub value : ℤ
   pub time : Option ℕ
 
@@ -36,16 +36,16 @@ pub record HandedExemplar : Type 0 where
 pub data Point : Type 0 where
   UnknownPoint : List Value → Point
   GaugePoint : List Value → Point
-  CounterPoint : List Value → List HandedExemplar → Option ℕ → Point
+  CounterPoint : List Value → List EmittedExemplar → Option ℕ → Point
   StateSetPoint : List (Text × Bool) → Point
-  InfoPoint : List HandedLabel → Point
-  HistogramPoint : List Bucket → List (List HandedExemplar) → ℕ → ℤ → Option ℕ → Point
-  GaugeHistogramPoint : List Bucket → List (List HandedExemplar) → ℕ → ℤ → Point
+  InfoPoint : List EmittedLabel → Point
+  HistogramPoint : List Bucket → List (List EmittedExemplar) → ℕ → ℤ → Option ℕ → Point
+  GaugeHistogramPoint : List Bucket → List (List EmittedExemplar) → ℕ → ℤ → Point
   SummaryPoint : List Quantile → ℤ → ℕ → Option ℕ → Point
 
 -- a member: its labels, each as its pieces, and its point
 pub record Member : Type 0 where
-  pub labels : List HandedLabel
+  pub labels : List EmittedLabel
   pub point : Point
 
 -- the setting of a metric's points: the family's printed name, its type, and its timestamp in milliseconds
@@ -71,8 +71,8 @@ type_of (GaugeHistogramPoint buckets slots count sum) = GaugeHistogram
 type_of (SummaryPoint quantiles sum count created) = Summary
 
 -- the source of a value wrote exactly one number
-abbrev pub NumberClean : List Value → Type 0
-NumberClean numbers = (number : Value) × (numbers ≡ number ∷ [])
+abbrev pub NumberValid : List Value → Type 0
+NumberValid numbers = (number : Value) × (numbers ≡ number ∷ [])
 
 abbrev pub NumberFault : EncodeError → List Value → Type 0
 NumberFault MissingValue numbers = numbers ≡ []
@@ -81,36 +81,36 @@ NumberFault _ numbers = ⊥
 
 -- The parts of one exemplar: valid labels of at most 128 code points. Exemplar labels have no reserved names, as those of an
 -- unknown metric have none.
-abbrev pub ExemplarPartsClean : HandedExemplar → Type 0
-ExemplarPartsClean exemplar = LabelsClean Unknown [] exemplar.labels × (label_code_points (all_written exemplar.labels) ≤ 128)
+abbrev pub ExemplarPartsValid : EmittedExemplar → Type 0
+ExemplarPartsValid exemplar = LabelsValid Unknown [] exemplar.labels × (label_code_points (all_written exemplar.labels) ≤ 128)
 
-abbrev pub ExemplarPartsFault : EncodeError → HandedExemplar → Type 0
+abbrev pub ExemplarPartsFault : EncodeError → EmittedExemplar → Type 0
 ExemplarPartsFault k exemplar = LabelsFault k Unknown [] exemplar.labels ⊎ ((k ≡ ExemplarTooLong) × (128 < label_code_points (all_written exemplar.labels)))
 
 -- the source of an exemplar wrote nothing, or one valid exemplar
-abbrev pub ExemplarClean : List HandedExemplar → Type 0
-ExemplarClean exemplars =
-    (exemplars ≡ []) ⊎ ((exemplar : HandedExemplar) × (exemplars ≡ exemplar ∷ []) × LabelsClean Unknown [] exemplar.labels
+abbrev pub ExemplarValid : List EmittedExemplar → Type 0
+ExemplarValid exemplars =
+    (exemplars ≡ []) ⊎ ((exemplar : EmittedExemplar) × (exemplars ≡ exemplar ∷ []) × LabelsValid Unknown [] exemplar.labels
     × (label_code_points (all_written exemplar.labels) ≤ 128))
 
-abbrev pub ExemplarFault : EncodeError → List HandedExemplar → Type 0
+abbrev pub ExemplarFault : EncodeError → List EmittedExemplar → Type 0
 ExemplarFault k exemplars =
     ((k ≡ ExemplarTwice) × (2 ≤ length exemplars))
-    ⊎ ((exemplar : HandedExemplar) × Contains exemplars exemplar × ExemplarPartsFault k exemplar)
+    ⊎ ((exemplar : EmittedExemplar) × Contains exemplars exemplar × ExemplarPartsFault k exemplar)
 
 -- how many values the buckets have together
 abbrev pub values_in : List Bucket → ℕ
 values_in = sum_by (λ bucket. bucket.count)
 
 -- each bucket has a slot, the buckets have fewer than 2^64 values, and each slot is valid
-abbrev pub BucketsClean : List Bucket → List (List HandedExemplar) → Type 0
-BucketsClean buckets slots = (length slots ≡ length buckets) × (values_in buckets < 2 ^ 64) × AllByRecursion ExemplarClean slots
+abbrev pub BucketsValid : List Bucket → List (List EmittedExemplar) → Type 0
+BucketsValid buckets slots = (length slots ≡ length buckets) × (values_in buckets < 2 ^ 64) × AllByRecursion ExemplarValid slots
 
 -- too many values, or the fault of a slot
-abbrev pub BucketsFault : EncodeError → List Bucket → List (List HandedExemplar) → Type 0
+abbrev pub BucketsFault : EncodeError → List Bucket → List (List EmittedExemplar) → Type 0
 BucketsFault k buckets slots =
     ((k ≡ BucketOverflow) × (2 ^ 64 ≤ values_in buckets))
-    ⊎ ((exemplars : List HandedExemplar) × Contains slots exemplars × ExemplarFault k exemplars)
+    ⊎ ((exemplars : List EmittedExemplar) × Contains slots exemplars × ExemplarFault k exemplars)
 
 -- the point has buckets, and slots of another number
 abbrev pub SlotsDiffer : Point → Type 0
@@ -119,15 +119,15 @@ SlotsDiffer (GaugeHistogramPoint buckets slots count sum) = ¬ (length slots ≡
 SlotsDiffer _ = ⊥
 
 -- the parts of a point of its family's type are valid, under these common labels
-abbrev pub PartsClean : Setting → List Label → Point → Type 0
-PartsClean setting common (UnknownPoint numbers) = NumberClean numbers
-PartsClean setting common (GaugePoint numbers) = NumberClean numbers
-PartsClean setting common (CounterPoint numbers exemplars created) = NumberClean numbers × ExemplarClean exemplars
-PartsClean setting common (StateSetPoint states) = (states ≡ []) ⊎ (¬ (Contains (label_names common) setting.name))
-PartsClean setting common (InfoPoint labels) = LabelsClean setting.metric_type common labels
-PartsClean setting common (HistogramPoint buckets slots count sum created) = BucketsClean buckets slots
-PartsClean setting common (GaugeHistogramPoint buckets slots count sum) = BucketsClean buckets slots
-PartsClean setting common (SummaryPoint quantiles sum count created) = Unit {0}
+abbrev pub PartsValid : Setting → List Label → Point → Type 0
+PartsValid setting common (UnknownPoint numbers) = NumberValid numbers
+PartsValid setting common (GaugePoint numbers) = NumberValid numbers
+PartsValid setting common (CounterPoint numbers exemplars created) = NumberValid numbers × ExemplarValid exemplars
+PartsValid setting common (StateSetPoint states) = (states ≡ []) ⊎ (¬ (Contains (label_names common) setting.name))
+PartsValid setting common (InfoPoint labels) = LabelsValid setting.metric_type common labels
+PartsValid setting common (HistogramPoint buckets slots count sum created) = BucketsValid buckets slots
+PartsValid setting common (GaugeHistogramPoint buckets slots count sum) = BucketsValid buckets slots
+PartsValid setting common (SummaryPoint quantiles sum count created) = Unit {0}
 
 abbrev pub PartsFault : EncodeError → Setting → List Label → Point → Type 0
 PartsFault k setting common (UnknownPoint numbers) = NumberFault k numbers
@@ -149,13 +149,13 @@ abbrev pub PointFault : EncodeError → Setting → List Label → Point → Typ
 PointFault k setting common point = HeadFault k setting point ⊎ PartsFault k setting common point
 
 -- an exemplar as a sample has it
-abbrev pub written_as : HandedExemplar → Exemplar
-written_as handed = record { labels = all_written handed.labels; value = handed.value; time = handed.time }
+abbrev pub written_as : EmittedExemplar → Exemplar
+written_as emitted = record { labels = all_written emitted.labels; value = emitted.value; time = emitted.time }
 
 -- the exemplar that a sample has, if any
-abbrev pub written_exemplar : List HandedExemplar → Option Exemplar
+abbrev pub written_exemplar : List EmittedExemplar → Option Exemplar
 written_exemplar [] = None
-written_exemplar (handed ∷ more) = Some (written_as handed)
+written_exemplar (emitted ∷ more) = Some (written_as emitted)
 
 -- the own label of a bucket with this bound
 abbrev pub bound_label : Bound → Label
@@ -171,7 +171,7 @@ module _ (setting : Setting) (common : List Label) where
   abbrev pub created_samples : Option ℕ → List Sample
   created_samples created = map (λ t. plain_sample Created [] (Millis t)) (option_to_list created)
 
-  abbrev pub total_sample : List HandedExemplar → Value → Sample
+  abbrev pub total_sample : List EmittedExemplar → Value → Sample
   total_sample exemplars number = record (plain_sample Total [] number) { exemplar = written_exemplar exemplars }
 
   -- 1 for a state that is on, else 0
@@ -180,16 +180,16 @@ module _ (setting : Setting) (common : List Label) where
       plain_sample Plain (record { name = setting.name; value = state.0 } ∷ []) (Whole (pos (if state.1 then 1 else 0)))
 
   -- a sample that shows this number of values up to the bound
-  abbrev pub bucket_line : Bound → ℕ → List HandedExemplar → Sample
+  abbrev pub bucket_line : Bound → ℕ → List EmittedExemplar → Sample
   bucket_line bound values exemplars =
       record (plain_sample BucketKind (bound_label bound ∷ []) (Whole (pos values))) { exemplar = written_exemplar exemplars }
 
   -- the sample of a bucket after others: it shows how many values these and the bucket have together
-  abbrev pub bucket_sample : List Bucket → Bucket → List HandedExemplar → Sample
+  abbrev pub bucket_sample : List Bucket → Bucket → List EmittedExemplar → Sample
   bucket_sample before bucket exemplars = bucket_line bucket.upper_bound (values_in (before ++ bucket ∷ [])) exemplars
 
   -- a sample for each bucket and its slot
-  abbrev pub bucket_samples : List Bucket → List Bucket → List (List HandedExemplar) → List Sample
+  abbrev pub bucket_samples : List Bucket → List Bucket → List (List EmittedExemplar) → List Sample
   bucket_samples before (bucket ∷ buckets) (exemplars ∷ slots) =
       bucket_sample before bucket exemplars ∷ bucket_samples (before ++ bucket ∷ []) buckets slots
   bucket_samples before _ _ = []
@@ -220,31 +220,31 @@ module _ (setting : Setting) (common : List Label) where
       map quantile_sample quantiles ++ (total_samples Count Sum count sum ++ created_samples created)
 
 -- the point has its family's type, its parts are valid, and its samples are well formed
-pub record PointClean (setting : Setting) (common : List Label) (point : Point) : Type 0 where
+pub record PointValid (setting : Setting) (common : List Label) (point : Point) : Type 0 where
   pub type : type_of point ≡ setting.metric_type
-  pub parts : PartsClean setting common point
+  pub parts : PartsValid setting common point
   pub formed : AllByRecursion (IsSample setting.metric_type) (point_samples setting common point)
 
 -- the labels that come first in each sample of a member: the constant ones, and then the member's
-abbrev pub common_handed : Context → Member → List HandedLabel
-common_handed context member = handed_again context.constants ++ member.labels
+abbrev pub common_emitted : Context → Member → List EmittedLabel
+common_emitted context member = emitted_again context.constants ++ member.labels
 
 abbrev pub common_written : Context → Member → List Label
-common_written context member = all_written (common_handed context member)
+common_written context member = all_written (common_emitted context member)
 
-abbrev pub MemberClean : Context → Member → Type 0
-MemberClean context member =
-    LabelsClean context.setting.metric_type [] (common_handed context member)
-    × PointClean context.setting (common_written context member) member.point
+abbrev pub MemberValid : Context → Member → Type 0
+MemberValid context member =
+    LabelsValid context.setting.metric_type [] (common_emitted context member)
+    × PointValid context.setting (common_written context member) member.point
 
 -- the fault is in the member
 abbrev pub MemberFault : EncodeError → Context → Member → Type 0
 MemberFault k context member =
-    LabelsFault k context.setting.metric_type [] (common_handed context member)
+    LabelsFault k context.setting.metric_type [] (common_emitted context member)
     ⊎ PointFault k context.setting (common_written context member) member.point
 
-abbrev pub MembersClean : Context → List Member → Type 0
-MembersClean context = AllByRecursion (MemberClean context)
+abbrev pub MembersValid : Context → List Member → Type 0
+MembersValid context = AllByRecursion (MemberValid context)
 
 -- the fault is in one of the members
 abbrev pub MembersFault : EncodeError → Context → List Member → Type 0

@@ -2,16 +2,16 @@
 ghost use Rattle.std.specs.Prelude.{◌≡◌, ◌⊎◌, ◌++◌, [], None, OnOk, OnErr, IfOk, IfErr, IfSome, MatchResult};
 ghost use Rattle.fm_encode_error.specs.declared.EncodeError.{EncodeError};
 ghost use Rattle.fm_exposition.specs.Samples.{labels_of};
-ghost use Rattle.fm_labels.specs.Labels.{LabelsClean, LabelsFault, all_written, handed_again};
-ghost use Rattle.fm_labels.specs.Refusals.{OwnRefusal};
-ghost use Rattle.fm_labels.specs.Kept.{Keeps};
+ghost use Rattle.fm_labels.specs.Labels.{LabelsValid, LabelsFault, all_written, emitted_again};
+ghost use Rattle.fm_labels.specs.Refusals.{OwnRefusal, NoFault};
+ghost use Rattle.fm_labels.specs.WrittenLabels.{AreWritten};
 
 use fm_encode_error::EncodeError;
 use fm_grammar::MetricType;
 use fm_labels::gathered::read_labels;
-use fm_labels::kept::KeptLabels;
 use fm_labels::label::LabelSetEncoder;
 use fm_labels::label_set::{EncodeLabelSet, encode_written};
+use fm_labels::written_labels::WrittenLabels;
 use fm_text::LabelText;
 use std::alloc::{AllocError, Global};
 use std::marker::Model;
@@ -23,9 +23,9 @@ fn tested(
     labels: &[(String, String)],
 ) -> Result<LabelText, EncodeError>
     ensures { MatchResult result
-        (λ ls. LabelsClean metric_type [] (handed_again (labels_of labels.now))
-        × (ls.labels ≡ all_written (handed_again (labels_of labels.now))))
-        (λ k. OwnRefusal ⊥ k ⊎ LabelsFault k metric_type [] (handed_again (labels_of labels.now))) }
+        (λ ls. LabelsValid metric_type [] (emitted_again (labels_of labels.now))
+        × (ls.labels ≡ all_written (emitted_again (labels_of labels.now))))
+        (λ k. OwnRefusal NoFault k ⊎ LabelsFault k metric_type [] (emitted_again (labels_of labels.now))) }
 {
     let mut encoder = LabelSetEncoder::new(alloc, metric_type);
     let visited = encode_written(labels, &mut encoder);
@@ -37,21 +37,21 @@ fn tested(
 // label that the encoder has.
 fn add_labels<LS: EncodeLabelSet>(
     encoder: &mut LabelSetEncoder,
-    kept: Option<&KeptLabels>,
+    written: Option<&WrittenLabels>,
     labels: &LS,
 ) -> Result<(), EncodeError>
     requires accepting { encoder.old.refused ≡ None }
-    requires kept { IfSome kept (λ k. Keeps (LS.labels labels.now) k.now) }
+    requires written { IfSome written (λ k. AreWritten (LS.labels labels.now) k.now) }
     ensures type_kept { encoder.new.metric_type ≡ encoder.old.metric_type }
     ensures gathered { MatchResult result
-        (λ _. LabelsClean encoder.old.metric_type encoder.old.labels (LS.labels labels.now)
+        (λ _. LabelsValid encoder.old.metric_type encoder.old.labels (LS.labels labels.now)
         × (encoder.new.labels ≡ encoder.old.labels ++ all_written (LS.labels labels.now)))
         (λ k. OwnRefusal (LS.may_fault labels.now) k
         ⊎ LabelsFault k encoder.old.metric_type encoder.old.labels (LS.labels labels.now)) }
 {
-    if let Some(kept) = kept {
-        if !encoder.text().has_name_of(&kept.labels) {
-            return Ok(encoder.append(&kept.labels)?);
+    if let Some(written) = written {
+        if !encoder.text().has_name_of(&written.labels) {
+            return Ok(encoder.append(&written.labels)?);
         }
     }
     read_labels(encoder, labels)
@@ -129,15 +129,15 @@ impl ConstantLabels {
     pub(crate) fn followed_by<LS: EncodeLabelSet>(
         &self,
         encoder: &mut LabelSetEncoder,
-        kept: Option<&KeptLabels>,
+        written: Option<&WrittenLabels>,
         labels: &LS,
     ) -> Result<(), EncodeError>
         requires of_type { self.now.metric_type ≡ encoder.old.metric_type }
-        requires kept { IfSome kept (λ k. Keeps (LS.labels labels.now) k.now) }
+        requires written { IfSome written (λ k. AreWritten (LS.labels labels.now) k.now) }
         ensures type_kept { encoder.new.metric_type ≡ encoder.old.metric_type }
-        ensures gathered { let all = handed_again self.now.labels ++ LS.labels labels.now in
+        ensures gathered { let all = emitted_again self.now.labels ++ LS.labels labels.now in
             MatchResult result
-            (λ _. LabelsClean encoder.old.metric_type [] all
+            (λ _. LabelsValid encoder.old.metric_type [] all
             × (encoder.new.labels ≡ all_written all))
             (λ k. OwnRefusal (LS.may_fault labels.now) k
             ⊎ LabelsFault k encoder.old.metric_type [] all) }
@@ -147,9 +147,9 @@ impl ConstantLabels {
         }
         if self.labels.len() > 0 {
             encoder.restart(&self.labels)?;
-            add_labels(encoder, kept, labels)?;
-        } else if let Some(kept) = kept {
-            encoder.restart(&kept.labels)?;
+            add_labels(encoder, written, labels)?;
+        } else if let Some(written) = written {
+            encoder.restart(&written.labels)?;
         } else {
             encoder.begin(self.metric_type);
             read_labels(encoder, labels)?;

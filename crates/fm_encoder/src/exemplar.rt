@@ -4,10 +4,10 @@ ghost use Rattle.std.specs.Option.{option_map};
 ghost use Rattle.fm_grammar.specs.declared.MetricType.TheVariants.{Unknown};
 ghost use Rattle.fm_grammar.specs.WellFormed.{IsBetween, IsExemplar, AreMillis};
 ghost use Rattle.fm_exposition.specs.Samples.{labels_of, exemplar_of};
-ghost use Rattle.fm_labels.specs.Labels.{LabelsClean, LabelsFault, all_written};
-ghost use Rattle.fm_encoder.specs.Points.{HandedExemplar, ExemplarPartsClean, ExemplarPartsFault, ExemplarClean, ExemplarFault, written_as, written_exemplar, millis};
+ghost use Rattle.fm_labels.specs.Labels.{LabelsValid, LabelsFault, all_written};
+ghost use Rattle.fm_encoder.specs.Points.{EmittedExemplar, ExemplarPartsValid, ExemplarPartsFault, ExemplarValid, ExemplarFault, written_as, written_exemplar, millis};
 ghost use Rattle.fm_labels.specs.Refusals.{OwnRefusal};
-ghost use Rattle.fm_encoder.specs.Hands.{HandsExemplars};
+ghost use Rattle.fm_encoder.specs.Emits.{EmitsExemplars};
 ghost use Rattle.fm_encoder.specs.Takes.{TakesExemplars};
 
 use fm_encode_error::EncodeError;
@@ -31,14 +31,14 @@ pub use labeled::LabeledExemplar;
 /// A source of an exemplar, or of none.
 pub trait EncodeExemplar {
     /// The exemplars that `encode` emits. A point whose source emits more than one is refused.
-    ghost exemplars: { Self → List HandedExemplar };
+    ghost exemplars: { Self → List EmittedExemplar };
 
     /// `encode` may return an error of its own other than `Memory`.
     ghost may_fault: { Self → Type 0 } = { λ _. ⊥ };
 
     /// Passes the exemplar to the encoder.
     fn encode(&self, encoder: &mut ExemplarEncoder) -> Result<(), EncodeError>
-        ensures { HandsExemplars (exemplars self.now) (may_fault self.now)
+        ensures { EmitsExemplars (exemplars self.now) (may_fault self.now)
             encoder.old encoder.new result };
 }
 
@@ -116,13 +116,13 @@ fn exemplar_from<LS: EncodeLabelSet>(
     value: Fixed,
     time: Option<Duration>,
 ) -> Result<Exemplar, EncodeError>
-    ensures { let handed : HandedExemplar =
+    ensures { let emitted : EmittedExemplar =
         record { labels = LS.labels labels.now; value = value; time = option_map millis time } in
         MatchResult result
-        (λ x. ExemplarPartsClean handed
-        × (exemplar_of x ≡ written_as handed)
+        (λ x. ExemplarPartsValid emitted
+        × (exemplar_of x ≡ written_as emitted)
         × IsExemplar (exemplar_of x))
-        (λ k. OwnRefusal (LS.may_fault labels.now) k ⊎ ExemplarPartsFault k handed) }
+        (λ k. OwnRefusal (LS.may_fault labels.now) k ⊎ ExemplarPartsFault k emitted) }
 {
     let written = written_labels(alloc, labels)?;
     if !are_short(&written) {
@@ -157,7 +157,7 @@ fn written_labels<LS: EncodeLabelSet>(
     labels: &LS,
 ) -> Result<Vec<(String, String)>, EncodeError>
     ensures { MatchResult result
-        (λ ls. LabelsClean Unknown [] (LS.labels labels.now)
+        (λ ls. LabelsValid Unknown [] (LS.labels labels.now)
         × (labels_of ls.items ≡ all_written (LS.labels labels.now)))
         (λ k. OwnRefusal (LS.may_fault labels.now) k
         ⊎ LabelsFault k Unknown [] (LS.labels labels.now)) }
@@ -174,7 +174,7 @@ pub(crate) fn exemplar_given<E: EncodeExemplar>(
     exemplar: &E,
 ) -> Result<Option<Exemplar>, EncodeError>
     ensures { MatchResult result
-        (λ found. ExemplarClean (E.exemplars exemplar.now)
+        (λ found. ExemplarValid (E.exemplars exemplar.now)
         × (option_map exemplar_of found ≡ written_exemplar (E.exemplars exemplar.now))
         × IfSome found (λ x. IsExemplar (exemplar_of x)))
         (λ k. OwnRefusal (E.may_fault exemplar.now) k

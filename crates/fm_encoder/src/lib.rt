@@ -14,9 +14,9 @@ pub mod value;
 pub mod collector {
     //! What the collector and families call, and no metric.
     pub use crate::metric::collector::{
-        begin_family, encode_kept, for_family, for_lines, into_parts, outcome,
+        begin_family, encode_member, for_family, for_lines, into_parts, outcome,
     };
-    pub use fm_labels::KeptLabels;
+    pub use fm_labels::WrittenLabels;
 }
 
 pub use exemplar::{

@@ -5,8 +5,9 @@ ghost use Rattle.fm_grammar.specs.declared.MetricType.{MetricType};
 ghost use Rattle.fm_encoder.specs.Points.{Member, UnknownPoint, GaugePoint, CounterPoint, StateSetPoint, InfoPoint, HistogramPoint, GaugeHistogramPoint, SummaryPoint, millis};
 ghost use Rattle.fm_encoder.specs.Buckets.{slots_of, MaySlotsFault};
 ghost use Rattle.fm_encoder.specs.States.{state_of};
-ghost use Rattle.fm_encoder.specs.Hands.{HandsMembers, MembersOf};
+ghost use Rattle.fm_encoder.specs.Emits.{EmitsMembers, MembersOf};
 ghost use Rattle.fm_encoder.specs.Takes.{TakesMembers};
+ghost use Rattle.fm_labels.specs.Refusals.{NoFault};
 
 use crate::constants::ConstantLabels;
 use crate::exemplar::EncodeExemplar;
@@ -46,7 +47,7 @@ pub trait EncodeMetric: Send + Sync + Drop {
 
     /// Offers the metric's members to the encoder. It may wait if they are under a lock.
     fn encode(&self, encoder: &mut MetricEncoder) -> Result<(), EncodeError>
-        ensures { HandsMembers
+        ensures { EmitsMembers
             (offers self.now encoder.old.context.setting.time) (may_fault self.now)
             encoder.old encoder.new result };
 
@@ -130,7 +131,7 @@ impl MetricEncoder {
             (LS.may_fault labels.now ⊎ P.may_fault point.now)
             self.old self.new result }
     {
-        collector::encode_kept(self, None, labels, point)
+        collector::encode_member(self, None, labels, point)
     }
 
     /// Takes the point of an unknown metric without member labels, as `PointEncoder::encode_unknown` does.
@@ -167,7 +168,7 @@ impl MetricEncoder {
           point = CounterPoint (V.numbers total.now)
               (option_map_or (λ e. E.exemplars e.now) exemplar.entry [])
               (option_map millis created);
-        } ∷ []) (V.may_fault total.now ⊎ MatchOption exemplar.entry ⊥ (λ e. E.may_fault e.now))
+        } ∷ []) (V.may_fault total.now ⊎ MatchOption exemplar.entry NoFault (λ e. E.may_fault e.now))
             self.old self.new result }
     {
         self.points.begin_member(&self.constants, None, &())?;
@@ -179,7 +180,7 @@ impl MetricEncoder {
         ensures { TakesMembers (λ ms. ms ≡ record {
           labels = [];
           point = StateSetPoint (map state_of states.entry.items);
-        } ∷ []) ⊥ self.old self.new result }
+        } ∷ []) NoFault self.old self.new result }
     {
         self.points.begin_member(&self.constants, None, &())?;
         self.points.encode_stateset(states)
@@ -245,7 +246,7 @@ impl MetricEncoder {
         ensures { TakesMembers (λ ms. ms ≡ record {
           labels = [];
           point = SummaryPoint quantiles.now sum count (option_map millis created);
-        } ∷ []) ⊥ self.old self.new result }
+        } ∷ []) NoFault self.old self.new result }
     {
         self.points.begin_member(&self.constants, None, &())?;
         self.points.encode_summary(quantiles, sum, count, created)

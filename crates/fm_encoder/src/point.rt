@@ -10,11 +10,11 @@ ghost use Rattle.fm_exposition.specs.Samples.{value_of, exemplar_of};
 ghost use Rattle.fm_writer.specs.Heads.{headed};
 ghost use Rattle.fm_writer.specs.Output.{AreShared, with_lines};
 ghost use Rattle.fm_encoder.specs.Points.{Point};
-ghost use Rattle.fm_labels.specs.Labels.{handed_again};
+ghost use Rattle.fm_labels.specs.Labels.{emitted_again};
 ghost use Rattle.fm_labels.specs.inside.FreeLabels.{AreFree};
 ghost use Rattle.fm_labels.specs.Refusals.{IsOutcome, result_of, Takes};
-ghost use Rattle.fm_encoder.specs.Hands.{HandsPoints};
-ghost use Rattle.fm_labels.specs.Kept.{Keeps};
+ghost use Rattle.fm_encoder.specs.Emits.{EmitsPoints};
+ghost use Rattle.fm_labels.specs.WrittenLabels.{AreWritten};
 ghost use Rattle.fm_encoder.specs.inside.Steps.{FitsType, BeginsPoint, BeginsMember, PushesSample, EndsPoints};
 
 use crate::constants::ConstantLabels;
@@ -23,9 +23,9 @@ use fm_encode_error::EncodeError;
 use fm_exposition::{Exemplar, Value};
 use fm_grammar::{MetricType, SampleKind};
 use fm_labels::first_refusal::{FirstRefusal, own_refusal};
-use fm_labels::kept::KeptLabels;
 use fm_labels::label::LabelSetEncoder;
 use fm_labels::label_set::EncodeLabelSet;
+use fm_labels::written_labels::WrittenLabels;
 use fm_text::{GrowingText, LabelText};
 use fm_writer::{FamilyHead, NewSample, Sink};
 use std::alloc::Global;
@@ -49,7 +49,7 @@ pub trait EncodePoint {
 
     /// Passes the point to the encoder. It may wait if its value is under a lock.
     fn encode(&self, encoder: &mut PointEncoder) -> Result<(), EncodeError>
-        ensures { HandsPoints (points self.now) (may_fault self.now)
+        ensures { EmitsPoints (points self.now) (may_fault self.now)
             encoder.old encoder.new result };
 }
 
@@ -147,7 +147,7 @@ impl PointEncoder {
         ensures output { OnOk result
             (self.new.output
             ≡ with_lines self.old.output (head_rows (headed (string_bytes name.old) head.entry))) }
-        ensures answered { result ≡ result_of self.new.refused }
+        ensures returned { result ≡ result_of self.new.refused }
         ensures memory { IfErr result (λ e. e ≡ EncodeError.Memory) }
     {
         mem::swap(&mut self.name, name);
@@ -278,19 +278,19 @@ impl PointEncoder {
     pub(crate) fn begin_member<LS: EncodeLabelSet>(
         &mut self,
         constants: &ConstantLabels,
-        kept: Option<&KeptLabels>,
+        written: Option<&WrittenLabels>,
         labels: &LS,
     ) -> Result<(), EncodeError>
         requires of_type { constants.now.metric_type ≡ self.old.setting.metric_type }
-        requires kept { IfSome kept (λ k. Keeps (LS.labels labels.now) k.now) }
+        requires written { IfSome written (λ k. AreWritten (LS.labels labels.now) k.now) }
         ensures { Takes (BeginsMember
-            (handed_again constants.now.labels ++ LS.labels labels.now)
+            (emitted_again constants.now.labels ++ LS.labels labels.now)
             (LS.may_fault labels.now)
             self.old self.new) self.new.refused result }
     {
         self.refused.check()?;
         self.sink.unshare();
-        match constants.followed_by(&mut self.labels, kept, labels) {
+        match constants.followed_by(&mut self.labels, written, labels) {
             Ok(()) => self.deferred = None,
             Err(error) => {
                 let metric_type = self.labels.metric_type();

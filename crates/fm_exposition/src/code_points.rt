@@ -12,13 +12,13 @@ pub fn are_short(labels: &[(String, String)]) -> bool
 {
     let mut left = MAX_CODE_POINTS;
     for (name, value) in labels {
-        let Some(behind_name) = left.checked_sub(code_points(name)) else {
+        let Some(after_name) = left.checked_sub(code_points(name)) else {
             return false;
         };
-        let Some(behind_value) = behind_name.checked_sub(code_points(value)) else {
+        let Some(after_value) = after_name.checked_sub(code_points(value)) else {
             return false;
         };
-        left = behind_value;
+        left = after_value;
     }
     true
 }

@@ -122,9 +122,9 @@ fn same_joined_labels(one: &Sample, other: &Sample) -> bool
     ensures { result
         ≡ pointwise same_label (sample_of one.now).labels (sample_of other.now).labels }
 {
-    for place in 0..usize::MAX {
-        let label = one.label(place);
-        if !is_same_label(label, other.label(place)) {
+    for index in 0..usize::MAX {
+        let label = one.label(index);
+        if !is_same_label(label, other.label(index)) {
             return false;
         }
         if label.is_none() {

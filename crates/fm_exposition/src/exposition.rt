@@ -154,10 +154,10 @@ impl Sample {
     }
 
     /// The name and the value of the label at an index, or None if there is none.
-    pub fn label(&self, place: usize) -> Option<(&str, &str)>
-        ensures { option_map shown_label result ≡ slice_get (sample_of self.now).labels place }
+    pub fn label(&self, index: usize) -> Option<(&str, &str)>
+        ensures { option_map shown_label result ≡ slice_get (sample_of self.now).labels index }
     {
-        let label = joined_at(&self.common, &self.own, place)?;
+        let label = joined_at(&self.common, &self.own, index)?;
         Some((label.0.as_str(), label.1.as_str()))
     }
 
@@ -199,10 +199,10 @@ impl Exemplar {
     }
 
     /// The name and the value of the label at an index, or None if there is none.
-    pub fn label(&self, place: usize) -> Option<(&str, &str)>
-        ensures { option_map shown_label result ≡ slice_get (exemplar_of self.now).labels place }
+    pub fn label(&self, index: usize) -> Option<(&str, &str)>
+        ensures { option_map shown_label result ≡ slice_get (exemplar_of self.now).labels index }
     {
-        label_at(&self.labels, place)
+        label_at(&self.labels, index)
     }
 
     /// The exemplar's value.
@@ -221,10 +221,10 @@ impl Exemplar {
 }
 
 // The name and the value of the label at an index of a list.
-fn label_at(labels: &[(String, String)], place: usize) -> Option<(&str, &str)>
-    ensures { option_map shown_label result ≡ slice_get (labels_of labels.now) place }
+fn label_at(labels: &[(String, String)], index: usize) -> Option<(&str, &str)>
+    ensures { option_map shown_label result ≡ slice_get (labels_of labels.now) index }
 {
-    let label = labels.get(place)?;
+    let label = labels.get(index)?;
     Some((label.0.as_str(), label.1.as_str()))
 }
 
@@ -233,13 +233,13 @@ fn label_at(labels: &[(String, String)], place: usize) -> Option<(&str, &str)>
 fn joined_at<'a>(
     front: &'a [(String, String)],
     back: &'a [(String, String)],
-    place: usize,
+    index: usize,
 ) -> Option<&'a (String, String)>
-    ensures { option_copied result ≡ slice_get (front.now ++ back.now) place }
+    ensures { option_copied result ≡ slice_get (front.now ++ back.now) index }
 {
-    if place < front.len() {
-        front.get(place)
+    if index < front.len() {
+        front.get(index)
     } else {
-        back.get(place - front.len())
+        back.get(index - front.len())
     }
 }

@@ -13,12 +13,12 @@ use Rattle.fm_family.specs.Members.{OffersFirst, OffersDifferent, GetsOrAdds, Ma
 use Rattle.fm_family.specs.inside.Indexed.{HoldsMetric}
 use Rattle.std.proofs.Math.Seq.{take-append_seam}
 use Rattle.fm_encode_error.specs.declared.EncodeError.{EncodeError}
-use Rattle.fm_labels.specs.Labels.{HandedLabel}
+use Rattle.fm_labels.specs.Labels.{EmittedLabel}
 use Rattle.fm_encoder.specs.Points.{Point, Member}
 use Rattle.fm_encoder.specs.Gathered.{GatheredMembers}
 use Rattle.fm_labels.specs.Refusals.{result_of}
-use Rattle.fm_encoder.specs.Hands.{HandsMembers, OffersOf, MembersOf}
-use Rattle.fm_encoder.proofs.MemberLemmas.{HandsMembers-then, HandsMembers-weaker, HandsMembers-more, OffersOf-push}
+use Rattle.fm_encoder.specs.Emits.{EmitsMembers, OffersOf, MembersOf}
+use Rattle.fm_encoder.proofs.MemberLemmas.{EmitsMembers-then, EmitsMembers-weaker, EmitsMembers-more, OffersOf-push}
 use Rattle.indexmap.specs.IndexMap.{IndexMap, get, get_by, insert_entry}
 use Rattle.indexmap.proofs.MapLemmas.{distinct-take}
 use Rattle.indexmap.proofs.CallerLemmas.{insert_entry-new}
@@ -38,8 +38,8 @@ none_from_flags a None e n = refl
 none_from_flags a (Some x) e n = cc (ap is_some n)
 
 -- the index of the last of a list
-pub last_place : {X : Type 0} (xs ys : List X) (x : X) (i : ℕ) → i ≡ length xs → ys ≡ xs ++ x ∷ [] → i < length ys
-last_place {X} xs ys x i h e = omega (arith, simp length-append at (ap length e))
+pub last_index : {X : Type 0} (xs ys : List X) (x : X) (i : ℕ) → i ≡ length xs → ys ≡ xs ++ x ∷ [] → i < length ys
+last_index {X} xs ys x i h e = omega (arith, simp length-append at (ap length e))
 
 -- the keys at the beginning
 pub keys_of-take : {L M : Type 0} (n : ℕ) (es : List (L × M)) → keys_of (take n es) ≡ take n (keys_of es)
@@ -48,27 +48,27 @@ keys_of-take (suc n) [] = refl
 keys_of-take (suc n) (e ∷ es) = ap (λ t. e.0 ∷ t) (keys_of-take n es)
 
 -- one pair more was offered
-pub offers_next : {L M : Type 0} {F : Type 0} (labels : L → List HandedLabel) (Points : M → List Point → Type 0) (pairs : List (L × M)) (pair : L × M) (old mid new : GatheredMembers) (r : Result (Unit {0}) EncodeError) → HandsMembers (OffersOf labels Points pairs) F old mid (Ok tt) → (old.refused ≡ None → mid.refused ≡ None) → HandsMembers (MembersOf (labels pair.0) (Points pair.1)) F mid new r → HandsMembers (OffersOf labels Points (pairs ++ pair ∷ [])) F old new r
+pub offers_next : {L M : Type 0} {F : Type 0} (labels : L → List EmittedLabel) (Points : M → List Point → Type 0) (pairs : List (L × M)) (pair : L × M) (old mid new : GatheredMembers) (r : Result (Unit {0}) EncodeError) → EmitsMembers (OffersOf labels Points pairs) F old mid (Ok tt) → (old.refused ≡ None → mid.refused ≡ None) → EmitsMembers (MembersOf (labels pair.0) (Points pair.1)) F mid new r → EmitsMembers (OffersOf labels Points (pairs ++ pair ∷ [])) F old new r
 offers_next labels Points pairs pair old mid new r before accepted one =
-    HandsMembers-weaker old new r (OffersOf-push labels Points pairs pair) (λ fault. fault) (HandsMembers-then old mid new (Ok tt) r before refl accepted one)
+    EmitsMembers-weaker old new r (OffersOf-push labels Points pairs pair) (λ fault. fault) (EmitsMembers-then old mid new (Ok tt) r before refl accepted one)
 
 -- the member at an index was offered after those before it
-pub offers_member : {L M : Type 0} (labels : L → List HandedLabel) (Points : M → List Point → Type 0) (label_faults : L → Type 0) (metric_faults : M → Type 0) (all : List (L × M)) (i : ℕ) (key : L) (metric : M) (old mid new : GatheredMembers) (r : Result (Unit {0}) EncodeError) → slice_get all i ≡ Some (key, metric)
-    → HandsMembers (OffersOf labels Points (take i all)) (Any (MayFault label_faults metric_faults) all) old mid (Ok tt) → (old.refused ≡ None → mid.refused ≡ None) → HandsMembers (MembersOf (labels key) (Points metric)) (label_faults key ⊎ metric_faults metric) mid new r
-    → HandsMembers (OffersOf labels Points (take (i + 1) all)) (Any (MayFault label_faults metric_faults) all) old new r
+pub offers_member : {L M : Type 0} (labels : L → List EmittedLabel) (Points : M → List Point → Type 0) (label_faults : L → Type 0) (metric_faults : M → Type 0) (all : List (L × M)) (i : ℕ) (key : L) (metric : M) (old mid new : GatheredMembers) (r : Result (Unit {0}) EncodeError) → slice_get all i ≡ Some (key, metric)
+    → EmitsMembers (OffersOf labels Points (take i all)) (Any (MayFault label_faults metric_faults) all) old mid (Ok tt) → (old.refused ≡ None → mid.refused ≡ None) → EmitsMembers (MembersOf (labels key) (Points metric)) (label_faults key ⊎ metric_faults metric) mid new r
+    → EmitsMembers (OffersOf labels Points (take (i + 1) all)) (Any (MayFault label_faults metric_faults) all) old new r
 offers_member {L} {M} labels Points label_faults metric_faults all i key metric old mid new r there before accepted one =
     let pair : L × M = (key, metric) in
     let within = slice_get_within all i pair there in
     let read = get_or_from_slice_get all i pair pair there in
-    let wider = HandsMembers-weaker {G = Any (MayFault label_faults metric_faults) all} mid new r (λ ms m. m) (λ (fault : label_faults key ⊎ metric_faults metric). (i, pair, within, read, fault)) one in
-    HandsMembers-more labels Points all i pair within (sym read) old mid new r before accepted wider
+    let wider = EmitsMembers-weaker {G = Any (MayFault label_faults metric_faults) all} mid new r (λ ms m. m) (λ (fault : label_faults key ⊎ metric_faults metric). (i, pair, within, read, fault)) one in
+    EmitsMembers-more labels Points all i pair within (sym read) old mid new r before accepted wider
 
 -- the pairs up to this one are the first of all
-pub offers_first : {L M : Type 0} (labels : L → List HandedLabel) (Points : M → List Point → Type 0) (all pairs rest : List (L × M)) → all ≡ pairs ++ rest → (ms : List Member) → OffersOf labels Points pairs ms → OffersFirst labels Points all ms
+pub offers_first : {L M : Type 0} (labels : L → List EmittedLabel) (Points : M → List Point → Type 0) (all pairs rest : List (L × M)) → all ≡ pairs ++ rest → (ms : List Member) → OffersOf labels Points pairs ms → OffersFirst labels Points all ms
 offers_first labels Points all pairs rest is ms offered = (length pairs, rw (is, take-append_seam pairs rest) offered)
 
 -- the first of pairs with different label sets have different label sets
-pub first_different : {L M : Type 0} (eq : L → L → Bool) → IsEquivalence eq → (labels : L → List HandedLabel) (Points : M → List Point → Type 0) (pairs : List (L × M)) → IsDistinct eq (keys_of pairs) → (ms : List Member) → OffersFirst labels Points pairs ms → OffersDifferent eq labels Points ms
+pub first_different : {L M : Type 0} (eq : L → L → Bool) → IsEquivalence eq → (labels : L → List EmittedLabel) (Points : M → List Point → Type 0) (pairs : List (L × M)) → IsDistinct eq (keys_of pairs) → (ms : List Member) → OffersFirst labels Points pairs ms → OffersDifferent eq labels Points ms
 first_different eq laws labels Points pairs different ms (n, offered) = (take n pairs, rw keys_of-take (distinct-take laws n (keys_of pairs) different), offered)
 
 -- the encoder accepted if it returns `Ok`
@@ -107,8 +107,8 @@ pub gets_refused : {L M A B : Type 0} (is_clone : L → L → Type 0) (eq : L �
 gets_refused is_clone eq promises labels old new tells says e h = h
 
 -- the index of the last pair has its metric
-pub holds_last : {L M : Type 0} (old new : List (L × M)) (k : L) (m : M) (place : ℕ) → place ≡ length old → new ≡ old ++ (k, m) ∷ [] → HoldsMetric new place m
-holds_last old new k m place at added = rw (at, added) (last_value old k m)
+pub holds_last : {L M : Type 0} (old new : List (L × M)) (k : L) (m : M) (index : ℕ) → index ≡ length old → new ≡ old ++ (k, m) ∷ [] → HoldsMetric new index m
+holds_last old new k m index at added = rw (at, added) (last_value old k m)
 
 -- only a label set that is absent is refused
 pub refused_absent : {L M A : Type 0} (is_clone : L → L → Type 0) (eq : L → L → Bool) (promises : Result M MetricError → Type 0) (labels : L) (old new : List (L × M)) (tells : A → M → Type 0) (e : MetricError)

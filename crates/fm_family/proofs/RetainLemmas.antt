@@ -37,12 +37,12 @@ module _ {X P : Type 0} (R : P → X → Bool → P → Type 0) where
     pub ran : ReturnsInTurn R f answers xs g
     pub front : take n ys ≡ items_where_true answers xs
     pub rest : drop i ys ≡ drop i xs
-    pub behind : n ≤ i
+    pub beyond : n ≤ i
     pub long : length ys ≡ length xs
 
   -- before the first call
   pub kept_none : (f : P) (xs : List X) → KeptSoFar f f xs xs 0 0
-  kept_none f xs = record { answers = []; count = refl; ran = refl; front = refl; rest = refl; behind = omega arith; long = refl }
+  kept_none f xs = record { answers = []; count = refl; ran = refl; front = refl; rest = refl; beyond = omega arith; long = refl }
 
   module _ (f g h : P) (xs ys : List X) (n i : ℕ) (x : X) (so_far : KeptSoFar f g xs ys n i) (within : i < length ys) (read : slice_get ys i ≡ Some x) where
     both : get_or ys i x ∷ drop (i + 1) ys ≡ get_or xs i x ∷ drop (i + 1) xs
@@ -65,24 +65,24 @@ module _ {X P : Type 0} (R : P → X → Bool → P → Type 0) where
     -- an item that goes
     pub kept_not : R g x false h → KeptSoFar f h xs ys n (i + 1)
     kept_not call =
-        let behind = so_far.behind in
+        let beyond = so_far.beyond in
         record {
           answers = so_far.answers ++ false ∷ [];
           count = counted false;
           ran = turns_more f g h so_far.answers xs x false so_far.ran call same_read;
           front = so_far.front ∙ sym (items_more_false so_far.answers xs);
           rest = rest_more;
-          behind = omega arith;
+          beyond = omega arith;
           long = so_far.long;
         }
 
     -- an item that stays, which is moved to the end of those that stay
     pub kept_one : (zs : List X) → zs ≡ swap ys n i → R g x true h → KeptSoFar f h xs zs (n + 1) (i + 1)
     kept_one zs moved call =
-        let behind = so_far.behind in
+        let beyond = so_far.beyond in
         let is = moved ∙ sym (swap_is ys n i x (omega arith) within) in
         let long : length zs ≡ length ys = ap length moved ∙ length-swap ys n i in
-        let first : take n zs ≡ take n ys = ap (take n) is ∙ take-set-le n _ i _ behind ∙ take-set-le n ys n _ (omega arith) in
+        let first : take n zs ≡ take n ys = ap (take n) is ∙ take-set-le n _ i _ beyond ∙ take-set-le n ys n _ (omega arith) in
         let here : get_or zs n x ≡ x = (swapped_from_swap ys zs n i x (omega arith) within moved).0 ∙ get_or_from_slice_get ys i x x read in
         let after : drop (i + 1) zs ≡ drop (i + 1) ys = ap (drop (i + 1)) is ∙ drop-set-lt (i + 1) _ i _ (omega arith) ∙ drop-set-lt (i + 1) ys n _ (omega arith) in
         record {
@@ -91,6 +91,6 @@ module _ {X P : Type 0} (R : P → X → Bool → P → Type 0) where
           ran = turns_more f g h so_far.answers xs x true so_far.ran call same_read;
           front = take_more zs n x (omega arith) ∙ (λ j. first j ++ here j ∷ []) ∙ ap (λ t. t ++ x ∷ []) so_far.front ∙ sym (items_more_true so_far.answers xs x same_read);
           rest = after ∙ rest_more;
-          behind = omega arith;
+          beyond = omega arith;
           long = long ∙ so_far.long;
         }

@@ -1,4 +1,4 @@
-pub use Rattle.fm_encoder.specs.Hands
+pub use Rattle.fm_encoder.specs.Emits
 pub mod Members
 pub mod MemberLends
 pub mod inside

@@ -6,9 +6,9 @@ use Rattle.std.specs.Fn.{Called, Mut}
 use Rattle.std.specs.Map.{lookup, keys_of}
 use Rattle.fm_raw.specs.declared.error.MetricError.{MetricError}
 use Rattle.fm_raw.specs.declared.error.MetricError.TheVariants.{Memory}
-use Rattle.fm_labels.specs.Labels.{HandedLabel}
+use Rattle.fm_labels.specs.Labels.{EmittedLabel}
 use Rattle.fm_encoder.specs.Points.{Point, Member}
-use Rattle.fm_encoder.specs.Hands.{OffersOf}
+use Rattle.fm_encoder.specs.Emits.{OffersOf}
 
 -- each clone of a label set equals it
 abbrev pub ClonesEqual : {L : Type 0} → (L → L → Type 0) → (L → L → Bool) → Type 0
@@ -29,11 +29,11 @@ abbrev pub ShowsMetric : {M : Type 0} → Bor M → M → Type 0
 ShowsMetric r m = r.now ≡ m
 
 -- the members of the pairs at the beginning of a list
-abbrev pub OffersFirst : {L M : Type 0} → (L → List HandedLabel) → (M → List Point → Type 0) → List (L × M) → List Member → Type 0
+abbrev pub OffersFirst : {L M : Type 0} → (L → List EmittedLabel) → (M → List Point → Type 0) → List (L × M) → List Member → Type 0
 OffersFirst labels Points pairs members = (n : ℕ) × OffersOf labels Points (take n pairs) members
 
 -- the members of some pairs with pairwise different label sets
-abbrev pub OffersDifferent : {L M : Type 0} → (L → L → Bool) → (L → List HandedLabel) → (M → List Point → Type 0) → List Member → Type 0
+abbrev pub OffersDifferent : {L M : Type 0} → (L → L → Bool) → (L → List EmittedLabel) → (M → List Point → Type 0) → List Member → Type 0
 OffersDifferent {L} {M} eq labels Points members = (pairs : List (L × M)) × IsDistinct eq (keys_of pairs) × OffersOf labels Points pairs members
 
 -- the labels or the metric may return an error of their own

@@ -1,3 +1,3 @@
 -- What public contracts don't cite: views, stored forms, laws, and the words of private functions.
-pub mod Kept
+pub mod MemberLabels
 pub mod Indexed

@@ -156,8 +156,8 @@ impl<
         }
         drop(core);
         let mut core = shared.core.write(&self.wait);
-        let place = core.place_or_new(labels, &shared.factory)?;
-        Ok(f(core.at(place)))
+        let index = core.index_or_new(labels, &shared.factory)?;
+        Ok(f(core.at(index)))
     }
 }
 

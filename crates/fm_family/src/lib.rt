@@ -3,7 +3,7 @@
 
 pub mod factory;
 pub mod family;
-mod kept_members;
+mod member_map;
 pub mod members;
 pub mod pairs;
 pub mod texts;

@@ -3,15 +3,15 @@ ghost use Rattle.std.specs.Prelude.{◌≡◌, ◌<◌, ◌↔◌, IfOk, IsTrue,
 ghost use Rattle.std.specs.Borrow.{sem};
 ghost use Rattle.std.specs.List.Retain.{IsFiltered};
 ghost use Rattle.indexmap.specs.IndexMap.{get, values, IsUnique, shift_remove_entry};
-ghost use Rattle.fm_encoder.specs.Points.{Member, MembersClean, members_samples};
+ghost use Rattle.fm_encoder.specs.Points.{Member, MembersValid, members_samples};
 ghost use Rattle.fm_encoder.specs.Output.{appended};
-ghost use Rattle.fm_encoder.specs.Hands.{HandsMembers, OffersOf};
+ghost use Rattle.fm_encoder.specs.Emits.{EmitsMembers, OffersOf};
 ghost use Rattle.fm_family.specs.MemberLends.{ends_with_member};
 ghost use Rattle.fm_family.specs.Members.{ClonesEqual, GetsOrAdds, OffersFirst, MayFault, CalledAtMember};
 ghost use Rattle.fm_family.specs.inside.Indexed.{HoldsMetric};
 
 use crate::factory::MetricFactory;
-use crate::kept_members::KeptMembers;
+use crate::member_map::MemberMap;
 use fm_encode_error::EncodeError;
 use fm_encoder::{EncodeLabelSet, EncodePoint, MetricEncoder};
 use fm_raw::MetricError;
@@ -31,7 +31,7 @@ use std::hash::{BuildHasher, Hash};
 /// function or constant named `try_default` found").
 #[derive(Drop)]
 pub struct FamilyCore<LS: EncodeLabelSet + Eq + Hash, M, S: BuildHasher> {
-    members: KeptMembers<LS, M, S>,
+    members: MemberMap<LS, M, S>,
 }
 
 impl<LS: EncodeLabelSet + Eq + Hash, M, S: BuildHasher + Default> FamilyCore<LS, M, S> {
@@ -49,7 +49,7 @@ impl<LS: EncodeLabelSet + Eq + Hash, M, S: BuildHasher> FamilyCore<LS, M, S> {
         ensures { result.members.entries ≡ [] }
     {
         FamilyCore {
-            members: KeptMembers::with_hasher(alloc, hasher),
+            members: MemberMap::with_hasher(alloc, hasher),
         }
     }
 
@@ -76,17 +76,17 @@ impl<LS: EncodeLabelSet + Eq + Hash, M, S: BuildHasher> FamilyCore<LS, M, S> {
     }
 
     // The metric at an index of the list.
-    pub(crate) fn at(&self, place: usize) -> &M
-        requires { place < length self.now.members.entries }
-        ensures { slice_get (values self.now.members) place ≡ Some result.now }
+    pub(crate) fn at(&self, index: usize) -> &M
+        requires { index < length self.now.members.entries }
+        ensures { slice_get (values self.now.members) index ≡ Some result.now }
     {
-        self.members.at(place)
+        self.members.at(index)
     }
 }
 
 impl<LS: EncodeLabelSet + Clone + Eq + Hash + Drop, M: Drop, S: BuildHasher> FamilyCore<LS, M, S> {
     // The index of the metric of these labels, which the factory makes if there is none.
-    pub(crate) fn place_or_new<MF: MetricFactory<M>>(
+    pub(crate) fn index_or_new<MF: MetricFactory<M>>(
         &mut self,
         labels: &LS,
         factory: &MF,
@@ -99,14 +99,14 @@ impl<LS: EncodeLabelSet + Clone + Eq + Hash + Drop, M: Drop, S: BuildHasher> Fam
         ensures within { IfOk result (λ i. i < length self.new.members.entries) }
         ensures different { IsUnique LS.eq self.new.members }
     {
-        if let Some(place) = self.members.place_of(labels) {
-            return Ok(place);
+        if let Some(index) = self.members.index_of(labels) {
+            return Ok(index);
         }
         let metric = factory.new_metric()?;
-        let place = self.members.len();
+        let index = self.members.len();
         let key = labels.clone()?;
         self.members.add(key, metric)?;
-        Ok(place)
+        Ok(index)
     }
 
     /// The metric of these labels. If there is none, the factory makes one, which is added as the last, under a clone of the
@@ -127,8 +127,8 @@ impl<LS: EncodeLabelSet + Clone + Eq + Hash + Drop, M: Drop, S: BuildHasher> Fam
             labels.now LS.is_clone (MF.promises factory.now) result) }
         ensures there { IsSome (get LS.eq self.old.members labels.now) → IsOk result }
     {
-        match self.place_or_new(labels, factory) {
-            Ok(place) => Ok(self.at(place)),
+        match self.index_or_new(labels, factory) {
+            Ok(index) => Ok(self.at(index)),
             Err(refusal) => Err(refusal),
         }
     }
@@ -174,13 +174,13 @@ impl<LS: EncodeLabelSet + Eq + Hash, M: EncodePoint, S: BuildHasher> FamilyCore<
     /// Encodes each metric's points under its labels, in order, up to the first error, which is returned. It waits if a
     /// metric is protected by a lock.
     pub fn encode_members(&self, encoder: &mut MetricEncoder) -> Result<(), EncodeError>
-        ensures offered { HandsMembers (OffersFirst LS.labels M.points self.now.members.entries)
+        ensures offered { EmitsMembers (OffersFirst LS.labels M.points self.now.members.entries)
             (Any (MayFault LS.may_fault M.may_fault) self.now.members.entries)
             encoder.old encoder.new result }
         ensures all { encoder.old.refused ≡ None → encoder.new.refused ≡ None → result ≡ Ok tt
             → (ms : List Member)
             × OffersOf LS.labels M.points self.now.members.entries ms
-            × MembersClean encoder.old.context ms
+            × MembersValid encoder.old.context ms
             × (encoder.new.output
             ≡ appended encoder.old.context.setting.name encoder.old.output
             (members_samples encoder.old.context ms)) }

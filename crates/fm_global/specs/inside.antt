@@ -1,2 +1,2 @@
 -- What public contracts don't cite: views, stored forms, laws, and the words of private functions.
-pub mod Kept
+pub mod Protected

@@ -19,12 +19,12 @@ pub struct SetRegistryError;
 
 // The registry protected by the lock, and whether it was set or used.
 #[derive(Drop)]
-pub(crate) struct Kept<M> {
+pub(crate) struct Protected<M> {
     pub(crate) registry: Registry<M>,
     pub(crate) is_initialized: AtomicBool,
 }
 
-impl<M> Model for Kept<M> {
+impl<M> Model for Protected<M> {
     ghost use Rattle.fm_registry_model.specs.Tree.{Tree};
     ghost use Rattle.fm_registry_model.specs.inside.TreeCode.{tree_code};
 
@@ -34,12 +34,12 @@ impl<M> Model for Kept<M> {
 
     ghost view = { λ k. k.registry };
 
-    ghost use Rattle.fm_global.specs.inside.Kept.{IsSound};
+    ghost use Rattle.fm_global.specs.inside.Protected.{IsSound};
 
     ghost invariant = { IsSound };
 }
 
-impl<M> Kept<M> {
+impl<M> Protected<M> {
     ghost use Rattle.std.specs.Prelude.{◌≡◌};
     ghost use Rattle.fm_registry.specs.HasHistory.{HasHistory};
 
@@ -57,14 +57,14 @@ impl<M> Kept<M> {
 /// fixes it: from then on `set_global_registry` fails.
 #[derive(Drop)]
 pub struct GlobalRegistry<M: Drop = Box<dyn EncodeMetric>> {
-    pub(crate) kept: RwLock<Kept<M>>,
+    pub(crate) protected: RwLock<Protected<M>>,
 }
 
 impl<M: Drop> GlobalRegistry<M> {
     /// A registry that was neither set nor used. It takes no memory.
     pub fn new() -> GlobalRegistry<M> {
         GlobalRegistry {
-            kept: RwLock::new(Kept {
+            protected: RwLock::new(Protected {
                 registry: Registry::default(),
                 is_initialized: AtomicBool::new(false),
             }),
@@ -81,11 +81,11 @@ pub fn set_global_registry<R: Wait, M: Drop>(
 ) -> Result<(), SetRegistryError>
     requires { HasHistory registry }
 {
-    let mut kept = global.kept.write(rt);
-    if kept.is_initialized.load(SeqCst) {
+    let mut protected = global.protected.write(rt);
+    if protected.is_initialized.load(SeqCst) {
         return Err(SetRegistryError);
     }
-    *kept = Kept {
+    *protected = Protected {
         registry,
         is_initialized: AtomicBool::new(true),
     };
@@ -103,8 +103,8 @@ pub fn with_global_registry<R: Wait, M: Drop, T, F: FnOnce(&Registry<M>) -> T>(
     requires { (registry : _) → HasHistory registry → FnOnceTakesAt F.FnOnce f registry }
     ensures { (registry : _) × HasHistory registry × FnOnceReturnsAt F.FnOnce f registry result }
 {
-    let kept = global.kept.read(rt);
-    f(kept.used())
+    let protected = global.protected.read(rt);
+    f(protected.used())
 }
 
 /// Calls `f` with the registry, under the lock, to change it, and returns its result. It waits for the lock. `f` must
@@ -120,7 +120,7 @@ pub fn with_global_registry_mut<R: Wait, M: Drop, T, F: FnOnce(&mut Registry<M>)
         → HasHistory new }
     ensures { (old : _) × (new : _) × HasHistory old × FnOnceReturnsAtMut F.FnOnce f old result new }
 {
-    let mut kept = global.kept.write(rt);
-    kept.is_initialized.store(true, SeqCst);
-    f(&mut kept.registry)
+    let mut protected = global.protected.write(rt);
+    protected.is_initialized.store(true, SeqCst);
+    f(&mut protected.registry)
 }

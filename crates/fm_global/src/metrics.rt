@@ -5,14 +5,14 @@ ghost use Rattle.fm_registry.specs.HasHistory.{HasHistory};
 ghost use Rattle.fm_registry.specs.Registers.{Registers};
 ghost use Rattle.fm_global.specs.Locked.{RegistersLocked};
 
-use crate::global::{GlobalRegistry, Kept};
+use crate::global::{GlobalRegistry, Protected};
 use fm_encoder::EncodeMetric;
 use fm_encoder::metric_type::type_of;
 use fm_registry::{MetricType, RegistryError, Unit};
 use std::sync::Wait;
 use std::sync::atomic::Ordering::SeqCst;
 
-impl<M: Drop> Kept<M> {
+impl<M: Drop> Protected<M> {
     // Registers a metric of this type in the registry. From then on none can be set.
     fn add_metric(
         &mut self,
@@ -46,8 +46,8 @@ pub fn register_metric<R: Wait>(
         (asked_metric name help unit metric)) result }
 {
     let metric_type = type_of(&metric);
-    let mut kept = global.kept.write(rt);
-    kept.add_metric(name, help, metric_type, unit, metric)
+    let mut protected = global.protected.write(rt);
+    protected.add_metric(name, help, metric_type, unit, metric)
 }
 
 /// Like `register_metric`, with a unit.

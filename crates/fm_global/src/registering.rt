@@ -36,7 +36,7 @@ pub fn register_global<R: Wait, M: Drop, T: Register<M>>(
 ) -> Result<(), RegistryError>
     ensures { RegistersLocked (T.registers metrics.now) result }
 {
-    let mut kept = global.kept.write(rt);
-    kept.is_initialized.store(true, SeqCst);
-    metrics.register(alloc, &mut kept.registry)
+    let mut protected = global.protected.write(rt);
+    protected.is_initialized.store(true, SeqCst);
+    metrics.register(alloc, &mut protected.registry)
 }

@@ -5,8 +5,8 @@ use Rattle.std.proofs.lemmas.Bool.Decides.{nat_tests}
 use Rattle.std.proofs.lemmas.List.Sums.{sum_by-append, count_by-le-length}
 use Rattle.fm_raw.specs.declared.bucket.bound.Bucket.{Bucket}
 use Rattle.fm_raw.specs.declared.bucket.bound.Bound.TheVariants.{Finite, Inf}
-use Rattle.fm_histogram.specs.Histogram.{is_above, is_between, buckets_above, rises, place_among}
-use Rattle.fm_histogram.specs.inside.Counting.{place, one_more}
+use Rattle.fm_histogram.specs.Histogram.{is_above, is_between, buckets_above, rises, index_among}
+use Rattle.fm_histogram.specs.inside.Counting.{index, one_more}
 
 -- a bound above one that is not below x is not below x
 stays_above : (a b x : ℤ) → int_lt a x ≡ false → int_lt a b ≡ true → int_lt b x ≡ false
@@ -43,7 +43,7 @@ unchanged low (b ∷ bs) xs v out up =
 
 -- the buckets after one more value
 abbrev pub after : ℤ → Bucket → List Bucket → List Bucket
-after v d bs = set bs (place v bs) (one_more (get_or bs (place v bs) d))
+after v d bs = set bs (index v bs) (one_more (get_or bs (index v bs) d))
 
 -- a step of the next lemma, by whether the bound is below the value
 observed_by : (low : Option ℤ) (b : ℤ) (bounds xs : List ℤ) (v : ℤ) (d : Bucket) → is_above low v ≡ true → rises (Some b) bounds ≡ true
@@ -88,34 +88,34 @@ never_below i = grind (arith, nat_tests)
 
 -- a step of the next lemma, by whether the bound is below x
 first_by : (b : ℤ) (bounds : List ℤ) (v d : ℤ) (i : ℕ) → rises (Some b) bounds ≡ true → i < length (b ∷ bounds)
-    → ((j : ℕ) → j < length bounds → int_lt (get_or bounds j d) v ≡ ltb j (place_among v bounds))
-    → (below : Bool) → int_lt b v ≡ below → int_lt (get_or (b ∷ bounds) i d) v ≡ ltb i (place_among v (b ∷ bounds))
-first_by b bs v d zero up within rest true is = rw is (zero_below (place_among v bs))
-first_by b bs v d (suc i) up within rest true is = rw is (rest i (omega arith) ∙ suc_below i (place_among v bs))
+    → ((j : ℕ) → j < length bounds → int_lt (get_or bounds j d) v ≡ ltb j (index_among v bounds))
+    → (below : Bool) → int_lt b v ≡ below → int_lt (get_or (b ∷ bounds) i d) v ≡ ltb i (index_among v (b ∷ bounds))
+first_by b bs v d zero up within rest true is = rw is (zero_below (index_among v bs))
+first_by b bs v d (suc i) up within rest true is = rw is (rest i (omega arith) ∙ suc_below i (index_among v bs))
 first_by b bs v d zero up within rest false is = rw is (never_below 0)
 first_by b bs v d (suc i) up within rest false is = rw is (none_below b bs v d i is up (omega arith) ∙ never_below (suc i))
 
 -- the bounds below x come before its index, and no others
-pub place_is_first : (low : Option ℤ) (bounds : List ℤ) (v d : ℤ) (i : ℕ) → rises low bounds ≡ true → i < length bounds → int_lt (get_or bounds i d) v ≡ ltb i (place_among v bounds)
-place_is_first low [] v d i up within = absurd (omega arith)
-place_is_first low (b ∷ bs) v d i up within =
+pub index_is_first : (low : Option ℤ) (bounds : List ℤ) (v d : ℤ) (i : ℕ) → rises low bounds ≡ true → i < length bounds → int_lt (get_or bounds i d) v ≡ ltb i (index_among v bounds)
+index_is_first low [] v d i up within = absurd (omega arith)
+index_is_first low (b ∷ bs) v d i up within =
     let next = and_right (is_above low b) (rises (Some b) bs) up in
-    first_by b bs v d i next within (λ j h. place_is_first (Some b) bs v d j next h) (int_lt b v) refl
+    first_by b bs v d i next within (λ j h. index_is_first (Some b) bs v d j next h) (int_lt b v) refl
 
 -- a step of the next lemma
-within_by : (bs : List ℤ) (v : ℤ) (below : Bool) → place_among v bs ≤ length bs → cond below (suc (place_among v bs)) 0 ≤ suc (length bs)
+within_by : (bs : List ℤ) (v : ℤ) (below : Bool) → index_among v bs ≤ length bs → cond below (suc (index_among v bs)) 0 ≤ suc (length bs)
 within_by bs v true h = omega arith
 within_by bs v false h = omega arith
 
 -- the index is at most that after the last bound
-pub place_within : (bounds : List ℤ) (v : ℤ) → place_among v bounds ≤ length bounds
-place_within [] v = omega arith
-place_within (b ∷ bs) v = within_by bs v (int_lt b v) (place_within bs v)
+pub index_within : (bounds : List ℤ) (v : ℤ) → index_among v bounds ≤ length bounds
+index_within [] v = omega arith
+index_within (b ∷ bs) v = within_by bs v (int_lt b v) (index_within bs v)
 
 -- the bucket that takes a value is at the value's index among the bounds
-pub place_is : (low : Option ℤ) (bounds xs : List ℤ) (v : ℤ) → place v (buckets_above low bounds xs) ≡ place_among v bounds
-place_is low [] xs v = refl
-place_is low (b ∷ bs) xs v = ap (λ n. cond (int_lt b v) (suc n) 0) (place_is (Some b) bs xs v)
+pub index_is : (low : Option ℤ) (bounds xs : List ℤ) (v : ℤ) → index v (buckets_above low bounds xs) ≡ index_among v bounds
+index_is low [] xs v = refl
+index_is low (b ∷ bs) xs v = ap (λ n. cond (int_lt b v) (suc n) 0) (index_is (Some b) bs xs v)
 
 -- one bucket more than bounds
 pub count_of_buckets : (low : Option ℤ) (bounds xs : List ℤ) → length (buckets_above low bounds xs) ≡ length bounds + 1

@@ -6,9 +6,9 @@ use Rattle.std.specs.Int.RustNames.{FitsSigned}
 use Rattle.std.proofs.lemmas.List.{append-nil}
 use Rattle.std.proofs.lemmas.List.Elements.{filter-append}
 use Rattle.fm_raw.specs.declared.bucket.bound.Bucket.{Bucket}
-use Rattle.fm_histogram.specs.Histogram.{Histogram, IsCounts, total, buckets_above, place_among}
-use Rattle.fm_histogram.specs.inside.Counting.{IsOfSome, place, one_more}
-use Rattle.fm_histogram.proofs.BucketLemmas.{observed, counts_within, place_is}
+use Rattle.fm_histogram.specs.Histogram.{Histogram, IsCounts, total, buckets_above, index_among}
+use Rattle.fm_histogram.specs.inside.Counting.{IsOfSome, index, one_more}
+use Rattle.fm_histogram.proofs.BucketLemmas.{observed, counts_within, index_is}
 
 -- the sum of one value more
 total_more : (xs : List ℤ) (v : ℤ) → total (xs ++ v ∷ []) ≡ total xs +ℤ v
@@ -28,7 +28,7 @@ pub sum_fits : (sum v : ℤ) (count : ℕ) → neg_ℤ (pos (2 ^ 63 * count)) �
 sum_fits sum v count low high small fits = omega (arith, ints)
 
 -- the histogram of one value more has one more in the bucket at its index
-pub observes : (bounds xs : List ℤ) (s : Histogram) (v : ℤ) (at : ℕ) (d : Bucket) → IsCounts bounds xs s → at ≡ place v s.buckets
+pub observes : (bounds xs : List ℤ) (s : Histogram) (v : ℤ) (at : ℕ) (d : Bucket) → IsCounts bounds xs s → at ≡ index v s.buckets
     → IsCounts bounds (xs ++ v ∷ []) (record { buckets = set s.buckets at (one_more (get_or s.buckets at d)); count = s.count + 1; sum = s.sum +ℤ v })
 observes bounds xs s v at d h here =
     let buckets : set s.buckets at (one_more (get_or s.buckets at d)) ≡ buckets_above None bounds (xs ++ v ∷ []) = rw (here, h.is) (sym (observed None bounds xs v d refl h.increasing)) in
@@ -41,8 +41,8 @@ pub count_within : (bounds : List ℤ) (s : Histogram) (i : ℕ) (d : Bucket) �
 count_within bounds s i d some = rw some.is.is (λ h. counts_within None bounds some.values d i h)
 
 -- the index of a value among the buckets is that among the bounds
-pub place_here : (bounds : List ℤ) (s : Histogram) (v : ℤ) → IsOfSome bounds s → place v s.buckets ≡ place_among v bounds
-place_here bounds s v some = rw some.is.is (place_is None bounds some.values v)
+pub index_here : (bounds : List ℤ) (s : Histogram) (v : ℤ) → IsOfSome bounds s → index v s.buckets ≡ index_among v bounds
+index_here bounds s v some = rw some.is.is (index_is None bounds some.values v)
 
 -- the sum of two sums fits if the counts do
 pub sums_fit : (s t : ℤ) (n m : ℕ) → neg_ℤ (pos (2 ^ 63 * n)) ≤ℤ s → s ≤ℤ pos (2 ^ 63 * n) → neg_ℤ (pos (2 ^ 63 * m)) ≤ℤ t → t ≤ℤ pos (2 ^ 63 * m) → n + m < 2 ^ 64

@@ -67,9 +67,9 @@ pub record CountsTaken (taken : ℤ → Bool) (s : Histogram) : Type 0 where
   pub few : s.count < 2 ^ 64
 
 -- how many of the rising bounds are below x: the index of its bucket
-abbrev pub place_among : ℤ → List ℤ → ℕ
-place_among x [] = 0
-place_among x (b ∷ bs) = if int_lt b x then suc (place_among x bs) else 0
+abbrev pub index_among : ℤ → List ℤ → ℕ
+index_among x [] = 0
+index_among x (b ∷ bs) = if int_lt b x then suc (index_among x bs) else 0
 
 -- the given bounds that are taken, each once and in order
 pub record IsBoundsOf (taken : ℤ → Bool) (given bounds : List ℤ) : Type 0 where

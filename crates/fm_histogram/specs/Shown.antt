@@ -1,10 +1,10 @@
 -- What histograms emit.
 use Rattle.std.specs.Prelude.{ℕ, List, [], map, Option}
-use Rattle.fm_encoder.specs.Points.{HandedExemplar, Point, HistogramPoint, GaugeHistogramPoint, Member}
+use Rattle.fm_encoder.specs.Points.{EmittedExemplar, Point, HistogramPoint, GaugeHistogramPoint, Member}
 use Rattle.fm_histogram.specs.Histogram.{Histogram}
 
 -- for each bucket a slot without exemplar
-abbrev pub empty_slots : {B : Type 0} → List B → List (List HandedExemplar)
+abbrev pub empty_slots : {B : Type 0} → List B → List (List EmittedExemplar)
 empty_slots buckets = map (λ _. []) buckets
 
 -- the point of a histogram with this time of creation in milliseconds, and without exemplars

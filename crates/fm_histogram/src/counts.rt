@@ -4,9 +4,9 @@ ghost use Rattle.fm_raw.specs.declared.error.MetricError.TheVariants.{Memory, Co
 ghost use Rattle.fm_raw.specs.declared.bucket.bound.Bucket.{Bucket as OneBucket};
 ghost use Rattle.fm_raw.specs.Bounds.{default_bounds};
 ghost use Rattle.fm_histogram.specs.Histogram.{IsCounts, rises, upper_bounds, merged, merged_buckets};
-ghost use Rattle.fm_histogram.specs.inside.Counting.{one_more, place};
+ghost use Rattle.fm_histogram.specs.inside.Counting.{one_more, index};
 
-use crate::place::place_of;
+use crate::index::index_of;
 use fm_raw::bucket::{Bound, Bucket, default_buckets};
 use fm_raw::{Fixed, MetricError};
 use std::alloc::Global;
@@ -84,9 +84,9 @@ impl Counts {
 
     // The index of the bucket in which a value lies.
     pub(crate) fn index_of(&self, value: Fixed) -> usize
-        ensures { result ≡ place value self.now.buckets }
+        ensures { result ≡ index value self.now.buckets }
     {
-        place_of::<Brand>(self.bounds.as_slice(), value, Blank::new(1))
+        index_of::<Brand>(self.bounds.as_slice(), value, Blank::new(1))
     }
 
     // Counts one value more.
@@ -103,8 +103,8 @@ impl Counts {
         let Some(count) = self.count.checked_add(1) else {
             return Err(MetricError::CountFull);
         };
-        let place = self.index_of(value);
-        count_at(self.buckets.as_mut_slice(), place);
+        let index = self.index_of(value);
+        count_at(self.buckets.as_mut_slice(), index);
         self.count = count;
         self.sum += i128::from(value.millionths());
         Ok(())
@@ -138,14 +138,14 @@ impl Counts {
 }
 
 // Counts one value more in the bucket at the index.
-fn count_at(buckets: &mut [Bucket], place: usize)
-    requires inside { place < length buckets.old }
-    requires small { (d : OneBucket) → (slice_index_or buckets.old place d).count + 1 < 2 ^ 64 }
+fn count_at(buckets: &mut [Bucket], index: usize)
+    requires inside { index < length buckets.old }
+    requires small { (d : OneBucket) → (slice_index_or buckets.old index d).count + 1 < 2 ^ 64 }
     ensures { (d : OneBucket)
-        → buckets.new ≡ slice_set buckets.old place
-        (one_more (slice_index_or buckets.old place d)) }
+        → buckets.new ≡ slice_set buckets.old index
+        (one_more (slice_index_or buckets.old index d)) }
 {
-    if buckets[place].inc().is_err() {
+    if buckets[index].inc().is_err() {
         unreachable!()
     }
 }

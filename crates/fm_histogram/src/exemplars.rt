@@ -6,7 +6,7 @@ ghost use Rattle.std.specs.Iterator.{IsFinite};
 ghost use Rattle.std.specs.Arc.{arc_value};
 ghost use Rattle.fm_grammar.specs.declared.MetricType.TheVariants.{Histogram as HistogramType};
 ghost use Rattle.fm_raw.specs.declared.error.MetricError.TheVariants.{Memory, CountFull};
-ghost use Rattle.fm_encoder.specs.Points.{BucketsClean, ExemplarClean, HandedExemplar, HistogramPoint, millis};
+ghost use Rattle.fm_encoder.specs.Points.{BucketsValid, ExemplarValid, EmittedExemplar, HistogramPoint, millis};
 ghost use Rattle.fm_histogram.specs.Histogram.{Histogram as Counted, CountsTaken, is_taken};
 ghost use Rattle.fm_histogram.specs.Shown.{alone};
 ghost use Rattle.fm_histogram.specs.Shared.{exemplar_histogram_created};
@@ -64,7 +64,7 @@ impl Seen {
 
     // The exemplar of a bucket, if it has one. It is valid.
     fn slot(&self, index: usize) -> Option<&LabeledExemplar<ExemplarLabels>>
-        ensures { ExemplarClean (emitted result) }
+        ensures { ExemplarValid (emitted result) }
     {
         let exemplar = self.last.get(index)?.as_ref()?;
         exemplar.labels.are_taken();
@@ -75,7 +75,7 @@ impl Seen {
     fn slots(&self) -> Result<Vec<Option<&LabeledExemplar<ExemplarLabels>>>, AllocError>
         ensures { IfOk result
             (λ slots. (length slots.items ≡ length self.now.snapshot.buckets)
-            × AllByRecursion ExemplarClean (map emitted slots.items)) }
+            × AllByRecursion ExemplarValid (map emitted slots.items)) }
     {
         let count = self.snapshot.buckets().len();
         let mut slots = Vec::with_capacity(self.alloc, count)?;
@@ -220,9 +220,9 @@ impl<H: Wait> TypedMetric for ExemplarHistogram<H> {
 /// What was counted so far, as a `Histogram` emits it, with valid exemplars.
 impl<H: Wait> EncodePoint for ExemplarHistogram<H> {
     ghost points = { λ h ps. (s : Counted)
-        × (slots : List (List HandedExemplar))
+        × (slots : List (List EmittedExemplar))
         × CountsTaken is_taken s
-        × BucketsClean s.buckets slots
+        × BucketsValid s.buckets slots
         × (ps ≡ HistogramPoint s.buckets slots s.count s.sum
         (option_map millis (exemplar_histogram_created h)) ∷ []) };
 
@@ -245,9 +245,9 @@ impl<H: Wait + Send + Sync + Drop> EncodeMetric for ExemplarHistogram<H> {
     ghost types = { λ _ t. t ≡ HistogramType };
 
     ghost offers = { λ h _ ms. (s : Counted)
-        × (slots : List (List HandedExemplar))
+        × (slots : List (List EmittedExemplar))
         × CountsTaken is_taken s
-        × BucketsClean s.buckets slots
+        × BucketsValid s.buckets slots
         × (ms ≡ alone (HistogramPoint s.buckets slots s.count s.sum
         (option_map millis (exemplar_histogram_created h))) ∷ []) };
 

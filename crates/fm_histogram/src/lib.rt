@@ -5,7 +5,7 @@ mod counts;
 mod encode;
 pub mod exemplars;
 pub mod histogram;
-mod place;
+mod index;
 mod rising;
 pub mod sign;
 pub mod snapshot;

@@ -4,9 +4,10 @@ ghost use Rattle.std.specs.Option.{option_map};
 ghost use Rattle.fm_grammar.specs.declared.MetricType.{MetricType as FamilyType};
 ghost use Rattle.fm_grammar.specs.declared.MetricType.TheVariants.{Histogram as HistogramType, GaugeHistogram as GaugeHistogramType};
 ghost use Rattle.fm_encoder.specs.Points.{millis, Point};
-ghost use Rattle.fm_encoder.specs.Hands.{HandsPoints};
+ghost use Rattle.fm_encoder.specs.Emits.{EmitsPoints};
 ghost use Rattle.fm_histogram.specs.Histogram.{Histogram};
 ghost use Rattle.fm_histogram.specs.Shown.{point_of, gauge_point_of};
+ghost use Rattle.fm_labels.specs.Refusals.{NoFault};
 
 use crate::counts::Counts;
 use fm_encode_error::EncodeError;
@@ -37,9 +38,9 @@ pub trait Sign: Drop {
         created: Option<Duration>,
         points: &mut PointEncoder,
     ) -> Result<(), EncodeError>
-        ensures { HandsPoints
+        ensures { EmitsPoints
             (λ ps. ps ≡ point counts.now (option_map millis created) ∷ [])
-            ⊥ points.old points.new result };
+            NoFault points.old points.new result };
 }
 
 /// Of histograms: values and bounds that are not negative are taken.

@@ -5,9 +5,10 @@ ghost use Rattle.std.specs.Iterator.{IsFinite, Drains};
 ghost use Rattle.fm_raw.specs.declared.error.MetricError.TheVariants.{Memory, CountFull, UnequalBounds};
 ghost use Rattle.fm_raw.specs.Bounds.{default_bounds};
 ghost use Rattle.fm_encoder.specs.Points.{millis, values_in};
-ghost use Rattle.fm_encoder.specs.Hands.{HandsPoints};
-ghost use Rattle.fm_histogram.specs.inside.Counting.{place};
+ghost use Rattle.fm_encoder.specs.Emits.{EmitsPoints};
+ghost use Rattle.fm_histogram.specs.inside.Counting.{index};
 ghost use Rattle.fm_histogram.specs.Histogram.{IsHistogram, CountsTaken, IsBoundsOf, takes, upper_bounds, merged};
+ghost use Rattle.fm_labels.specs.Refusals.{NoFault};
 
 use crate::counts::Counts;
 use crate::rising::rising_bounds;
@@ -98,7 +99,7 @@ impl<S: Sign> SnapshotOf<S> {
 
     // The index of the bucket in which a value lies.
     pub(crate) fn index_of(&self, value: Fixed) -> usize
-        ensures { result ≡ place value self.now.buckets }
+        ensures { result ≡ index value self.now.buckets }
     {
         self.counts.index_of(value)
     }
@@ -109,9 +110,9 @@ impl<S: Sign> SnapshotOf<S> {
         created: Option<Duration>,
         points: &mut PointEncoder,
     ) -> Result<(), EncodeError>
-        ensures { HandsPoints
+        ensures { EmitsPoints
             (λ ps. ps ≡ S.point self.now (option_map millis created) ∷ [])
-            ⊥ points.old points.new result }
+            NoFault points.old points.new result }
     {
         S::encode(&self.counts, created, points)
     }

@@ -4,11 +4,11 @@ use Rattle.fm_grammar.specs.declared.MetricType.{MetricType}
 use Rattle.fm_encode_error.specs.declared.EncodeError.{EncodeError}
 use Rattle.fm_encode_error.specs.declared.EncodeError.TheVariants.{Memory}
 use Rattle.fm_grammar.specs.Exposition.{Label}
-use Rattle.fm_labels.specs.Labels.{HandedLabel, NamePiece, ValuePiece, NameFits, CannotBegin, IsMalformed, PieceFault, LabelFault, written}
+use Rattle.fm_labels.specs.Labels.{EmittedLabel, NamePiece, ValuePiece, NameFits, CannotBegin, IsMalformed, PieceFault, LabelFault, written}
 use Rattle.fm_labels.specs.inside.Steps.{pieces_of, EndsLabel}
 use Rattle.fm_labels.specs.LabelEncoders.{GatheredPieces, GatheredLabels}
 use Rattle.fm_labels.specs.Refusals.{OwnRefusal, own_refusal, result_of}
-use Rattle.fm_labels.specs.LabelEncoders.{HandsPieces, HandsLabels}
+use Rattle.fm_labels.specs.LabelEncoders.{EmitsPieces, EmitsLabels}
 use Rattle.fm_labels.proofs.Cases.{option_cases, answer_cases}
 
 -- what a label set encoder shows of its label encoder
@@ -25,7 +25,7 @@ own_refusal_is F e (inl m) = inl (ap own_refusal m)
 own_refusal_is F Memory (inr f) = inl refl
 own_refusal_is F _ (inr f) = inr (refl, f)
 
-malformed_of_pieces : (ps : HandedLabel) → CannotBegin ps → IsMalformed ps
+malformed_of_pieces : (ps : EmittedLabel) → CannotBegin ps → IsMalformed ps
 malformed_of_pieces [] h = h
 malformed_of_pieces (ValuePiece t ∷ ps) h = tt
 malformed_of_pieces (NamePiece n ∷ []) h = tt
@@ -33,29 +33,29 @@ malformed_of_pieces (NamePiece n ∷ NamePiece m ∷ ps) h = tt
 malformed_of_pieces (NamePiece n ∷ ValuePiece t ∷ []) h = h
 malformed_of_pieces (NamePiece n ∷ ValuePiece t ∷ p ∷ ps) h = tt
 
-label_fault_of_pieces : (k : EncodeError) (type : MetricType) (before : List Label) (ps : HandedLabel) → PieceFault k type before ps → LabelFault k type before ps
+label_fault_of_pieces : (k : EncodeError) (type : MetricType) (before : List Label) (ps : EmittedLabel) → PieceFault k type before ps → LabelFault k type before ps
 label_fault_of_pieces k type before ps (inl m) = inl (m.0, malformed_of_pieces ps m.1)
 label_fault_of_pieces k type before ps (inr n) = inr n
 
-pub HandsLabels-one : (pieces : HandedLabel) (F : Type 0) (old mid new : GatheredPieces) (visited : Result (Unit {0}) EncodeError) → HandsPieces pieces F old mid visited → EndsLabel visited mid new → (old.refused ≡ None → old.pieces ≡ []) → HandsLabels (pieces ∷ []) F (set_of old) (set_of new) (result_of new.refused)
-HandsLabels-one pieces F old mid new visited hands ends empty =
+pub EmitsLabels-one : (pieces : EmittedLabel) (F : Type 0) (old mid new : GatheredPieces) (visited : Result (Unit {0}) EncodeError) → EmitsPieces pieces F old mid visited → EndsLabel visited mid new → (old.refused ≡ None → old.pieces ≡ []) → EmitsLabels (pieces ∷ []) F (set_of old) (set_of new) (result_of new.refused)
+EmitsLabels-one pieces F old mid new visited emits ends empty =
     let all_pieces : old.refused ≡ None → mid.refused ≡ None → visited ≡ Ok tt → mid.pieces ≡ pieces =
-    (λ o m v. rw (empty o) at (hands.handed o m v)) in
+    (λ o m v. rw (empty o) at (emits.emitted o m v)) in
     record {
-      type_kept = ends.type_kept ∙ hands.type_kept;
-      kept = λ k e. (let same : mid ≡ old = hands.kept k e in let again : new ≡ mid = ends.kept k (ap (λ (g : GatheredPieces). g.refused) same ∙ e) in ap set_of (again ∙ same));
-      clean = λ o n r.
+      type_kept = ends.type_kept ∙ emits.type_kept;
+      kept = λ k e. (let same : mid ≡ old = emits.kept k e in let again : new ≡ mid = ends.kept k (ap (λ (g : GatheredPieces). g.refused) same ∙ e) in ap set_of (again ∙ same));
+      valid = λ o n r.
           (let m = none_before_end visited mid new ends n in
-          (rw (hands.type_kept, hands.labels_kept, all_pieces o m (ends.visited_ok m n)) at (ends.clean m n), tt));
-      handed = λ o n r.
+          (rw (emits.type_kept, emits.labels_kept, all_pieces o m (ends.visited_ok m n)) at (ends.valid m n), tt));
+      emitted = λ o n r.
           (let m = none_before_end visited mid new ends n in
-          rw append-nil (rw (hands.labels_kept, all_pieces o m (ends.visited_ok m n)) at (ends.labels m n)));
+          rw append-nil (rw (emits.labels_kept, all_pieces o m (ends.visited_ok m n)) at (ends.labels m n)));
       own = λ e n r. (let no : Ok tt ≡ Err e = rw n at r in cc);
       refused = λ k o n. elim (option_cases mid.refused) [
         | inr (j, e) ↦
             (let again : new ≡ mid = ends.kept j e in
             let same : j ≡ k = cc in
-            elim (hands.refused j o e) [
+            elim (emits.refused j o e) [
               | inl memory ↦ inl (inl (sym same ∙ memory))
               | inr fault ↦
                   (let in_label : LabelFault j old.metric_type old.labels pieces = label_fault_of_pieces j _ _ _ (rw (empty o) at fault) in
@@ -69,7 +69,7 @@ HandsLabels-one pieces F old mid new visited hands ends empty =
           | inr (e, v) ↦
               (let kept : Some (own_refusal e) ≡ Some k = sym (ends.own e m v) ∙ n in
               let same : own_refusal e ≡ k = cc in
-              inl (subst (OwnRefusal F) same (own_refusal_is F e (hands.own e m v))))
+              inl (subst (OwnRefusal F) same (own_refusal_is F e (emits.own e m v))))
         ]
       ];
     }
@@ -83,7 +83,7 @@ EndsLabel-both visited (Some n) (Some t) old new v o named valued fits whole typ
   kept = λ k e. absurd cc;
   visited_ok = λ _ _. v;
   pieces = λ _ none. empty none;
-  clean = λ _ _. inr (n, t, whole, fits n refl);
+  valid = λ _ _. inr (n, t, whole, fits n refl);
   labels = λ _ none. labels none;
   own = λ e _ w. absurd cc;
   refused = λ k _ _ r. inl (memory k r);

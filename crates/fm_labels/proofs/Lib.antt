@@ -4,4 +4,4 @@ pub mod PiecesLemmas
 pub mod LabelsLemmas
 pub mod LabelSetLemmas
 pub mod OwnLabels
-pub mod KeptLemmas
+pub mod WrittenLemmas

@@ -8,7 +8,7 @@ use Rattle.fm_grammar.specs.Exposition.{Text, Label}
 use Rattle.fm_grammar.specs.Names.{IsLowerLetter, IsDigit, IsWord, BeginsWithLetter, further_words, IsSnakeCase, IsLabelByte, IsLabelName, AllDifferent}
 use Rattle.fm_grammar.specs.WellFormed.{AreLabels}
 use Rattle.fm_exposition.specs.Samples.{labels_of}
-use Rattle.fm_labels.specs.Labels.{HandedLabel, NamePiece, ValuePiece, IsReserved, label_names, NameFits, LabelClean, LabelsClean, written, all_written, handed_again}
+use Rattle.fm_labels.specs.Labels.{EmittedLabel, NamePiece, ValuePiece, IsReserved, label_names, NameFits, LabelValid, LabelsValid, written, all_written, emitted_again}
 use Rattle.fm_labels.specs.inside.FreeLabels.{AreFree}
 
 abbrev pub Pairs : Type 0
@@ -41,32 +41,32 @@ AreLabels-push type before l h fits = record {
   different = subst AllDifferent (sym (names_of-append before (l ∷ []))) (different-push (label_names before) l.name h.different fits.fresh);
 }
 
-AreLabels-clean : (type : MetricType) (before : List Label) (label : HandedLabel) → AreLabels before → LabelClean type before label → AreLabels (before ++ written label)
-AreLabels-clean type before label h (inl none) = subst (λ (l : HandedLabel). AreLabels (before ++ written l)) (sym none) (subst AreLabels (sym (append-nil before)) h)
-AreLabels-clean type before label h (inr (n, t, is, fits)) =
-    subst (λ (l : HandedLabel). AreLabels (before ++ written l)) (sym is) (AreLabels-push type before (record { name = n; value = t }) h fits)
+AreLabels-valid : (type : MetricType) (before : List Label) (label : EmittedLabel) → AreLabels before → LabelValid type before label → AreLabels (before ++ written label)
+AreLabels-valid type before label h (inl none) = subst (λ (l : EmittedLabel). AreLabels (before ++ written l)) (sym none) (subst AreLabels (sym (append-nil before)) h)
+AreLabels-valid type before label h (inr (n, t, is, fits)) =
+    subst (λ (l : EmittedLabel). AreLabels (before ++ written l)) (sym is) (AreLabels-push type before (record { name = n; value = t }) h fits)
 
-AreLabels-after : (type : MetricType) (before : List Label) (labels : List HandedLabel) → AreLabels before → LabelsClean type before labels → AreLabels (before ++ all_written labels)
-AreLabels-after type before [] h clean = subst AreLabels (sym (append-nil before)) h
-AreLabels-after type before (label ∷ labels) h clean =
-    subst AreLabels (append_assoc before (written label) (all_written labels)) (AreLabels-after type (before ++ written label) labels (AreLabels-clean type before label h clean.0) clean.1)
+AreLabels-after : (type : MetricType) (before : List Label) (labels : List EmittedLabel) → AreLabels before → LabelsValid type before labels → AreLabels (before ++ all_written labels)
+AreLabels-after type before [] h valid = subst AreLabels (sym (append-nil before)) h
+AreLabels-after type before (label ∷ labels) h valid =
+    subst AreLabels (append_assoc before (written label) (all_written labels)) (AreLabels-after type (before ++ written label) labels (AreLabels-valid type before label h valid.0) valid.1)
 
 -- valid labels are well formed as they are written
-pub AreLabels-written : (type : MetricType) (labels : List HandedLabel) → LabelsClean type [] labels → AreLabels (all_written labels)
-AreLabels-written type labels clean = AreLabels-after type [] labels (record { names = tt; different = tt }) clean
+pub AreLabels-written : (type : MetricType) (labels : List EmittedLabel) → LabelsValid type [] labels → AreLabels (all_written labels)
+AreLabels-written type labels valid = AreLabels-after type [] labels (record { names = tt; different = tt }) valid
 
 -- written labels are emitted again, as pairs of two strings are
-pub handed_again-pairs : (ls : Pairs) → map (λ p. NamePiece (string_bytes p.0) ∷ ValuePiece (string_bytes p.1) ∷ []) ls ≡ handed_again (labels_of ls)
-handed_again-pairs [] = refl
-handed_again-pairs (l ∷ ls) = ap (λ (hs : List HandedLabel). (NamePiece (string_bytes l.0) ∷ ValuePiece (string_bytes l.1) ∷ []) ∷ hs) (handed_again-pairs ls)
+pub emitted_again-pairs : (ls : Pairs) → map (λ p. NamePiece (string_bytes p.0) ∷ ValuePiece (string_bytes p.1) ∷ []) ls ≡ emitted_again (labels_of ls)
+emitted_again-pairs [] = refl
+emitted_again-pairs (l ∷ ls) = ap (λ (hs : List EmittedLabel). (NamePiece (string_bytes l.0) ∷ ValuePiece (string_bytes l.1) ∷ []) ∷ hs) (emitted_again-pairs ls)
 
 -- own labels that come after the common ones in a list of both
 pub own_of_all : (common all own : List Label) → all ≡ common ++ own → drop (length common) all ≡ own
 own_of_all common all own is = ap (drop (length common)) is ∙ drop_at common own (length common) refl
 
 -- labels that are valid after well-formed ones
-pub AreLabels-behind : (type : MetricType) (before ls : List Label) (labels : List HandedLabel) → AreLabels before → LabelsClean type before labels → ls ≡ before ++ all_written labels → AreLabels ls
-AreLabels-behind type before ls labels h clean is = subst AreLabels (sym is) (AreLabels-after type before labels h clean)
+pub AreLabels-joined : (type : MetricType) (before ls : List Label) (labels : List EmittedLabel) → AreLabels before → LabelsValid type before labels → ls ≡ before ++ all_written labels → AreLabels ls
+AreLabels-joined type before ls labels h valid is = subst AreLabels (sym is) (AreLabels-after type before labels h valid)
 
 all_bytes-append : (xs ys : Text) → AllByRecursion IsLabelByte xs → AllByRecursion IsLabelByte ys → AllByRecursion IsLabelByte (xs ++ ys)
 all_bytes-append [] ys h more = more
@@ -106,15 +106,15 @@ AreFree-append : (type : MetricType) (xs ys : List Label) → AreFree type xs �
 AreFree-append type [] ys h more = more
 AreFree-append type (x ∷ xs) ys h more = (h.0, AreFree-append type xs ys h.1 more)
 
-AreFree-clean : (type : MetricType) (before : List Label) (label : HandedLabel) → LabelClean type before label → AreFree type (written label)
-AreFree-clean type before label (inl none) = subst (λ (l : HandedLabel). AreFree type (written l)) (sym none) tt
-AreFree-clean type before label (inr (n, t, is, fits)) = subst (λ (l : HandedLabel). AreFree type (written l)) (sym is) (fits.free, tt)
+AreFree-valid : (type : MetricType) (before : List Label) (label : EmittedLabel) → LabelValid type before label → AreFree type (written label)
+AreFree-valid type before label (inl none) = subst (λ (l : EmittedLabel). AreFree type (written l)) (sym none) tt
+AreFree-valid type before label (inr (n, t, is, fits)) = subst (λ (l : EmittedLabel). AreFree type (written l)) (sym is) (fits.free, tt)
 
 -- valid labels have no reserved names
-pub AreFree-written : (type : MetricType) (before : List Label) (labels : List HandedLabel) → LabelsClean type before labels → AreFree type (all_written labels)
-AreFree-written type before [] clean = tt
-AreFree-written type before (label ∷ labels) clean =
-    AreFree-append type (written label) (all_written labels) (AreFree-clean type before label clean.0) (AreFree-written type _ labels clean.1)
+pub AreFree-written : (type : MetricType) (before : List Label) (labels : List EmittedLabel) → LabelsValid type before labels → AreFree type (all_written labels)
+AreFree-written type before [] valid = tt
+AreFree-written type before (label ∷ labels) valid =
+    AreFree-append type (written label) (all_written labels) (AreFree-valid type before label valid.0) (AreFree-written type _ labels valid.1)
 
 AreFree-without : (type : MetricType) (before : List Label) (name : Text) → AreFree type before → IsReserved type name → ¬ (Contains (label_names before) name)
 AreFree-without type [] name h reserved (i, within, is) = absurd (omega arith)

@@ -4,16 +4,16 @@ use Rattle.std.proofs.lemmas.List.Elements.{Contains-append_left}
 use Rattle.fm_encode_error.specs.declared.EncodeError.{EncodeError}
 use Rattle.fm_grammar.specs.declared.MetricType.{MetricType}
 use Rattle.fm_grammar.specs.Exposition.{Label}
-use Rattle.fm_labels.specs.Labels.{HandedLabel, NamePiece, ValuePiece, PieceFault, CannotBegin}
+use Rattle.fm_labels.specs.Labels.{EmittedLabel, NamePiece, ValuePiece, PieceFault, CannotBegin}
 use Rattle.fm_labels.specs.LabelEncoders.{GatheredPieces}
-use Rattle.fm_labels.specs.LabelEncoders.{HandsPieces}
+use Rattle.fm_labels.specs.LabelEncoders.{EmitsPieces}
 use Rattle.fm_labels.proofs.Cases.{option_cases}
 
-pub none_before_hands : {pieces : HandedLabel} {F : Type 0} (old mid : GatheredPieces) (r : Result (Unit {0}) EncodeError) → HandsPieces pieces F old mid r → mid.refused ≡ None → old.refused ≡ None
-none_before_hands old mid r hands none =
-    elim (option_cases old.refused) [ inl e ↦ e | inr (k, e) ↦ (let same : mid ≡ old = hands.kept k e in cc) ]
+pub none_before_emits : {pieces : EmittedLabel} {F : Type 0} (old mid : GatheredPieces) (r : Result (Unit {0}) EncodeError) → EmitsPieces pieces F old mid r → mid.refused ≡ None → old.refused ≡ None
+none_before_emits old mid r emits none =
+    elim (option_cases old.refused) [ inl e ↦ e | inr (k, e) ↦ (let same : mid ≡ old = emits.kept k e in cc) ]
 
-pub CannotBegin-append : (ps qs : HandedLabel) → CannotBegin ps → CannotBegin (ps ++ qs)
+pub CannotBegin-append : (ps qs : EmittedLabel) → CannotBegin ps → CannotBegin (ps ++ qs)
 CannotBegin-append [] qs h = absurd h
 CannotBegin-append (ValuePiece t ∷ ps) qs h = tt
 CannotBegin-append (NamePiece n ∷ []) qs h = absurd h
@@ -22,19 +22,19 @@ CannotBegin-append (NamePiece n ∷ ValuePiece t ∷ []) qs h = absurd h
 CannotBegin-append (NamePiece n ∷ ValuePiece t ∷ p ∷ ps) qs h = tt
 
 -- no further piece mends a fault
-pub PieceFault-append : (k : EncodeError) (type : MetricType) (before : List Label) (ps qs : HandedLabel) → PieceFault k type before ps → PieceFault k type before (ps ++ qs)
+pub PieceFault-append : (k : EncodeError) (type : MetricType) (before : List Label) (ps qs : EmittedLabel) → PieceFault k type before ps → PieceFault k type before (ps ++ qs)
 PieceFault-append k type before ps qs (inl m) = inl (m.0, CannotBegin-append ps qs m.1)
 PieceFault-append k type before ps qs (inr n) = inr (n.0, Contains-append_left ps qs _ n.1, n.2)
 
 -- one part, and then another
-pub HandsPieces-then : {xs ys : HandedLabel} {F : Type 0} (old mid new : GatheredPieces) (first r : Result (Unit {0}) EncodeError) → HandsPieces xs F old mid first → first ≡ Ok tt → HandsPieces ys F mid new r → HandsPieces (xs ++ ys) F old new r
-HandsPieces-then {xs} {ys} {F} old mid new first r a ok b = record {
+pub EmitsPieces-then : {xs ys : EmittedLabel} {F : Type 0} (old mid new : GatheredPieces) (first r : Result (Unit {0}) EncodeError) → EmitsPieces xs F old mid first → first ≡ Ok tt → EmitsPieces ys F mid new r → EmitsPieces (xs ++ ys) F old new r
+EmitsPieces-then {xs} {ys} {F} old mid new first r a ok b = record {
   type_kept = b.type_kept ∙ a.type_kept;
   labels_kept = b.labels_kept ∙ a.labels_kept;
   kept = λ k e. (let same : mid ≡ old = a.kept k e in let again : new ≡ mid = b.kept k (ap (λ (g : GatheredPieces). g.refused) same ∙ e) in again ∙ same);
-  handed = λ o n e.
-      (let m = none_before_hands mid new r b n in
-      b.handed m n e ∙ ap (λ (ps : HandedLabel). ps ++ ys) (a.handed o m ok) ∙ append_assoc old.pieces xs ys);
+  emitted = λ o n e.
+      (let m = none_before_emits mid new r b n in
+      b.emitted m n e ∙ ap (λ (ps : EmittedLabel). ps ++ ys) (a.emitted o m ok) ∙ append_assoc old.pieces xs ys);
   own = λ e n w. b.own e n w;
   refused = λ k o n. elim (option_cases mid.refused) [
     | inr (j, e) ↦
@@ -49,19 +49,19 @@ HandsPieces-then {xs} {ys} {F} old mid new first r a ok b = record {
     | inl m ↦ elim (b.refused k m n) [
       | inl memory ↦ inl memory
       | inr fault ↦
-          (let p : mid.pieces ++ ys ≡ old.pieces ++ (xs ++ ys) = ap (λ (ps : HandedLabel). ps ++ ys) (a.handed o m ok) ∙ append_assoc old.pieces xs ys in
+          (let p : mid.pieces ++ ys ≡ old.pieces ++ (xs ++ ys) = ap (λ (ps : EmittedLabel). ps ++ ys) (a.emitted o m ok) ∙ append_assoc old.pieces xs ys in
           inr (rw (a.type_kept, a.labels_kept, p) at fault))
     ]
   ];
 }
 
 -- a first part that returned an error
-pub HandsPieces-stopped : {xs : HandedLabel} {F : Type 0} (ys : HandedLabel) (old new : GatheredPieces) (e : EncodeError) → HandsPieces xs F old new (Err e) → HandsPieces (xs ++ ys) F old new (Err e)
-HandsPieces-stopped {xs} ys old new e a = record {
+pub EmitsPieces-stopped : {xs : EmittedLabel} {F : Type 0} (ys : EmittedLabel) (old new : GatheredPieces) (e : EncodeError) → EmitsPieces xs F old new (Err e) → EmitsPieces (xs ++ ys) F old new (Err e)
+EmitsPieces-stopped {xs} ys old new e a = record {
   type_kept = a.type_kept;
   labels_kept = a.labels_kept;
   kept = a.kept;
-  handed = λ o n ok. absurd cc;
+  emitted = λ o n ok. absurd cc;
   own = a.own;
   refused = λ k o n. elim (a.refused k o n) [
     | inl memory ↦ inl memory
@@ -70,23 +70,23 @@ HandsPieces-stopped {xs} ys old new e a = record {
 }
 
 -- a part that may return an error only if the whole may
-pub HandsPieces-weaker : {xs : HandedLabel} {F G : Type 0} (old new : GatheredPieces) (r : Result (Unit {0}) EncodeError) → (F → G) → HandsPieces xs F old new r → HandsPieces xs G old new r
-HandsPieces-weaker old new r weaker a = record {
+pub EmitsPieces-weaker : {xs : EmittedLabel} {F G : Type 0} (old new : GatheredPieces) (r : Result (Unit {0}) EncodeError) → (F → G) → EmitsPieces xs F old new r → EmitsPieces xs G old new r
+EmitsPieces-weaker old new r weaker a = record {
   type_kept = a.type_kept;
   labels_kept = a.labels_kept;
   kept = a.kept;
-  handed = a.handed;
+  emitted = a.emitted;
   own = λ e n w. elim (a.own e n w) [ inl memory ↦ inl memory | inr fault ↦ inr (weaker fault) ];
   refused = a.refused;
 }
 
 -- nothing is emitted
-pub HandsPieces-nothing : {F : Type 0} (g : GatheredPieces) → HandsPieces [] F g g (Ok tt)
-HandsPieces-nothing g = record {
+pub EmitsPieces-nothing : {F : Type 0} (g : GatheredPieces) → EmitsPieces [] F g g (Ok tt)
+EmitsPieces-nothing g = record {
   type_kept = refl;
   labels_kept = refl;
   kept = λ _ _. refl;
-  handed = λ _ _ _. sym (append-nil g.pieces);
+  emitted = λ _ _ _. sym (append-nil g.pieces);
   own = λ e n w. absurd cc;
   refused = λ k o n. absurd cc;
 }

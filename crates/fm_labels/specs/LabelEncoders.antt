@@ -6,14 +6,14 @@ use Rattle.fm_grammar.specs.declared.MetricType.{MetricType}
 use Rattle.fm_grammar.specs.Exposition.{Label}
 use Rattle.fm_encode_error.specs.declared.EncodeError.{EncodeError}
 use Rattle.fm_encode_error.specs.declared.EncodeError.TheVariants.{Memory}
-use Rattle.fm_labels.specs.Labels.{HandedLabel, PieceFault, LabelsFault, LabelsClean, all_written}
+use Rattle.fm_labels.specs.Labels.{EmittedLabel, PieceFault, LabelsFault, LabelsValid, all_written}
 use Rattle.fm_labels.specs.Refusals.{OwnRefusal, OwnError, Takes}
 
 -- a label encoder: the labels before, and the pieces of the current label
 pub record GatheredPieces : Type 0 where
   pub metric_type : MetricType
   pub labels : List Label
-  pub pieces : HandedLabel
+  pub pieces : EmittedLabel
   pub refused : Option EncodeError
 
 -- a label set encoder
@@ -23,25 +23,25 @@ pub record GatheredLabels : Type 0 where
   pub refused : Option EncodeError
 
 -- these pieces of a label are emitted to a label encoder
-pub record HandsPieces (pieces : HandedLabel) (MayFault : Type 0) (old new : GatheredPieces) (result : Result (Unit {0}) EncodeError) : Type 0 where
+pub record EmitsPieces (pieces : EmittedLabel) (MayFault : Type 0) (old new : GatheredPieces) (result : Result (Unit {0}) EncodeError) : Type 0 where
   pub type_kept : new.metric_type ≡ old.metric_type
   pub labels_kept : new.labels ≡ old.labels
   pub kept : (k : EncodeError) → old.refused ≡ Some k → new ≡ old
-  pub handed : old.refused ≡ None → new.refused ≡ None → result ≡ Ok tt → new.pieces ≡ old.pieces ++ pieces
+  pub emitted : old.refused ≡ None → new.refused ≡ None → result ≡ Ok tt → new.pieces ≡ old.pieces ++ pieces
   pub own : (e : EncodeError) → new.refused ≡ None → result ≡ Err e → OwnError MayFault e
   pub refused : (k : EncodeError) → old.refused ≡ None → new.refused ≡ Some k → (k ≡ Memory) ⊎ PieceFault k old.metric_type old.labels (old.pieces ++ pieces)
 
 -- these labels are emitted to a label set encoder
-pub record HandsLabels (labels : List HandedLabel) (MayFault : Type 0) (old new : GatheredLabels) (result : Result (Unit {0}) EncodeError) : Type 0 where
+pub record EmitsLabels (labels : List EmittedLabel) (MayFault : Type 0) (old new : GatheredLabels) (result : Result (Unit {0}) EncodeError) : Type 0 where
   pub type_kept : new.metric_type ≡ old.metric_type
   pub kept : (k : EncodeError) → old.refused ≡ Some k → new ≡ old
-  pub clean : old.refused ≡ None → new.refused ≡ None → result ≡ Ok tt → LabelsClean old.metric_type old.labels labels
-  pub handed : old.refused ≡ None → new.refused ≡ None → result ≡ Ok tt → new.labels ≡ old.labels ++ all_written labels
+  pub valid : old.refused ≡ None → new.refused ≡ None → result ≡ Ok tt → LabelsValid old.metric_type old.labels labels
+  pub emitted : old.refused ≡ None → new.refused ≡ None → result ≡ Ok tt → new.labels ≡ old.labels ++ all_written labels
   pub own : (e : EncodeError) → new.refused ≡ None → result ≡ Err e → OwnError MayFault e
   pub refused : (k : EncodeError) → old.refused ≡ None → new.refused ≡ Some k → OwnRefusal MayFault k ⊎ LabelsFault k old.metric_type old.labels labels
 
-abbrev pub TakesPieces : HandedLabel → Type 0 → GatheredPieces → GatheredPieces → Result (Unit {0}) EncodeError → Type 0
-TakesPieces pieces MayFault old new result = Takes (HandsPieces pieces MayFault old new result) new.refused result
+abbrev pub TakesPieces : EmittedLabel → Type 0 → GatheredPieces → GatheredPieces → Result (Unit {0}) EncodeError → Type 0
+TakesPieces pieces MayFault old new result = Takes (EmitsPieces pieces MayFault old new result) new.refused result
 
-abbrev pub TakesLabels : List HandedLabel → Type 0 → GatheredLabels → GatheredLabels → Result (Unit {0}) EncodeError → Type 0
-TakesLabels labels MayFault old new result = Takes (HandsLabels labels MayFault old new result) new.refused result
+abbrev pub TakesLabels : List EmittedLabel → Type 0 → GatheredLabels → GatheredLabels → Result (Unit {0}) EncodeError → Type 0
+TakesLabels labels MayFault old new result = Takes (EmitsLabels labels MayFault old new result) new.refused result

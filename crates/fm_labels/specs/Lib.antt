@@ -4,5 +4,5 @@ pub mod Labels
 pub mod OwnLabels
 pub mod Refusals
 pub mod LabelEncoders
-pub mod Kept
+pub mod WrittenLabels
 pub mod inside

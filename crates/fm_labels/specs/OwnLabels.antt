@@ -1,8 +1,8 @@
 -- Labels by name and value, for label sets of a program's own.
 use Rattle.std.specs.Prelude.{[], ◌∷◌}
 use Rattle.fm_grammar.specs.Exposition.{Text}
-use Rattle.fm_labels.specs.Labels.{HandedLabel, NamePiece, ValuePiece}
+use Rattle.fm_labels.specs.Labels.{EmittedLabel, NamePiece, ValuePiece}
 
 -- the label of this name and this value
-abbrev pub label : Text → Text → HandedLabel
+abbrev pub label : Text → Text → EmittedLabel
 label name value = NamePiece name ∷ ValuePiece value ∷ []

@@ -3,6 +3,10 @@ use Rattle.std.specs.Prelude.{◌≡◌, Option, Some, None, Result, Ok, Err, Ma
 use Rattle.fm_encode_error.specs.declared.EncodeError.{EncodeError}
 use Rattle.fm_encode_error.specs.declared.EncodeError.TheVariants.{Memory, MetricFault}
 
+-- a source that returns no error of its own
+abbrev pub NoFault : Type 0
+NoFault = ⊥
+
 -- what an encoder's own call returns: the first refusal, from then on
 abbrev pub result_of : Option EncodeError → Result (Unit {0}) EncodeError
 result_of None = Ok tt
@@ -30,6 +34,6 @@ abbrev pub OwnError : Type 0 → EncodeError → Type 0
 OwnError MayFault e = (e ≡ Memory) ⊎ MayFault
 
 -- this is handed over, and the result is the refusal, if there is one
-pub record Takes (Handed : Type 0) (refused : Option EncodeError) (result : Result (Unit {0}) EncodeError) : Type 0 where
-  pub handed : Handed
-  pub answered : result ≡ result_of refused
+pub record Takes (Emitted : Type 0) (refused : Option EncodeError) (result : Result (Unit {0}) EncodeError) : Type 0 where
+  pub emitted : Emitted
+  pub returned : result ≡ result_of refused

@@ -1,7 +1,7 @@
 // Labels that are gathered after other labels.
 ghost use Rattle.std.specs.Prelude.{◌≡◌, ◌⊎◌, ◌++◌, [], ◌∷◌, None, OnOk, MatchResult, ◌≤◌, length, drop, map, IfOk};
 ghost use Rattle.fm_exposition.specs.Samples.{shown_label};
-ghost use Rattle.fm_labels.specs.Labels.{LabelsClean, LabelsFault, all_written};
+ghost use Rattle.fm_labels.specs.Labels.{LabelsValid, LabelsFault, all_written};
 ghost use Rattle.fm_labels.specs.Refusals.{OwnRefusal};
 
 use crate::label::LabelSetEncoder;
@@ -18,7 +18,7 @@ pub fn read_labels<LS: EncodeLabelSet>(
     requires accepting { encoder.old.refused ≡ None }
     ensures type_kept { encoder.new.metric_type ≡ encoder.old.metric_type }
     ensures gathered { MatchResult result
-        (λ _. LabelsClean encoder.old.metric_type encoder.old.labels (LS.labels labels.now)
+        (λ _. LabelsValid encoder.old.metric_type encoder.old.labels (LS.labels labels.now)
         × (encoder.new.labels ≡ encoder.old.labels ++ all_written (LS.labels labels.now)))
         (λ k. OwnRefusal (LS.may_fault labels.now) k
         ⊎ LabelsFault k encoder.old.metric_type encoder.old.labels (LS.labels labels.now)) }

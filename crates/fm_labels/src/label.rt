@@ -1,9 +1,9 @@
 //! Labels: what emits them, and the encoders that gather them.
 ghost use Rattle.std.specs.Prelude.{◌≡◌, [], ◌∷◌, ◌++◌, Bool, Some, None, Ok, Err, OnOk};
 ghost use Rattle.fm_encode_error.specs.declared.EncodeError.{EncodeError};
-ghost use Rattle.fm_labels.specs.Labels.{HandedLabel, NamePiece, ValuePiece, written};
-ghost use Rattle.fm_labels.specs.LabelEncoders.{GatheredPieces, GatheredLabels, HandsPieces, TakesPieces, TakesLabels};
-ghost use Rattle.fm_labels.specs.Refusals.{result_of, Takes};
+ghost use Rattle.fm_labels.specs.Labels.{EmittedLabel, NamePiece, ValuePiece, written};
+ghost use Rattle.fm_labels.specs.LabelEncoders.{GatheredPieces, GatheredLabels, EmitsPieces, TakesPieces, TakesLabels};
+ghost use Rattle.fm_labels.specs.Refusals.{result_of, Takes, NoFault};
 ghost use Rattle.fm_labels.specs.inside.Steps.{EndsLabel};
 
 use crate::first_refusal::{FirstRefusal, own_refusal};
@@ -19,21 +19,21 @@ mod gathering;
 /// A source of the name of a label.
 pub trait EncodeLabelName {
     /// The pieces that `encode` emits: mostly one name.
-    ghost pieces: { Self → HandedLabel };
+    ghost pieces: { Self → EmittedLabel };
 
     /// `encode` may return an error of its own other than `Memory`.
     ghost may_fault: { Self → Type 0 } = { λ _. ⊥ };
 
     /// Passes the name to the encoder by `encode_label_name`.
     fn encode(&self, encoder: &mut LabelEncoder) -> Result<(), EncodeError>
-        ensures { HandsPieces (pieces self.now) (may_fault self.now)
+        ensures { EmitsPieces (pieces self.now) (may_fault self.now)
             encoder.old encoder.new result };
 }
 
 /// A source of the value of a label.
 pub trait EncodeLabelValue {
     /// The pieces that `encode` emits: mostly one value.
-    ghost pieces: { Self → HandedLabel };
+    ghost pieces: { Self → EmittedLabel };
 
     /// `encode` may return an error of its own other than `Memory`.
     ghost may_fault: { Self → Type 0 } = { λ _. ⊥ };
@@ -43,7 +43,7 @@ pub trait EncodeLabelValue {
 
     /// Passes the value to the encoder by one of its `encode_.._value` calls.
     fn encode(&self, encoder: &mut LabelEncoder) -> Result<(), EncodeError>
-        ensures { HandsPieces (pieces self.now) (may_fault self.now)
+        ensures { EmitsPieces (pieces self.now) (may_fault self.now)
             encoder.old encoder.new result };
 
     /// Whether a label with this value is left out: `false` for most values.
@@ -54,14 +54,14 @@ pub trait EncodeLabelValue {
 /// A source of a label.
 pub trait EncodeLabel {
     /// The pieces that `encode` emits: a name and a value, or nothing for a label that is left out.
-    ghost pieces: { Self → HandedLabel };
+    ghost pieces: { Self → EmittedLabel };
 
     /// `encode` may return an error of its own other than `Memory`.
     ghost may_fault: { Self → Type 0 } = { λ _. ⊥ };
 
     /// Passes the label to the encoder.
     fn encode(&self, encoder: &mut LabelEncoder) -> Result<(), EncodeError>
-        ensures { HandsPieces (pieces self.now) (may_fault self.now)
+        ensures { EmitsPieces (pieces self.now) (may_fault self.now)
             encoder.old encoder.new result };
 }
 
@@ -98,7 +98,7 @@ impl LabelEncoder {
     /// label name (`InvalidLabelName`); the metric's type reserves the name for its own labels (`ReservedLabel`); an earlier
     /// label has the name (`DuplicateLabel`); memory runs out (`Memory`).
     pub fn encode_label_name(&mut self, name: &str) -> Result<(), EncodeError>
-        ensures { TakesPieces (NamePiece name.now ∷ []) ⊥ self.old self.new result }
+        ensures { TakesPieces (NamePiece name.now ∷ []) NoFault self.old self.new result }
     {
         self.refused.check()?;
         if self.labels.is_named() || self.labels.is_valued() {
@@ -122,7 +122,7 @@ impl LabelEncoder {
     /// Takes the label's value as it is. Fails with `MalformedLabel` if the label has no name yet or already has a value, and
     /// with `Memory` if memory runs out.
     pub fn encode_str_value(&mut self, value: &str) -> Result<(), EncodeError>
-        ensures { TakesPieces (ValuePiece value.now ∷ []) ⊥ self.old self.new result }
+        ensures { TakesPieces (ValuePiece value.now ∷ []) NoFault self.old self.new result }
     {
         self.refused.check()?;
         if !self.labels.is_named() || self.labels.is_valued() {
@@ -142,7 +142,7 @@ impl LabelEncoder {
         ensures labels { self.new.refused ≡ None
             → self.new.labels ≡ self.old.labels ++ written self.old.pieces }
         ensures refused { (k : EncodeError) → self.new.refused ≡ Some k → k ≡ EncodeError.Memory }
-        ensures answered { result ≡ result_of self.new.refused }
+        ensures returned { result ≡ result_of self.new.refused }
     {
         match self.labels.end_label() {
             Ok(()) => Ok(()),

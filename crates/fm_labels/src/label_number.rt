@@ -3,6 +3,7 @@ ghost use Rattle.std.specs.Prelude.{[], ◌∷◌, false, decimal};
 ghost use Rattle.std.specs.Fmt.{signed_decimal};
 ghost use Rattle.fm_labels.specs.Labels.{ValuePiece};
 ghost use Rattle.fm_labels.specs.LabelEncoders.{TakesPieces};
+ghost use Rattle.fm_labels.specs.Refusals.{NoFault};
 
 use crate::label::{EncodeLabelValue, LabelEncoder};
 use fm_encode_error::EncodeError;
@@ -10,7 +11,7 @@ use itoa::{Buffer, Integer};
 
 impl LabelEncoder {
     fn encode_integer_value<I: Integer>(&mut self, value: I) -> Result<(), EncodeError>
-        ensures { TakesPieces (ValuePiece (I.text value) ∷ []) ⊥ self.old self.new result }
+        ensures { TakesPieces (ValuePiece (I.text value) ∷ []) NoFault self.old self.new result }
     {
         let mut buffer = Buffer::new();
         self.encode_str_value(buffer.format(value))
@@ -18,7 +19,7 @@ impl LabelEncoder {
 
     /// Takes the number in decimal as the label's value. It fails as `encode_str_value` does.
     pub fn encode_i8_value(&mut self, value: i8) -> Result<(), EncodeError>
-        ensures { TakesPieces (ValuePiece (signed_decimal value) ∷ []) ⊥
+        ensures { TakesPieces (ValuePiece (signed_decimal value) ∷ []) NoFault
             self.old self.new result }
     {
         self.encode_integer_value(value)
@@ -26,7 +27,7 @@ impl LabelEncoder {
 
     /// Takes the number in decimal as the label's value. It fails as `encode_str_value` does.
     pub fn encode_i16_value(&mut self, value: i16) -> Result<(), EncodeError>
-        ensures { TakesPieces (ValuePiece (signed_decimal value) ∷ []) ⊥
+        ensures { TakesPieces (ValuePiece (signed_decimal value) ∷ []) NoFault
             self.old self.new result }
     {
         self.encode_integer_value(value)
@@ -34,7 +35,7 @@ impl LabelEncoder {
 
     /// Takes the number in decimal as the label's value. It fails as `encode_str_value` does.
     pub fn encode_i32_value(&mut self, value: i32) -> Result<(), EncodeError>
-        ensures { TakesPieces (ValuePiece (signed_decimal value) ∷ []) ⊥
+        ensures { TakesPieces (ValuePiece (signed_decimal value) ∷ []) NoFault
             self.old self.new result }
     {
         self.encode_integer_value(value)
@@ -42,7 +43,7 @@ impl LabelEncoder {
 
     /// Takes the number in decimal as the label's value. It fails as `encode_str_value` does.
     pub fn encode_i64_value(&mut self, value: i64) -> Result<(), EncodeError>
-        ensures { TakesPieces (ValuePiece (signed_decimal value) ∷ []) ⊥
+        ensures { TakesPieces (ValuePiece (signed_decimal value) ∷ []) NoFault
             self.old self.new result }
     {
         self.encode_integer_value(value)
@@ -50,7 +51,7 @@ impl LabelEncoder {
 
     /// Takes the number in decimal as the label's value. It fails as `encode_str_value` does.
     pub fn encode_i128_value(&mut self, value: i128) -> Result<(), EncodeError>
-        ensures { TakesPieces (ValuePiece (signed_decimal value) ∷ []) ⊥
+        ensures { TakesPieces (ValuePiece (signed_decimal value) ∷ []) NoFault
             self.old self.new result }
     {
         self.encode_integer_value(value)
@@ -58,7 +59,7 @@ impl LabelEncoder {
 
     /// Takes the number in decimal as the label's value. It fails as `encode_str_value` does.
     pub fn encode_isize_value(&mut self, value: isize) -> Result<(), EncodeError>
-        ensures { TakesPieces (ValuePiece (signed_decimal value) ∷ []) ⊥
+        ensures { TakesPieces (ValuePiece (signed_decimal value) ∷ []) NoFault
             self.old self.new result }
     {
         self.encode_integer_value(value)
@@ -66,42 +67,42 @@ impl LabelEncoder {
 
     /// Takes the number in decimal as the label's value. It fails as `encode_str_value` does.
     pub fn encode_u8_value(&mut self, value: u8) -> Result<(), EncodeError>
-        ensures { TakesPieces (ValuePiece (decimal value) ∷ []) ⊥ self.old self.new result }
+        ensures { TakesPieces (ValuePiece (decimal value) ∷ []) NoFault self.old self.new result }
     {
         self.encode_integer_value(value)
     }
 
     /// Takes the number in decimal as the label's value. It fails as `encode_str_value` does.
     pub fn encode_u16_value(&mut self, value: u16) -> Result<(), EncodeError>
-        ensures { TakesPieces (ValuePiece (decimal value) ∷ []) ⊥ self.old self.new result }
+        ensures { TakesPieces (ValuePiece (decimal value) ∷ []) NoFault self.old self.new result }
     {
         self.encode_integer_value(value)
     }
 
     /// Takes the number in decimal as the label's value. It fails as `encode_str_value` does.
     pub fn encode_u32_value(&mut self, value: u32) -> Result<(), EncodeError>
-        ensures { TakesPieces (ValuePiece (decimal value) ∷ []) ⊥ self.old self.new result }
+        ensures { TakesPieces (ValuePiece (decimal value) ∷ []) NoFault self.old self.new result }
     {
         self.encode_integer_value(value)
     }
 
     /// Takes the number in decimal as the label's value. It fails as `encode_str_value` does.
     pub fn encode_u64_value(&mut self, value: u64) -> Result<(), EncodeError>
-        ensures { TakesPieces (ValuePiece (decimal value) ∷ []) ⊥ self.old self.new result }
+        ensures { TakesPieces (ValuePiece (decimal value) ∷ []) NoFault self.old self.new result }
     {
         self.encode_integer_value(value)
     }
 
     /// Takes the number in decimal as the label's value. It fails as `encode_str_value` does.
     pub fn encode_u128_value(&mut self, value: u128) -> Result<(), EncodeError>
-        ensures { TakesPieces (ValuePiece (decimal value) ∷ []) ⊥ self.old self.new result }
+        ensures { TakesPieces (ValuePiece (decimal value) ∷ []) NoFault self.old self.new result }
     {
         self.encode_integer_value(value)
     }
 
     /// Takes the number in decimal as the label's value. It fails as `encode_str_value` does.
     pub fn encode_usize_value(&mut self, value: usize) -> Result<(), EncodeError>
-        ensures { TakesPieces (ValuePiece (decimal value) ∷ []) ⊥ self.old self.new result }
+        ensures { TakesPieces (ValuePiece (decimal value) ∷ []) NoFault self.old self.new result }
     {
         self.encode_integer_value(value)
     }

@@ -1,8 +1,9 @@
 //! Label sets: lists, sets and maps of labels.
 ghost use Rattle.std.specs.Prelude.{◌≡◌, [], List, IsTrue, map, Any, Ok};
 ghost use Rattle.fm_exposition.specs.Samples.{labels_of};
-ghost use Rattle.fm_labels.specs.Labels.{HandedLabel, handed_again};
-ghost use Rattle.fm_labels.specs.LabelEncoders.{HandsLabels};
+ghost use Rattle.fm_labels.specs.Labels.{EmittedLabel, emitted_again};
+ghost use Rattle.fm_labels.specs.LabelEncoders.{EmitsLabels};
+ghost use Rattle.fm_labels.specs.Refusals.{NoFault};
 
 use crate::label::{EncodeLabel, EncodeLabelName, EncodeLabelValue, LabelSetEncoder};
 use fm_encode_error::EncodeError;
@@ -11,14 +12,14 @@ use std::collections::{BTreeMap, BTreeSet, LinkedList, VecDeque};
 /// A source of a list of labels.
 pub trait EncodeLabelSet {
     /// The labels that `encode` emits, each as its pieces.
-    ghost labels: { Self → List HandedLabel };
+    ghost labels: { Self → List EmittedLabel };
 
     /// `encode` may return an error of its own other than `Memory`.
     ghost may_fault: { Self → Type 0 } = { λ _. ⊥ };
 
     /// Passes the labels to the encoder, one after the other.
     fn encode(&self, encoder: &mut LabelSetEncoder) -> Result<(), EncodeError>
-        ensures { HandsLabels (labels self.now) (may_fault self.now)
+        ensures { EmitsLabels (labels self.now) (may_fault self.now)
             encoder.old encoder.new result };
 
     /// Whether it has no labels. If it returns true, the labels are not read.
@@ -34,7 +35,7 @@ pub fn encode_all<T: EncodeLabel>(
     labels: &[T],
     encoder: &mut LabelSetEncoder,
 ) -> Result<(), EncodeError>
-    ensures { HandsLabels (map T.pieces labels.now) (Any T.may_fault labels.now)
+    ensures { EmitsLabels (map T.pieces labels.now) (Any T.may_fault labels.now)
         encoder.old encoder.new result }
 {
     for label in labels {
@@ -48,7 +49,7 @@ pub fn encode_written(
     labels: &[(String, String)],
     encoder: &mut LabelSetEncoder,
 ) -> Result<(), EncodeError>
-    ensures { HandsLabels (handed_again (labels_of labels.now)) ⊥ encoder.old encoder.new result }
+    ensures { EmitsLabels (emitted_again (labels_of labels.now)) NoFault encoder.old encoder.new result }
 {
     encode_all(labels, encoder)
 }

@@ -4,6 +4,7 @@ ghost use Rattle.std.specs.Option.{option_map_or};
 ghost use Rattle.fm_grammar.specs.Numbers.{fixed_text};
 ghost use Rattle.fm_labels.specs.Labels.{NamePiece, ValuePiece};
 ghost use Rattle.fm_labels.specs.LabelEncoders.{TakesPieces};
+ghost use Rattle.fm_labels.specs.Refusals.{NoFault};
 
 use crate::label::{EncodeLabel, EncodeLabelName, EncodeLabelValue, LabelEncoder};
 use fm_encode_error::EncodeError;
@@ -175,7 +176,7 @@ impl LabelEncoder {
     /// Takes the text `true` or `false` as the label's value. It fails as `encode_str_value` does.
     pub fn encode_bool_value(&mut self, value: bool) -> Result<(), EncodeError>
         ensures { TakesPieces
-            (ValuePiece (if value then codes "true" else codes "false") ∷ []) ⊥
+            (ValuePiece (if value then codes "true" else codes "false") ∷ []) NoFault
             self.old self.new result }
     {
         self.encode_str_value(if value { "true" } else { "false" })
@@ -183,7 +184,7 @@ impl LabelEncoder {
 
     /// Takes a number of millionths, written in decimal, as the label's value. It fails as `encode_str_value` does.
     pub fn encode_fixed_value(&mut self, value: Fixed) -> Result<(), EncodeError>
-        ensures { TakesPieces (ValuePiece (fixed_text value) ∷ []) ⊥
+        ensures { TakesPieces (ValuePiece (fixed_text value) ∷ []) NoFault
             self.old self.new result }
     {
         let mut buffer = FixedBuffer::new();

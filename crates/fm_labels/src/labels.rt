@@ -3,7 +3,8 @@ ghost use Rattle.std.specs.Prelude.{[], ◌∷◌, true, false, map, codes, deci
 ghost use Rattle.std.specs.Fmt.{signed_decimal};
 ghost use Rattle.fm_grammar.specs.Numbers.{fixed_text};
 ghost use Rattle.fm_labels.specs.Labels.{ValuePiece};
-ghost use Rattle.fm_labels.specs.LabelEncoders.{HandsLabels};
+ghost use Rattle.fm_labels.specs.LabelEncoders.{EmitsLabels};
+ghost use Rattle.fm_labels.specs.Refusals.{NoFault};
 
 use crate::label::{EncodeLabel, EncodeLabelValue, LabelEncoder, LabelSetEncoder};
 use crate::label_set::{EncodeLabelSet, LabelSlice};
@@ -70,9 +71,9 @@ pub fn encode_labels<'a>(
     encoder: &mut LabelSetEncoder,
     labels: &[(&'a str, LabelValue<'a>)],
 ) -> Result<(), EncodeError>
-    ensures { HandsLabels
+    ensures { EmitsLabels
         (map ⟦<(&'a str, LabelValue<'a>) as EncodeLabel>⟧.pieces labels.now)
-        ⊥ encoder.old encoder.new
+        NoFault encoder.old encoder.new
         result }
 {
     LabelSlice(labels).encode(encoder)

@@ -3,7 +3,6 @@
 
 pub mod first_refusal;
 pub mod gathered;
-pub mod kept;
 pub mod label;
 mod label_number;
 pub mod label_set;
@@ -12,11 +11,12 @@ pub mod label_value;
 mod label_wrapper;
 pub mod labels;
 mod names;
+pub mod written_labels;
 
 pub use first_refusal::FirstRefusal;
 pub use fm_encode_error::EncodeError;
-pub use kept::KeptLabels;
 pub use label::{EncodeLabel, EncodeLabelName, EncodeLabelValue, LabelEncoder, LabelSetEncoder};
 pub use label_set::{EncodeLabelSet, LabelSlice};
 pub use label_value::{LabelStr, StaticStr};
 pub use labels::{LabelValue, encode_labels};
+pub use written_labels::WrittenLabels;

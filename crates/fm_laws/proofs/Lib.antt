@@ -1,3 +1,3 @@
-mod CleanLemmas
+mod ValidLemmas
 mod FaultLemmas
 mod FormedLemmas

@@ -3,16 +3,16 @@ use Rattle.std.specs.Prelude.{◌<◌, ◌^◌, List, IfSome}
 use Rattle.std.specs.List.{AllByRecursion}
 use Rattle.fm_grammar.specs.Exposition.{Fixed}
 use Rattle.fm_grammar.specs.WellFormed.{IsBetween, AreMillis, ValueFits}
-use Rattle.fm_encoder.specs.Points.{HandedExemplar, Point, UnknownPoint, GaugePoint, CounterPoint, StateSetPoint, InfoPoint, HistogramPoint, GaugeHistogramPoint, SummaryPoint, Member, Context}
+use Rattle.fm_encoder.specs.Points.{EmittedExemplar, Point, UnknownPoint, GaugePoint, CounterPoint, StateSetPoint, InfoPoint, HistogramPoint, GaugeHistogramPoint, SummaryPoint, Member, Context}
 use Rattle.fm_encoder.specs.inside.Steps.{IsNumber}
 
 -- an exemplar's value and time
-pub record ExemplarNumbersFit (exemplar : HandedExemplar) : Type 0 where
+pub record ExemplarNumbersFit (exemplar : EmittedExemplar) : Type 0 where
   pub value : IsBetween (2 ^ 63) (2 ^ 63) exemplar.value
   pub time : IfSome exemplar.time AreMillis
 
 -- each exemplar's value and time
-abbrev pub SlotsFit : List (List HandedExemplar) → Type 0
+abbrev pub SlotsFit : List (List EmittedExemplar) → Type 0
 SlotsFit slots = AllByRecursion (λ exemplars. AllByRecursion ExemplarNumbersFit exemplars) slots
 
 -- a point's numbers, its exemplars' values and times, and its time of creation

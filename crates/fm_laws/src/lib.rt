@@ -16,7 +16,7 @@ ghost use Rattle.fm_raw.specs.contracts.fixed.FixedOrd.TheImpl.{ghosts as fixed_
 ghost use Rattle.fm_raw.specs.contracts.fixed.FixedSumOrd.TheImpl.{ghosts as sum_order};
 ghost use Rattle.fm_raw.specs.contracts.metadata.MetadataHash.TheImpl.{ghosts as hashes};
 ghost use Rattle.fm_encode_error.specs.declared.EncodeError.{EncodeError};
-ghost use Rattle.fm_encoder.specs.Points.{Context, Member, MembersClean, MembersFault, HandedExemplar, Setting, values_in, bucket_samples};
+ghost use Rattle.fm_encoder.specs.Points.{Context, Member, MembersValid, MembersFault, EmittedExemplar, Setting, values_in, bucket_samples};
 ghost use Rattle.fm_registry_model.specs.Texts.{Path};
 ghost use Rattle.fm_registry_model.specs.Taken.{AreSeparate, tails_of};
 ghost use Rattle.fm_registry_model.specs.History.{History, metrics_at, children_at};
@@ -52,25 +52,25 @@ pub fn equal_metadata_hash_alike()
 /// A valid offer contains no fault. If a family's name is in snake case, as every registered one is, and the numbers of
 /// an offer are in range, the offer is valid exactly if it contains no fault; and it is valid, or some error names a
 /// fault that it contains.
-pub fn clean_is_without_fault()
+pub fn valid_is_without_fault()
     ensures faultless { (context : Context) (members : List Member)
-        → MembersClean context members
+        → MembersValid context members
         → (k : EncodeError) → ¬ (MembersFault k context members) }
     ensures exact { (context : Context) (members : List Member)
         → IsSnakeCase context.setting.name
         → NumbersFit context members
-        → (MembersClean context members
+        → (MembersValid context members
         ↔ ((k : EncodeError) → ¬ (MembersFault k context members))) }
     ensures either { (context : Context) (members : List Member)
         → IsSnakeCase context.setting.name
         → NumbersFit context members
-        → MembersClean context members ⊎ ((k : EncodeError) × MembersFault k context members) }
+        → MembersValid context members ⊎ ((k : EncodeError) × MembersFault k context members) }
 {}
 
 /// The sample of the bucket at an index shows how many values this bucket and those before it have together.
 pub fn counts_add_up()
     ensures { (setting : Setting) (common : List Label) (buckets : List Bucket)
-        (slots : List (List HandedExemplar)) (i : ℕ) (sample : Sample)
+        (slots : List (List EmittedExemplar)) (i : ℕ) (sample : Sample)
         → slice_get (bucket_samples setting common [] buckets slots) i ≡ Some sample
         → sample.value ≡ Whole (pos (values_in (take (i + 1) buckets))) }
 {}

@@ -1,5 +1,5 @@
 pub use Rattle.fm_encoder.specs.Points
-pub use Rattle.fm_encoder.specs.Hands
+pub use Rattle.fm_encoder.specs.Emits
 pub use Rattle.fm_encoder.specs.States
 pub mod Constants
 pub mod NumberOrder

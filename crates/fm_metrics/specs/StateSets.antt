@@ -13,8 +13,8 @@ module _ {T : Type 0} (eq : T → T → Bool) (all : List T) where
   IsNoState state = (i : ℕ) (x : T) → slice_get all i ≡ Some x → eq x state ≡ false
 
   -- `i` is the index of a state that equals itself
-  abbrev pub IsStatePlace : ℕ → Type 0
-  IsStatePlace i = (x : T) × (slice_get all i ≡ Some x) × (eq x x ≡ true)
+  abbrev pub IsStateIndex : ℕ → Type 0
+  IsStateIndex i = (x : T) × (slice_get all i ≡ Some x) × (eq x x ≡ true)
 
   -- `x` is one of the states, and equals itself
   abbrev pub IsVariant : T → Type 0

@@ -4,7 +4,7 @@ ghost use Rattle.std.specs.Option.{option_map, option_map_or};
 ghost use Rattle.std.specs.Arc.{arc_value};
 ghost use Rattle.fm_grammar.specs.declared.MetricType.TheVariants.{Counter as CounterType};
 ghost use Rattle.fm_raw.specs.declared.error.MetricError.TheVariants.{Memory, NegativeIncrement};
-ghost use Rattle.fm_encoder.specs.Points.{CounterPoint, ExemplarClean, HandedExemplar, millis};
+ghost use Rattle.fm_encoder.specs.Points.{CounterPoint, ExemplarValid, EmittedExemplar, millis};
 ghost use Rattle.fm_metrics.specs.NumberOrder.{IsLess};
 ghost use Rattle.fm_metrics.specs.Counters.{counter_created};
 
@@ -138,7 +138,7 @@ impl<H: Wait, N: CounterValue> TypedMetric for ExemplarCounter<H, N> {
 
 // The exemplar that was kept last, which is valid.
 fn lent(last: &Option<LabeledExemplar<ExemplarLabels>>) -> Option<&LabeledExemplar<ExemplarLabels>>
-    ensures { ExemplarClean (option_map_or
+    ensures { ExemplarValid (option_map_or
         (λ e. ⟦<LabeledExemplar<ExemplarLabels> as EncodeExemplar>⟧.exemplars e.now) result []) }
 {
     let exemplar = last.as_ref()?;
@@ -149,9 +149,9 @@ fn lent(last: &Option<LabeledExemplar<ExemplarLabels>>) -> Option<&LabeledExempl
 /// The total, and the exemplar that was kept last, which is valid. What it was passed with is counted in the total.
 impl<H: Wait, N: CounterValue + EncodeCounterValue> EncodePoint for ExemplarCounter<H, N> {
     ghost points = { λ c ps. (total : N)
-        × (exemplars : List HandedExemplar)
+        × (exemplars : List EmittedExemplar)
         × N.in_range total
-        × ExemplarClean exemplars
+        × ExemplarValid exemplars
         × (ps ≡ CounterPoint (N.numbers total) exemplars
         (option_map millis (counter_created c.counter)) ∷ []) };
 
@@ -170,9 +170,9 @@ impl<H: Wait + Send + Sync + Drop, N: CounterValue + EncodeCounterValue> EncodeM
     ghost types = { λ _ t. t ≡ CounterType };
 
     ghost offers = { λ c _ ms. (total : N)
-        × (exemplars : List HandedExemplar)
+        × (exemplars : List EmittedExemplar)
         × N.in_range total
-        × ExemplarClean exemplars
+        × ExemplarValid exemplars
         × (ms ≡ record {
           labels = [];
           point = CounterPoint (N.numbers total) exemplars

@@ -1,6 +1,6 @@
 //! A metric of one label set and one value.
 ghost use Rattle.std.specs.Prelude.{◌≡◌, ◌⊎◌};
-ghost use Rattle.fm_encoder.specs.Hands.{MembersOf};
+ghost use Rattle.fm_encoder.specs.Emits.{MembersOf};
 
 use fm_encoder::{EncodeError, EncodeLabelSet, EncodeMetric, EncodePoint, MetricEncoder};
 use fm_raw::{MetricType, TypedMetric};

@@ -5,7 +5,7 @@ ghost use Rattle.fm_grammar.specs.declared.MetricType.TheVariants.{StateSet as S
 ghost use Rattle.fm_raw.specs.declared.error.MetricError.TheVariants.{UnknownState, Memory};
 ghost use Rattle.fm_encoder.specs.Points.{StateSetPoint};
 ghost use Rattle.fm_encoder.specs.States.{state_of};
-ghost use Rattle.fm_metrics.specs.StateSets.{IsState, IsNoState, IsStatePlace, IsVariant, IsRefusedAs, AreDifferent, states_at};
+ghost use Rattle.fm_metrics.specs.StateSets.{IsState, IsNoState, IsStateIndex, IsVariant, IsRefusedAs, AreDifferent, states_at};
 
 use fm_encode_error::EncodeError;
 use fm_encoder::{EncodeMetric, EncodePoint, MetricEncoder, PointEncoder};
@@ -40,8 +40,8 @@ pub trait StateSetValue: PartialEq + Sized + Send + Sync + Drop {
 
 // The index of the first of `all` that equals `state`.
 fn find_state<T: PartialEq>(all: &[T], state: &T) -> Option<usize>
-    ensures place { MatchOption result
-        (IsNoState T.eq all.now state.now) (IsStatePlace T.eq all.now) }
+    ensures index { MatchOption result
+        (IsNoState T.eq all.now state.now) (IsStateIndex T.eq all.now) }
     ensures found { MatchOption result
         (IsNoState T.eq all.now state.now) (λ _. IsState T.eq all.now state.now) }
 {
@@ -84,23 +84,23 @@ impl<T: StateSetValue + 'static> TellStates for T {
 }
 
 // The rule of an atomic that contains the index of a state.
-struct PlaceOf<T> {
+struct IndexOf<T> {
     states: PhantomData<T>,
 }
 
-impl<T: StateSetValue> Rule for PlaceOf<T> {
-    ghost invariant = { IsStatePlace T.eq T.all };
+impl<T: StateSetValue> Rule for IndexOf<T> {
+    ghost invariant = { IsStateIndex T.eq T.all };
 }
 
 /// A state that its clones share. An atomic contains its index: a change is one store, a reading one load.
 pub struct StateSet<T: StateSetValue> {
-    place: Arc<AtomicIn<PlaceOf<T>>, Global>,
+    index: Arc<AtomicIn<IndexOf<T>>, Global>,
     alloc: Global,
 }
 
 impl<T: StateSetValue> Drop for StateSet<T> {
     fn drop(self) {
-        let StateSet { place: _, alloc: _ } = self;
+        let StateSet { index: _, alloc: _ } = self;
     }
 }
 
@@ -113,8 +113,8 @@ impl<T: StateSetValue + 'static> CurrentState<T> for StateSet<T> {
     fn current(&self) -> &T
         ensures { IsVariant T.eq T.all result.now }
     {
-        let place = self.place.load(SeqCst);
-        &T::variants()[place as usize]
+        let index = self.index.load(SeqCst);
+        &T::variants()[index as usize]
     }
 }
 
@@ -129,9 +129,9 @@ impl<T: StateSetValue + 'static> StateSet<T> {
         if T::variants().len() > MAX_STATES {
             return Err(MetricError::TooManyStates);
         }
-        let place = find_state(T::variants(), &state).ok_or(MetricError::UnknownState)?;
-        let place = Arc::new(alloc, AtomicIn::new(place as u64))?;
-        Ok(StateSet { place, alloc })
+        let index = find_state(T::variants(), &state).ok_or(MetricError::UnknownState)?;
+        let index = Arc::new(alloc, AtomicIn::new(index as u64))?;
+        Ok(StateSet { index, alloc })
     }
 
     /// Makes `state` the current state. Fails with `UnknownState` if no state equals it, and then changes nothing.
@@ -140,8 +140,8 @@ impl<T: StateSetValue + 'static> StateSet<T> {
             (λ _. IsState T.eq T.all state)
             (λ e. (e ≡ UnknownState) × IsNoState T.eq T.all state) }
     {
-        let place = find_state(T::variants(), &state).ok_or(MetricError::UnknownState)?;
-        self.place.store(place as u64, SeqCst);
+        let index = find_state(T::variants(), &state).ok_or(MetricError::UnknownState)?;
+        self.index.store(index as u64, SeqCst);
         Ok(())
     }
 
@@ -175,19 +175,19 @@ impl<T: StateSetValue + Default + 'static, H: Wait + Drop> TryDefault<H> for Sta
         if T::variants().len() > MAX_STATES {
             return Err(MetricError::TooManyStates);
         }
-        let place = find_state(T::variants(), &state).ok_or(MetricError::UnknownState)?;
-        let place = Arc::new(alloc, AtomicIn::new(place as u64))?;
-        Ok(StateSet { place, alloc })
+        let index = find_state(T::variants(), &state).ok_or(MetricError::UnknownState)?;
+        let index = Arc::new(alloc, AtomicIn::new(index as u64))?;
+        Ok(StateSet { index, alloc })
     }
 }
 
 /// Another handle of the same state set. Cloning takes memory, and fails if memory runs out.
 impl<T: StateSetValue> Clone for StateSet<T> {
-    ghost is_clone = { λ s t. arc_value t.place ≡ arc_value s.place };
+    ghost is_clone = { λ s t. arc_value t.index ≡ arc_value s.index };
 
     fn clone(&self) -> Result<StateSet<T>, AllocError> {
         Ok(StateSet {
-            place: self.place.clone()?,
+            index: self.index.clone()?,
             alloc: self.alloc,
         })
     }

@@ -65,8 +65,8 @@ pub(crate) fn resident_bytes<R: Files + AllocGlobal>(rt: &R) -> Option<u64> {
 // The seconds from 1970 to the start of the machine.
 fn boot_seconds<R: Files + AllocGlobal>(rt: &R) -> Option<u64> {
     let text = text_of(rt, "/proc/stat")?;
-    let (_, behind) = text.as_str().split_once("btime ")?;
-    number_at(behind, 0)
+    let (_, after) = text.as_str().split_once("btime ")?;
+    number_at(after, 0)
 }
 
 /// The seconds from 1970 to the start of the process.

@@ -9,7 +9,7 @@ use Rattle.std.specs.Str.{bytes_eq}
 use Rattle.std.specs.String.{string_bytes}
 use Rattle.fm_registry_model.specs.Texts.{Text}
 use Rattle.fm_registry_model.specs.Tree.{Child}
-use Rattle.fm_registry_model.specs.inside.Forests.{nth_in, nth_name, with_nth, place_from}
+use Rattle.fm_registry_model.specs.inside.Forests.{nth_in, nth_name, with_nth, index_from}
 use Rattle.fm_registry.specs.inside.TreeView.{forest_of}
 use Rattle.fm_registry.specs.declared.registry.Subsystem.{Subsystem}
 
@@ -29,9 +29,9 @@ module _ {M : Type 0} where
   forest_of-slice_set (s ∷ ss) zero w = refl
   forest_of-slice_set (s ∷ ss) (suc i) w = ap (λ f. Child (string_bytes s.name) s.registry.facts s.registry.children f) (forest_of-slice_set ss i w)
 
-  pub place_from-forest_of : (ss : List (Subsystem M)) (i : ℕ) (n : Text) → position_from (λ s. bytes_eq (string_bytes s.name) n) i ss ≡ place_from i (forest_of ss) n
-  place_from-forest_of [] i n = refl
-  place_from-forest_of (s ∷ ss) i n = ap (λ o. if bytes_eq (string_bytes s.name) n then Some i else o) (place_from-forest_of ss (i + 1) n)
+  pub index_from-forest_of : (ss : List (Subsystem M)) (i : ℕ) (n : Text) → position_from (λ s. bytes_eq (string_bytes s.name) n) i ss ≡ index_from i (forest_of ss) n
+  index_from-forest_of [] i n = refl
+  index_from-forest_of (s ∷ ss) i n = ap (λ o. if bytes_eq (string_bytes s.name) n then Some i else o) (index_from-forest_of ss (i + 1) n)
 
   pub within-nth_in : (ss : List (Subsystem M)) (i : ℕ) → IsSome (nth_in (forest_of ss) i) → i < length ss
   within-nth_in [] i h = absurd (true≢false (sym h))

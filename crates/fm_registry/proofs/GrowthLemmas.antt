@@ -54,9 +54,9 @@ module _ {M : Type 0} where
     reads = λ b h. subst (λ d. Reads t d) (after-added b call) (reads b h);
   }
 
-  pub Grows-answered : (s t : Tree M) (call : Call M) (r : Result (Unit {0}) RegistryError) → OnOk r ((b : History M) → Reads s b → Reads t (after b call)) → OnErr r (t ≡ s) → Grows s t
-  Grows-answered s t call (Ok x) reads same = Grows-call s t call reads
-  Grows-answered s t call (Err e) reads same = Grows-same s t same
+  pub Grows-returned : (s t : Tree M) (call : Call M) (r : Result (Unit {0}) RegistryError) → OnOk r ((b : History M) → Reads s b → Reads t (after b call)) → OnErr r (t ≡ s) → Grows s t
+  Grows-returned s t call (Ok x) reads same = Grows-call s t call reads
+  Grows-returned s t call (Err e) reads same = Grows-same s t same
 
   -- calls in turn
   abbrev pub run_calls : History M → List (Call M) → List (Option Refusal) → List (Call M)

@@ -5,7 +5,7 @@ use Rattle.std.specs.String.{string_bytes}
 use Rattle.fm_registry_model.specs.Texts.{Text, Labels}
 use Rattle.fm_registry_model.specs.Tree.{Facts, Leaf, Child, Tree, find_child}
 use Rattle.fm_registry_model.specs.Steps.{add_child, new_facts, added_unless, with_subsystem}
-use Rattle.fm_registry_model.specs.inside.Forests.{new_tree, place_from, place_in}
+use Rattle.fm_registry_model.specs.inside.Forests.{new_tree, index_from, index_in}
 use Rattle.fm_registry.specs.inside.TreeView.{forest_of}
 use Rattle.fm_registry.specs.declared.registry.Subsystem.{Subsystem}
 use Rattle.fm_registry_model.specs.declared.RegistryError.{RegistryError}
@@ -13,11 +13,11 @@ use Rattle.fm_registry_model.proofs.TextLemmas.{bytes_eq-refl}
 use Rattle.fm_registry_model.proofs.PushLemmas.{find_child-none}
 
 module _ {M : Type 0} where
-  place_from-pushed : (ss : List (Subsystem M)) (s : Subsystem M) (n : Text) (k : ℕ) → string_bytes s.name ≡ n → place_from k (forest_of ss) n ≡ None → place_from k (forest_of (ss ++ s ∷ [])) n ≡ Some (k + length ss)
-  place_from-pushed [] s n k named h = rw (named, bytes_eq-refl n) (ap Some (omega arith))
-  place_from-pushed (x ∷ ss) s n k named h =
-      elim (bytes_eq (string_bytes x.name) n) as (λ c. (if c then Some k else place_from (k + 1) (forest_of ss) n) ≡ None → (if c then Some k else place_from (k + 1) (forest_of (ss ++ s ∷ [])) n) ≡ Some (k + length (x ∷ ss)))
-      [ true ↦ λ e. absurd (some_not_none e) | false ↦ λ e. place_from-pushed ss s n (k + 1) named e ∙ ap Some (omega arith) ] h
+  index_from-pushed : (ss : List (Subsystem M)) (s : Subsystem M) (n : Text) (k : ℕ) → string_bytes s.name ≡ n → index_from k (forest_of ss) n ≡ None → index_from k (forest_of (ss ++ s ∷ [])) n ≡ Some (k + length ss)
+  index_from-pushed [] s n k named h = rw (named, bytes_eq-refl n) (ap Some (omega arith))
+  index_from-pushed (x ∷ ss) s n k named h =
+      elim (bytes_eq (string_bytes x.name) n) as (λ c. (if c then Some k else index_from (k + 1) (forest_of ss) n) ≡ None → (if c then Some k else index_from (k + 1) (forest_of (ss ++ s ∷ [])) n) ≡ Some (k + length (x ∷ ss)))
+      [ true ↦ λ e. absurd (some_not_none e) | false ↦ λ e. index_from-pushed ss s n (k + 1) named e ∙ ap Some (omega arith) ] h
     where
       some_not_none : Some k ≡ None → ⊥
       some_not_none e = cc
@@ -26,11 +26,11 @@ module _ {M : Type 0} where
   add_child-forest_of [] s n f named new = λ i. Child (named i) (new i).facts (new i).children Leaf
   add_child-forest_of (x ∷ ss) s n f named new = ap (λ g. Child (string_bytes x.name) x.registry.facts x.registry.children g) (add_child-forest_of ss s n f named new)
 
-  pub pushed-place : (r : Result ℕ RegistryError) (olds news : List (Subsystem M)) (s : Subsystem M) (n : Text) → string_bytes s.name ≡ n → place_in (forest_of olds) n ≡ None → IfOk r (λ p. p ≡ length olds) → OnOk r (news ≡ olds ++ s ∷ []) → IfOk r (λ p. place_in (forest_of news) n ≡ Some p)
-  pushed-place (Ok p) olds news s n named none at new = ap (λ ss. place_in (forest_of ss) n) new ∙ place_from-pushed olds s n 0 named none ∙ ap Some (omega (arith, at))
-  pushed-place (Err e) olds news s n named none at new = tt
+  pub pushed-index : (r : Result ℕ RegistryError) (olds news : List (Subsystem M)) (s : Subsystem M) (n : Text) → string_bytes s.name ≡ n → index_in (forest_of olds) n ≡ None → IfOk r (λ p. p ≡ length olds) → OnOk r (news ≡ olds ++ s ∷ []) → IfOk r (λ p. index_in (forest_of news) n ≡ Some p)
+  pushed-index (Ok p) olds news s n named none at new = ap (λ ss. index_in (forest_of ss) n) new ∙ index_from-pushed olds s n 0 named none ∙ ap Some (omega (arith, at))
+  pushed-index (Err e) olds news s n named none at new = tt
 
-  pub pushed-tree : (r : Result ℕ RegistryError) (t : Tree M) (olds news : List (Subsystem M)) (s : Subsystem M) (n : Text) (labels : Labels) → t.children ≡ forest_of olds → string_bytes s.name ≡ n → s.registry ≡ new_tree t.facts n labels → place_in (forest_of olds) n ≡ None → OnOk r (news ≡ olds ++ s ∷ [])
+  pub pushed-tree : (r : Result ℕ RegistryError) (t : Tree M) (olds news : List (Subsystem M)) (s : Subsystem M) (n : Text) (labels : Labels) → t.children ≡ forest_of olds → string_bytes s.name ≡ n → s.registry ≡ new_tree t.facts n labels → index_in (forest_of olds) n ≡ None → OnOk r (news ≡ olds ++ s ∷ [])
       → OnOk r (record { facts = t.facts; children = forest_of news } ≡ with_subsystem t n labels)
   pushed-tree (Err e) t olds news s n labels same named registry none new = tt
   pushed-tree (Ok p) t olds news s n labels same named registry none new =

@@ -7,7 +7,7 @@ use Rattle.fm_grammar.specs.declared.MetricType.{MetricType}
 use Rattle.fm_registry_model.specs.Texts.{Text, Path}
 use Rattle.fm_registry_model.specs.History.{Call, History, in_front}
 use Rattle.fm_registry_model.specs.Tree.{Tree, Reads}
-use Rattle.fm_registry_model.specs.inside.Forests.{place_in}
+use Rattle.fm_registry_model.specs.inside.Forests.{index_in}
 use Rattle.fm_registry_model.specs.Answer.{Refusal, NoSuchSubsystem, refusal_of, after}
 use Rattle.fm_registry_model.specs.Running.{Runs, IsReply, after_reply}
 use Rattle.fm_registry_model.specs.inside.Paths.{path_of}
@@ -32,7 +32,7 @@ module _ {M : Type 0} where
   call_at-pop all names name r e = ap (λ xs. call_at (path_of xs) r) e ∙ ap (λ p. call_at p r) (path_of-++ names name) ∙ call_at-in_front (string_bytes name) (path_of names) r
 
   -- a name that is not there
-  pub request-missing : (t : Tree M) (all names : List (String Global)) (name : String Global) (r : Request M) → all ≡ names ++ name ∷ [] → place_in t.children (string_bytes name) ≡ None
+  pub request-missing : (t : Tree M) (all names : List (String Global)) (name : String Global) (r : Request M) → all ≡ names ++ name ∷ [] → index_in t.children (string_bytes name) ≡ None
       → (b : History M) → Reads t b → IsReply (Some (NoSuchSubsystem (string_bytes name))) b (call_at (path_of all) r)
   request-missing t all names name r e none b reads =
       subst (λ call. IsReply (Some (NoSuchSubsystem (string_bytes name))) b call) (sym (call_at-pop all names name r e))

@@ -10,8 +10,8 @@ use Rattle.fm_grammar.specs.NameTests.{is_label_name}
 use Rattle.fm_raw.proofs.NameLemmas.{snake_case_is}
 use Rattle.fm_exposition.specs.Samples.{label_of, labels_of}
 use Rattle.fm_registry_model.specs.Texts.{Text, Label, Labels, has_text}
-use Rattle.fm_registry_model.specs.Answer.{Refusal, InvalidLabelName, DuplicateLabel, label_refusal_behind, labels_refusal_behind, root_labels_refusal, or_then}
-use Rattle.fm_registry_model.proofs.RootLemmas.{labels_refusal_behind-++, root_labels_valid}
+use Rattle.fm_registry_model.specs.Answer.{Refusal, InvalidLabelName, DuplicateLabel, label_refusal_after, labels_refusal_after, root_labels_refusal, or_then}
+use Rattle.fm_registry_model.proofs.RootLemmas.{labels_refusal_after-++, root_labels_valid}
 use Rattle.fm_registry.specs.HasHistory.{IsNewRoot, root_tree}
 use Rattle.fm_registry.specs.inside.RootLabels.{takes_namespace, takes_labels, label_fault, IsRefusedAt}
 use Rattle.fm_registry.proofs.SoundLemmas.{new_root}
@@ -28,21 +28,21 @@ found-has_text (l ∷ ls) name k =
     [ true ↦ refl | false ↦ found-has_text ls name (k + 1) ]
 
 -- after labels that passed, a label decides
-decides : (done rest : Labels) (label : Label) → labels_refusal_behind [] done ≡ None
-    → labels_refusal_behind [] (done ++ label ∷ rest) ≡ or_then (label_refusal_behind (names_of done) label.name) (labels_refusal_behind (names_of done ++ label.name ∷ []) rest)
-decides done rest label none = labels_refusal_behind-++ [] done (label ∷ rest) none
+decides : (done rest : Labels) (label : Label) → labels_refusal_after [] done ≡ None
+    → labels_refusal_after [] (done ++ label ∷ rest) ≡ or_then (label_refusal_after (names_of done) label.name) (labels_refusal_after (names_of done ++ label.name ∷ []) rest)
+decides done rest label none = labels_refusal_after-++ [] done (label ∷ rest) none
 
 -- a label that is refused
-pub refused-invalid : (before : List Text) (name : Text) → is_label_name name ≡ false → label_refusal_behind before name ≡ Some (label_fault name)
+pub refused-invalid : (before : List Text) (name : Text) → is_label_name name ≡ false → label_refusal_after before name ≡ Some (label_fault name)
 refused-invalid before name invalid = rw invalid refl
 
 -- a label that is refused if its name came before, and else passes
 pub refused-duplicate : (before : List Text) (name : Text) (r : Bool) → is_label_name name ≡ true → r ≡ has_text before name
-    → MatchBool r (label_refusal_behind before name ≡ Some (label_fault name)) (label_refusal_behind before name ≡ None)
+    → MatchBool r (label_refusal_after before name ≡ Some (label_fault name)) (label_refusal_after before name ≡ None)
 refused-duplicate before name true valid e = rw (valid, ← e) refl
 refused-duplicate before name false valid e = rw (valid, ← e) refl
 
-module _ (ls : List (String Global × String Global)) (i : ℕ) (l : String Global × String Global) (there : slice_get ls i ≡ Some l) (none : labels_refusal_behind [] (labels_of (take i ls)) ≡ None) where
+module _ (ls : List (String Global × String Global)) (i : ℕ) (l : String Global × String Global) (there : slice_get ls i ≡ Some l) (none : labels_refusal_after [] (labels_of (take i ls)) ≡ None) where
   more : take (i + 1) ls ≡ take i ls ++ l ∷ []
   more = take_more ls i l (slice_get_within ls i l there) ∙ ap (λ (x : String Global × String Global). take i ls ++ x ∷ []) (get_or_from_slice_get ls i l l there)
 
@@ -50,7 +50,7 @@ module _ (ls : List (String Global × String Global)) (i : ℕ) (l : String Glob
   whole = ap (λ xs. xs ++ drop (i + 1) ls) (sym more) ∙ take-append-drop (i + 1) ls
 
   -- the first label that is refused
-  pub refused-at : label_refusal_behind (names_of (labels_of (take i ls))) (label_of l).name ≡ Some (label_fault (label_of l).name) → IsRefusedAt ls i
+  pub refused-at : label_refusal_after (names_of (labels_of (take i ls))) (label_of l).name ≡ Some (label_fault (label_of l).name) → IsRefusedAt ls i
   refused-at h = record {
     label = l;
     there = there;
@@ -59,13 +59,13 @@ module _ (ls : List (String Global × String Global)) (i : ℕ) (l : String Glob
         ∙ ap root_labels_refusal (map-append label_of (take i ls ++ l ∷ []) (drop (i + 1) ls) ∙ ap (λ xs. xs ++ labels_of (drop (i + 1) ls)) (map-append label_of (take i ls) (l ∷ [])))
         ∙ ap root_labels_refusal (append_assoc (labels_of (take i ls)) (label_of l ∷ []) (labels_of (drop (i + 1) ls)))
         ∙ decides (labels_of (take i ls)) (labels_of (drop (i + 1) ls)) (label_of l) none
-        ∙ ap (λ o. or_then o (labels_refusal_behind (names_of (labels_of (take i ls)) ++ (label_of l).name ∷ []) (labels_of (drop (i + 1) ls)))) h;
+        ∙ ap (λ o. or_then o (labels_refusal_after (names_of (labels_of (take i ls)) ++ (label_of l).name ∷ []) (labels_of (drop (i + 1) ls)))) h;
   }
 
   -- one label more that passes
-  pub passed-at : label_refusal_behind (names_of (labels_of (take i ls))) (label_of l).name ≡ None → labels_refusal_behind [] (labels_of (take (i + 1) ls)) ≡ None
+  pub passed-at : label_refusal_after (names_of (labels_of (take i ls))) (label_of l).name ≡ None → labels_refusal_after [] (labels_of (take (i + 1) ls)) ≡ None
   passed-at h =
-      ap (λ xs. labels_refusal_behind [] (labels_of xs)) more ∙ ap (labels_refusal_behind []) (map-append label_of (take i ls) (l ∷ []))
+      ap (λ xs. labels_refusal_after [] (labels_of xs)) more ∙ ap (labels_refusal_after []) (map-append label_of (take i ls) (l ∷ []))
       ∙ decides (labels_of (take i ls)) [] (label_of l) none ∙ ap (λ o. or_then o None) h
 
 -- the label that is refused, and why

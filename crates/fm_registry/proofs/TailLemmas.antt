@@ -77,9 +77,9 @@ module _ {M : Type 0} where
   -- the metadata that others have under this tail decide whether these exist
   pub under_tail : (es : List (Tailed × M)) (k : Tailed) (i : ℕ) (e : Tailed × M) → IsDistinct key.ghosts.eq (keys_of es) → position (key.ghosts.eq k) (keys_of es) ≡ Some i → slice_get es i ≡ Some e
       → (x : M) → has_metric (seen_metrics es) (seen_metric k.metadata x) ≡ is_same_metric (seen_metric k.metadata x) (seen_metric e.0.metadata x)
-  under_tail es k i e distinct place at x =
+  under_tail es k i e distinct index at x =
       let ats = entry_at es i e at in
-      let found : key.ghosts.eq k e.0 ≡ true = ap (λ t. key.ghosts.eq k t) (sym (get_or_from_slice_get (keys_of es) i e.0 e.0 ats.1)) ∙ (position-Some (key.ghosts.eq k) (keys_of es) i e.0 place).1 in
+      let found : key.ghosts.eq k e.0 ≡ true = ap (λ t. key.ghosts.eq k t) (sym (get_or_from_slice_get (keys_of es) i e.0 e.0 ats.1)) ∙ (position-Some (key.ghosts.eq k) (keys_of es) i e.0 index).1 in
       one_under_tail (seen_metrics es) (seen_metric k.metadata x) (seen_metric e.0.metadata e.1) i (different es distinct) ats.0 (sym e.0.fits ∙ sym ((tails_decide k e.0).0 found) ∙ k.fits)
 
   -- if nothing has the tail

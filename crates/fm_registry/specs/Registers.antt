@@ -4,7 +4,7 @@ use Rattle.fm_grammar.specs.declared.MetricType.{MetricType}
 use Rattle.fm_registry_model.specs.Texts.{Path}
 use Rattle.fm_registry_model.specs.Registration.{Registration}
 use Rattle.fm_registry_model.specs.History.{History, Register}
-use Rattle.fm_registry_model.specs.Answer.{IsAnswered, refusal_of, answer, after}
+use Rattle.fm_registry_model.specs.Answer.{IsReturned, refusal_of, answer, after}
 use Rattle.fm_registry_model.specs.Tree.{Tree, Reads}
 use Rattle.fm_registry_model.specs.declared.RegistryError.{RegistryError}
 
@@ -15,7 +15,7 @@ module _ {M : Type 0} where
   pub record RegistersAt (path : Path) (Types : MetricType → Type 0) (asked : MetricType → Registration M) (old new : Tree M) (result : Result (Unit {0}) RegistryError) : Type 0 where
     pub metric_type : MetricType
     pub declared : Types metric_type
-    pub answer : (b : History M) → Reads old b → IsAnswered (refusal_of result) (answer b (Register path (asked metric_type)))
+    pub answer : (b : History M) → Reads old b → IsReturned (refusal_of result) (answer b (Register path (asked metric_type)))
     pub ok : OnOk result ((b : History M) → Reads old b → Reads new (after b (Register path (asked metric_type))))
     pub err : OnErr result (new ≡ old)
 

@@ -7,7 +7,7 @@ ghost use Rattle.std.specs.String.{string_bytes};
 ghost use Rattle.fm_grammar.specs.NameTests.{is_label_name as label_name_test};
 ghost use Rattle.fm_exposition.specs.Samples.{label_of, labels_of};
 ghost use Rattle.fm_registry_model.specs.Texts.{has_text, join_name, merge_labels, set_label as label_set};
-ghost use Rattle.fm_registry_model.specs.Answer.{refusal_of, first_bad_label, label_refusal_behind, root_labels_refusal};
+ghost use Rattle.fm_registry_model.specs.Answer.{refusal_of, first_bad_label, label_refusal_after, root_labels_refusal};
 ghost use Rattle.fm_registry.specs.inside.RootLabels.{IsRefusedAt, label_fault};
 ghost use Rattle.fm_registry.specs.View.{seen_labels};
 
@@ -47,14 +47,14 @@ pub(crate) fn kept_labels<'a>(labels: &'a Option<Vec<(String, String)>>) -> &'a 
 }
 
 // The index of the first label whose name is not a valid label name.
-fn bad_place(labels: &[(String, String)]) -> Option<usize>
+fn bad_index(labels: &[(String, String)]) -> Option<usize>
     ensures { result ≡ position_from (λ l. not (label_name_test (label_of l).name)) 0 labels.now }
 {
     labels.iter().position(|l| !is_label_name(l.0.as_str()))
 }
 
 // The index of the label with this name.
-pub(crate) fn place_of_label(labels: &[(String, String)], name: &str) -> Option<usize>
+pub(crate) fn index_of_label(labels: &[(String, String)], name: &str) -> Option<usize>
     ensures { result ≡ position_from (λ l. bytes_eq (label_of l).name name.now) 0 labels.now }
 {
     labels.iter().position(|l| l.0.as_str() == name)
@@ -65,9 +65,9 @@ fn set_label(labels: &mut Vec<(String, String)>, label: (String, String)) -> Res
     ensures { OnOk result
         (labels_of labels.new.items ≡ label_set (labels_of labels.old.items) (label_of label)) }
 {
-    match place_of_label(labels, label.0.as_str()) {
-        Some(place) => {
-            labels[place] = label;
+    match index_of_label(labels, label.0.as_str()) {
+        Some(index) => {
+            labels[index] = label;
             Ok(())
         }
         None => match labels.push(label) {
@@ -85,10 +85,10 @@ pub(crate) fn tested_labels(
     ensures answer { refusal_of result ≡ first_bad_label (labels_of labels.items) }
 {
     let mut labels = labels;
-    match bad_place(&labels) {
+    match bad_index(&labels) {
         None => Ok(labels),
-        Some(place) => {
-            let (name, _) = labels.swap_remove(place);
+        Some(index) => {
+            let (name, _) = labels.swap_remove(index);
             Err(RegistryError::InvalidLabelName { name })
         }
     }
@@ -143,16 +143,16 @@ fn cloned_labels(
 fn is_among(labels: &[(String, String)], name: &str) -> bool
     ensures { result ≡ has_text (map (λ l. l.name) (labels_of labels.now)) name.now }
 {
-    place_of_label(labels, name).is_some()
+    index_of_label(labels, name).is_some()
 }
 
 // Whether a root refuses a label with this name after the labels `before`: the name is not valid, or one of them has
 // it.
-fn is_refused_behind(before: &[(String, String)], name: &str) -> bool
+fn is_refused_after(before: &[(String, String)], name: &str) -> bool
     ensures { MatchBool result
-        (label_refusal_behind (map (λ l. l.name) (labels_of before.now)) name.now
+        (label_refusal_after (map (λ l. l.name) (labels_of before.now)) name.now
         ≡ Some (label_fault name.now))
-        (label_refusal_behind (map (λ l. l.name) (labels_of before.now)) name.now ≡ None) }
+        (label_refusal_after (map (λ l. l.name) (labels_of before.now)) name.now ≡ None) }
 {
     if !is_label_name(name) {
         return true;
@@ -161,14 +161,14 @@ fn is_refused_behind(before: &[(String, String)], name: &str) -> bool
 }
 
 // The index of the first label that a root refuses.
-fn refused_place(labels: &[(String, String)]) -> Option<usize>
+fn refused_index(labels: &[(String, String)]) -> Option<usize>
     ensures { MatchOption result
         (root_labels_refusal (labels_of labels.now) ≡ None)
-        (λ place. IsRefusedAt labels.now place) }
+        (λ index. IsRefusedAt labels.now index) }
 {
-    for place in 0..labels.len() {
-        if is_refused_behind(&labels[..place], labels[place].0.as_str()) {
-            return Some(place);
+    for index in 0..labels.len() {
+        if is_refused_after(&labels[..index], labels[index].0.as_str()) {
+            return Some(index);
         }
     }
     None
@@ -182,10 +182,10 @@ pub(crate) fn tested_root_labels(
     ensures answer { refusal_of result ≡ root_labels_refusal (labels_of labels.items) }
 {
     let mut labels = labels;
-    match refused_place(&labels) {
+    match refused_index(&labels) {
         None => Ok(labels),
-        Some(place) => {
-            let (name, _) = labels.swap_remove(place);
+        Some(index) => {
+            let (name, _) = labels.swap_remove(index);
             if is_label_name(name.as_str()) {
                 Err(RegistryError::DuplicateLabel { name })
             } else {

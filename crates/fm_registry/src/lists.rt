@@ -1,7 +1,7 @@
 //! Lists that may be absent: making one needs an allocator.
 ghost use Rattle.std.specs.Prelude.{◌≡◌, ◌<◌, ◌++◌, ◌∷◌, [], length, Some, None, IfOk, OnOk, OnErr, slice_get};
 ghost use Rattle.std.specs.Borrow.{sem};
-ghost use Rattle.fm_registry_model.specs.Answer.{refusal_of, IsAnswered};
+ghost use Rattle.fm_registry_model.specs.Answer.{refusal_of, IsReturned};
 ghost use Rattle.fm_registry.specs.Lists.{items_of};
 ghost use Rattle.fm_registry.specs.inside.LendsParts.{lends_element};
 
@@ -22,14 +22,14 @@ pub(crate) fn element_mut<T, A: Allocator>(list: &mut Option<Vec<T, A>>, index: 
 
 // Adds an item at the end and returns its index.
 pub(crate) fn push_to<T: Drop>(list: &mut Vec<T>, item: T) -> Result<usize, RegistryError>
-    ensures answer { IsAnswered (refusal_of result) None }
-    ensures place { IfOk result (λ place. place ≡ length list.old.items) }
+    ensures answer { IsReturned (refusal_of result) None }
+    ensures index { IfOk result (λ index. index ≡ length list.old.items) }
     ensures ok { OnOk result (list.new.items ≡ list.old.items ++ item ∷ []) }
     ensures err { OnErr result (list.new.items ≡ list.old.items) }
 {
-    let place = list.len();
+    let index = list.len();
     match list.push(item) {
-        Ok(()) => Ok(place),
+        Ok(()) => Ok(index),
         Err(_) => Err(RegistryError::Memory),
     }
 }

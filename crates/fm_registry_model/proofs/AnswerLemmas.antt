@@ -7,7 +7,7 @@ use Rattle.fm_registry_model.specs.Texts.{Text, Path, Labels, has_text}
 use Rattle.fm_registry_model.specs.Taken.{tail_of, tails_of, is_tail_taken, is_child_taken}
 use Rattle.fm_registry_model.specs.Registration.{Registration, SeenUnit, text_of_unit}
 use Rattle.fm_registry_model.specs.History.{Call, Subsystem, Register, History, metrics_at, children_at, missing_along, in_front, history_below, calls_below}
-use Rattle.fm_registry_model.specs.Answer.{Refusal, InvalidNameFormat, MustHaveAnEmptyUnitString, OtherUnitFormatMustBeLowercase, AlreadyExists, InvalidNamespace, InvalidSubsystemName, InvalidLabelName, DuplicateLabel, NoSuchSubsystem, TooDeep, NameTaken, IsAnswered, MayTakeMemory, first_of, or_then, is_bad_unit, has_metric, metric_refusal, name_or_depth_refusal, first_bad_label, asking_refusal, new_name_refusal, child_refusal, subsystem_refusal, namespace_refusal, label_refusal_behind, missing_name, answer, gained}
+use Rattle.fm_registry_model.specs.Answer.{Refusal, InvalidNameFormat, MustHaveAnEmptyUnitString, OtherUnitFormatMustBeLowercase, AlreadyExists, InvalidNamespace, InvalidSubsystemName, InvalidLabelName, DuplicateLabel, NoSuchSubsystem, TooDeep, NameTaken, IsReturned, MayTakeMemory, first_of, or_then, is_bad_unit, has_metric, metric_refusal, name_or_depth_refusal, first_bad_label, asking_refusal, new_name_refusal, child_refusal, subsystem_refusal, namespace_refusal, label_refusal_after, missing_name, answer, gained}
 use Rattle.fm_registry_model.specs.inside.Refusals.{name_refusal, standing_refusal}
 use Rattle.fm_registry_model.proofs.HistoryLemmas.{metrics_at-calls_below, children_at-calls_below, missing_along-calls_below}
 
@@ -23,7 +23,7 @@ map_empty f [] e = refl
 map_empty f (x ∷ xs) e = absurd (cons_not_nil e)
 
 -- a call that is not refused was to be accepted
-pub accepted : (wanted : Option Refusal) → IsAnswered None wanted → wanted ≡ None
+pub accepted : (wanted : Option Refusal) → IsReturned None wanted → wanted ≡ None
 accepted wanted h = elim h as (λ _. wanted ≡ None) [ inl e ↦ absurd (some_not_none (sym e.0)) | inr e ↦ sym e ]
 
 pub none_from : {T : Type 0} (o : Option T) → is_some o ≡ false → o ≡ None
@@ -69,7 +69,7 @@ name_passed n t u h =
     (not_false (is_snake_case n) passed.0, passed.1, passed.2)
 
 -- a label of a root that passes
-pub label_passed : (before : List Text) (n : Text) → label_refusal_behind before n ≡ None → (is_label_name n ≡ true) × (has_text before n ≡ false)
+pub label_passed : (before : List Text) (n : Text) → label_refusal_after before n ≡ None → (is_label_name n ≡ true) × (has_text before n ≡ false)
 label_passed before n h =
     let passed = two_pass (not (is_label_name n)) (has_text before n) (InvalidLabelName n) (DuplicateLabel n) h in
     (not_false (is_label_name n) passed.0, passed.1)

@@ -5,43 +5,43 @@ use Rattle.fm_registry_model.specs.Texts.{Text, has_text}
 use Rattle.fm_registry_model.specs.History.{Call, History, in_front}
 use Rattle.fm_registry_model.specs.Tree.{Forest, Leaf, Child, Tree, Reads, find_child, names_in}
 use Rattle.fm_registry_model.specs.Steps.{with_named, with_child}
-use Rattle.fm_registry_model.specs.inside.Forests.{nth_in, nth_name, with_nth, place_from, place_in}
+use Rattle.fm_registry_model.specs.inside.Forests.{nth_in, nth_name, with_nth, index_from, index_in}
 use Rattle.fm_registry_model.specs.Answer.{Refusal, NoSuchSubsystem, after, refusal_of}
 use Rattle.fm_registry_model.specs.Running.{IsReply}
 use Rattle.fm_registry_model.specs.declared.RegistryError.{RegistryError}
 use Rattle.fm_registry_model.proofs.TreeLemmas.{reads_root, with_named-itself}
-use Rattle.fm_registry_model.proofs.ForestLemmas.{place_in-IsPlace}
+use Rattle.fm_registry_model.proofs.ForestLemmas.{index_in-IsPlace}
 use Rattle.fm_registry_model.proofs.AnswerLemmas.{missing-answer}
 use Rattle.fm_registry_model.proofs.CallLemmas.{down-reads, down-reply}
 
 module _ {M : Type 0} where
-  pub absent_from_place : (f : Forest M) (n : Text) (k : ℕ) → place_from k f n ≡ None → has_text (names_in f) n ≡ false
-  absent_from_place Leaf n k e = refl
-  absent_from_place (Child m facts below rest) n k e =
-      elim (bytes_eq m n) as (λ c. (if c then Some k else place_from (k + 1) rest n) ≡ None → (if c then true else has_text (names_in rest) n) ≡ false)
-      [ true ↦ λ h. absurd (some_not_none h) | false ↦ λ h. absent_from_place rest n (k + 1) h ] e
+  pub absent_from_index : (f : Forest M) (n : Text) (k : ℕ) → index_from k f n ≡ None → has_text (names_in f) n ≡ false
+  absent_from_index Leaf n k e = refl
+  absent_from_index (Child m facts below rest) n k e =
+      elim (bytes_eq m n) as (λ c. (if c then Some k else index_from (k + 1) rest n) ≡ None → (if c then true else has_text (names_in rest) n) ≡ false)
+      [ true ↦ λ h. absurd (some_not_none h) | false ↦ λ h. absent_from_index rest n (k + 1) h ] e
     where
       some_not_none : Some k ≡ None → ⊥
       some_not_none h = cc
 
-  pub there_from_place : (f : Forest M) (n : Text) (k i : ℕ) → place_from k f n ≡ Some i → has_text (names_in f) n ≡ true
-  there_from_place Leaf n k i e = absurd (none_not_some e)
+  pub there_from_index : (f : Forest M) (n : Text) (k i : ℕ) → index_from k f n ≡ Some i → has_text (names_in f) n ≡ true
+  there_from_index Leaf n k i e = absurd (none_not_some e)
     where
       none_not_some : None ≡ Some i → ⊥
       none_not_some h = cc
-  there_from_place (Child m facts below rest) n k i e =
-      elim (bytes_eq m n) as (λ c. (if c then Some k else place_from (k + 1) rest n) ≡ Some i → (if c then true else has_text (names_in rest) n) ≡ true)
-      [ true ↦ λ h. refl | false ↦ λ h. there_from_place rest n (k + 1) i h ] e
+  there_from_index (Child m facts below rest) n k i e =
+      elim (bytes_eq m n) as (λ c. (if c then Some k else index_from (k + 1) rest n) ≡ Some i → (if c then true else has_text (names_in rest) n) ≡ true)
+      [ true ↦ λ h. refl | false ↦ λ h. there_from_index rest n (k + 1) i h ] e
 
   -- a name that is not there
-  pub apply-missing : (t : Tree M) (n : Text) (call : Call M) → place_in t.children n ≡ None → (b : History M) → Reads t b → IsReply (Some (NoSuchSubsystem n)) b (in_front n call)
+  pub apply-missing : (t : Tree M) (n : Text) (call : Call M) → index_in t.children n ≡ None → (b : History M) → Reads t b → IsReply (Some (NoSuchSubsystem n)) b (in_front n call)
   apply-missing t n call none b reads =
-      let missing = missing-answer b n call (ap (λ ns. has_text ns n) (sym (reads_root t b reads).children) ∙ absent_from_place t.children n 0 none) in
-      record { answered = inr (sym missing); there = λ nothing. sym missing }
+      let missing = missing-answer b n call (ap (λ ns. has_text ns n) (sym (reads_root t b reads).children) ∙ absent_from_index t.children n 0 none) in
+      record { returned = inr (sym missing); there = λ nothing. sym missing }
 
-  module _ (t : Tree M) (n : Text) (i : ℕ) (place : place_in t.children n ≡ Some i) (child now : Tree M) (value : nth_in t.children i ≡ Some child) (shows : now ≡ child) (whole call : Call M) (front : whole ≡ in_front n call) where
+  module _ (t : Tree M) (n : Text) (i : ℕ) (index : index_in t.children n ≡ Some i) (child now : Tree M) (value : nth_in t.children i ≡ Some child) (shows : now ≡ child) (whole call : Call M) (front : whole ≡ in_front n call) where
     found : find_child t.children n ≡ Some now
-    found = (place_in-IsPlace t.children n i place).found ∙ value ∙ ap Some (sym shows)
+    found = (index_in-IsPlace t.children n i index).found ∙ value ∙ ap Some (sym shows)
 
     pub apply-reply : (got : Option Refusal) → ((b : History M) → Reads now b → IsReply got b call) → (b : History M) → Reads t b → IsReply got b whole
     apply-reply got said b reads = subst (λ c. IsReply got b c) (sym front) (down-reply t now n call got found said b reads)
@@ -49,15 +49,15 @@ module _ {M : Type 0} where
     module _ (m : Text) (name : nth_name t.children i ≡ Some m) (w : Tree M) where
       same_name : m ≡ n
       same_name =
-          let both : Some m ≡ Some n = sym name ∙ (place_in-IsPlace t.children n i place).name in cc
+          let both : Some m ≡ Some n = sym name ∙ (index_in-IsPlace t.children n i index).name in cc
 
       written : record { facts = t.facts; children = with_nth t.children i m w } ≡ with_child t n w
-      written = ap (λ f. record { facts = t.facts; children = f }) ((place_in-IsPlace t.children n i place).replaced m w ∙ ap (λ k. with_named t.children n k w) same_name)
+      written = ap (λ f. record { facts = t.facts; children = f }) ((index_in-IsPlace t.children n i index).replaced m w ∙ ap (λ k. with_named t.children n k w) same_name)
 
       pub apply-ok : (r : Result (Unit {0}) RegistryError) → ((b : History M) → Reads now b → IsReply (refusal_of r) b call) → OnOk r ((b : History M) → Reads now b → Reads w (after b call))
           → OnOk r ((b : History M) → Reads t b → Reads (record { facts = t.facts; children = with_nth t.children i m w }) (after b whole))
       apply-ok r said reads = subst (λ c. OnOk r ((b : History M) → Reads t b → Reads (record { facts = t.facts; children = with_nth t.children i m w }) (after b c))) (sym front)
-          (down-reads t (record { facts = t.facts; children = with_nth t.children i m w }) now w n call r found written (λ b h. (said b h).answered) reads)
+          (down-reads t (record { facts = t.facts; children = with_nth t.children i m w }) now w n call r found written (λ b h. (said b h).returned) reads)
 
       pub apply-err : (r : Result (Unit {0}) RegistryError) → OnErr r (w ≡ now) → OnErr r (record { facts = t.facts; children = with_nth t.children i m w } ≡ t)
       apply-err (Ok x) same = tt

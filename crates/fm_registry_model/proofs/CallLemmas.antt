@@ -7,7 +7,7 @@ use Rattle.fm_registry_model.specs.Tree.{Tree, Reads, ReadsFrom, find_child, nam
 use Rattle.fm_registry_model.specs.Steps.{with_subsystem, added_unless, with_child, with_named}
 use Rattle.fm_registry_model.specs.inside.Forests.{with_metric}
 use Rattle.fm_registry_model.specs.Loan.{LoanReads}
-use Rattle.fm_registry_model.specs.Answer.{Refusal, IsAnswered, refusal_of, metric_refusal, asking_refusal, subsystem_refusal, answer, after, after_if, gained}
+use Rattle.fm_registry_model.specs.Answer.{Refusal, IsReturned, refusal_of, metric_refusal, asking_refusal, subsystem_refusal, answer, after, after_if, gained}
 use Rattle.fm_registry_model.specs.Running.{IsReply}
 use Rattle.fm_registry_model.specs.declared.RegistryError.{RegistryError}
 use Rattle.fm_registry_model.proofs.TreeLemmas.{reads-with_metric, reads-add_child, reads-with_child, ReadsRoot, reads_root, reads_below, has_found, absent_from_find}
@@ -20,7 +20,7 @@ module _ {M : Type 0} where
       let same : answer b (Register [] m) ≡ None = (λ i. metric_refusal (sym (reads_root t b r).metrics i) (sym (reads_root t b r).children i) m) ∙ none in
       subst (λ o. Reads (with_metric t m) (after_if o b (Register [] m))) (sym same) (reads-with_metric t b m same r)
 
-  pub register-reads : (t u : Tree M) (m : Registration M) (r : Result (Unit {0}) RegistryError) → IsAnswered (refusal_of r) (metric_refusal t.facts.metrics (names_in t.children) m) → OnOk r (u ≡ with_metric t m)
+  pub register-reads : (t u : Tree M) (m : Registration M) (r : Result (Unit {0}) RegistryError) → IsReturned (refusal_of r) (metric_refusal t.facts.metrics (names_in t.children) m) → OnOk r (u ≡ with_metric t m)
       → OnOk r ((b : History M) → Reads t b → Reads u (after b (Register [] m)))
   register-reads t u m (Ok x) said new = λ b reads. subst (λ v. Reads v (after b (Register [] m))) (sym new) (reads-registered t b m (accepted _ said) reads)
   register-reads t u m (Err e) said new = tt
@@ -42,31 +42,31 @@ module _ {M : Type 0} where
           subst (λ d. Reads (added_unless (Some c) t n labels) (with_more b (if◌then◌else◌ {A = List (Call M)} d [] (Subsystem [] n labels ∷ [])))) (sym there)
           (subst (λ cs. Reads t (record b { calls = cs })) (sym (append-nil b.calls)) r)
 
-  pub subsystem-reply : (t : Tree M) (n : Text) (labels : Labels) (got : Option Refusal) → IsAnswered got (subsystem_refusal t.facts.depth t.facts.metrics (names_in t.children) n labels)
+  pub subsystem-reply : (t : Tree M) (n : Text) (labels : Labels) (got : Option Refusal) → IsReturned got (subsystem_refusal t.facts.depth t.facts.metrics (names_in t.children) n labels)
       → (has_text (names_in t.children) n ≡ true → got ≡ asking_refusal t.facts.depth n labels) → (b : History M) → Reads t b → IsReply got b (Subsystem [] n labels)
   subsystem-reply t n labels got said exact b r =
       let root = reads_root t b r in
       let depths : t.facts.depth ≡ b.depth + 0 = omega (arith, root.depth) in
       let same : subsystem_refusal t.facts.depth t.facts.metrics (names_in t.children) n labels ≡ answer b (Subsystem [] n labels) = λ i. subsystem_refusal (depths i) (root.metrics i) (root.children i) n labels in
       record {
-        answered = subst (λ o. IsAnswered got o) same said;
+        returned = subst (λ o. IsReturned got o) same said;
         there = λ none.
             let there : has_text (names_in t.children) n ≡ true = ap (λ ns. has_text ns n) root.children ∙ there_where_empty b [] n labels none in
             exact there ∙ sym (subsystem_refusal-there t.facts.depth t.facts.metrics (names_in t.children) n labels there) ∙ same;
       }
 
   -- a registration, which adds itself
-  pub registered-reply : (b : History M) (p : Path) (m : Registration M) (got : Option Refusal) → IsAnswered got (answer b (Register p m)) → IsReply got b (Register p m)
-  registered-reply b p m got said = record { answered = said; there = λ none. absurd (registered-gained b p m none) }
+  pub registered-reply : (b : History M) (p : Path) (m : Registration M) (got : Option Refusal) → IsReturned got (answer b (Register p m)) → IsReply got b (Register p m)
+  registered-reply b p m got said = record { returned = said; there = λ none. absurd (registered-gained b p m none) }
 
-  pub subsystem-reads : (t u : Tree M) (n : Text) (labels : Labels) (r : Result (Unit {0}) RegistryError) → IsAnswered (refusal_of r) (subsystem_refusal t.facts.depth t.facts.metrics (names_in t.children) n labels) → OnOk r (u ≡ with_subsystem t n labels)
+  pub subsystem-reads : (t u : Tree M) (n : Text) (labels : Labels) (r : Result (Unit {0}) RegistryError) → IsReturned (refusal_of r) (subsystem_refusal t.facts.depth t.facts.metrics (names_in t.children) n labels) → OnOk r (u ≡ with_subsystem t n labels)
       → OnOk r ((b : History M) → Reads t b → Reads u (after b (Subsystem [] n labels)))
   subsystem-reads t u n labels (Ok x) said new = λ b reads. subst (λ v. Reads v (after b (Subsystem [] n labels))) (sym new) (reads-subsystem t b n labels (accepted _ said) reads)
   subsystem-reads t u n labels (Err e) said new = tt
 
   -- a call below a subsystem
   pub down-reads : (t u c w : Tree M) (n : Text) (call : Call M) (r : Result (Unit {0}) RegistryError) → find_child t.children n ≡ Some c → u ≡ with_child t n w
-      → ((b : History M) → Reads c b → IsAnswered (refusal_of r) (answer b call)) → OnOk r ((b : History M) → Reads c b → Reads w (after b call))
+      → ((b : History M) → Reads c b → IsReturned (refusal_of r) (answer b call)) → OnOk r ((b : History M) → Reads c b → Reads w (after b call))
       → OnOk r ((b : History M) → Reads t b → Reads u (after b (in_front n call)))
   down-reads t u c w n call (Err e) there new said reads = tt
   down-reads t u c w n call (Ok x) there new said reads = λ b reads_t.
@@ -86,12 +86,12 @@ module _ {M : Type 0} where
       let named : has_text (children_at b.calls []) n ≡ true = ap (λ ns. has_text ns n) (sym (reads_root t b reads_t).children) ∙ has_found t.children n c there in
       let reply = said (history_below b n) child in
       record {
-        answered = subst (λ o. IsAnswered got o) (sym (answer-in_front b n call named)) reply.answered;
+        returned = subst (λ o. IsReturned got o) (sym (answer-in_front b n call named)) reply.returned;
         there = λ none. reply.there (gained_below-empty b n call none) ∙ sym (answer-in_front b n call named);
       }
 
   -- the borrow of a subsystem that a call created here
-  pub subsystem-loan : (t c : Tree M) (n : Text) (labels : Labels) → IsAnswered None (subsystem_refusal t.facts.depth t.facts.metrics (names_in t.children) n labels) → find_child (with_subsystem t n labels).children n ≡ Some c
+  pub subsystem-loan : (t c : Tree M) (n : Text) (labels : Labels) → IsReturned None (subsystem_refusal t.facts.depth t.facts.metrics (names_in t.children) n labels) → find_child (with_subsystem t n labels).children n ≡ Some c
       → (b : History M) → Reads t b → LoanReads (with_subsystem t n labels) n c (after b (Subsystem [] n labels))
   subsystem-loan t c n labels said there b reads =
       let asked : Reads (with_subsystem t n labels) (after b (Subsystem [] n labels)) = reads-subsystem t b n labels (accepted _ said) reads in

@@ -4,7 +4,7 @@ use Rattle.std.specs.Str.{bytes_eq}
 use Rattle.fm_registry_model.specs.Texts.{Text}
 use Rattle.fm_registry_model.specs.Tree.{Forest, Leaf, Child, Tree, find_child}
 use Rattle.fm_registry_model.specs.Steps.{with_named}
-use Rattle.fm_registry_model.specs.inside.Forests.{nth_in, nth_name, with_nth, place_from, place_in}
+use Rattle.fm_registry_model.specs.inside.Forests.{nth_in, nth_name, with_nth, index_from, index_in}
 use Rattle.fm_registry_model.proofs.TextLemmas.{same_text}
 
 module _ {M : Type 0} where
@@ -15,22 +15,22 @@ module _ {M : Type 0} where
     pub name : nth_name f i ≡ Some n
     pub replaced : (m : Text) (w : Tree M) → with_nth f i m w ≡ with_named f n m w
 
-  is_place : (f : Forest M) (n : Text) (k j : ℕ) → place_from k f n ≡ Some j → (i : ℕ) × (j ≡ k + i) × IsPlace f n i
-  is_place Leaf n k j h = absurd (none_not_some h)
+  is_index : (f : Forest M) (n : Text) (k j : ℕ) → index_from k f n ≡ Some j → (i : ℕ) × (j ≡ k + i) × IsPlace f n i
+  is_index Leaf n k j h = absurd (none_not_some h)
     where
       none_not_some : None ≡ Some j → ⊥
       none_not_some e = cc
-  is_place (Child name facts below rest) n k j h =
-      elim (bytes_eq name n) as (λ c. bytes_eq name n ≡ c → (if c then Some k else place_from (k + 1) rest n) ≡ Some j → (i : ℕ) × (j ≡ k + i) × IsPlace (Child name facts below rest) n i) [
+  is_index (Child name facts below rest) n k j h =
+      elim (bytes_eq name n) as (λ c. bytes_eq name n ≡ c → (if c then Some k else index_from (k + 1) rest n) ≡ Some j → (i : ℕ) × (j ≡ k + i) × IsPlace (Child name facts below rest) n i) [
         | true ↦ λ e s.
             let same : k ≡ j = cc in
             (0, sym same ∙ omega arith, record { found = rw e refl; there = refl; name = ap Some (same_text name n e); replaced = λ m w. rw e refl })
         | false ↦ λ e s.
-            let later = is_place rest n (k + 1) j s in
+            let later = is_index rest n (k + 1) j s in
             (suc later.0, omega (arith, later.1), record { found = rw e later.2.found; there = later.2.there; name = later.2.name; replaced = λ m w. rw e (ap (λ r. Child name facts below r) (later.2.replaced m w)) })
       ] refl h
 
-  pub place_in-IsPlace : (f : Forest M) (n : Text) (i : ℕ) → place_in f n ≡ Some i → IsPlace f n i
-  place_in-IsPlace f n i h =
-      let p = is_place f n 0 i h in
+  pub index_in-IsPlace : (f : Forest M) (n : Text) (i : ℕ) → index_in f n ≡ Some i → IsPlace f n i
+  index_in-IsPlace f n i h =
+      let p = is_index f n 0 i h in
       subst (λ k. IsPlace f n k) (omega (arith, p.1)) p.2

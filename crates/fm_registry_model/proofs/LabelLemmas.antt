@@ -106,8 +106,8 @@ module _ {A : Type 0} (seen : A → Label) where
   bad_at ls j l h got = let at = bad_from ls 0 j h in at.2 l (ap (λ i. slice_get ls i) (omega (arith, at.1)) ∙ got)
 
 -- an index that is found is within the list
-pub place_within : {A : Type 0} (test : A → Bool) (ls : List A) (k j : ℕ) → position_from test k ls ≡ Some j → j < k + length ls
-place_within test [] k j h = absurd (none_not_some h)
-place_within test (x ∷ ls) k j h =
+pub index_within : {A : Type 0} (test : A → Bool) (ls : List A) (k j : ℕ) → position_from test k ls ≡ Some j → j < k + length ls
+index_within test [] k j h = absurd (none_not_some h)
+index_within test (x ∷ ls) k j h =
     elim (test x) as (λ c. (if c then Some k else position_from test (k + 1) ls) ≡ Some j → j < k + length (x ∷ ls))
-    [ true ↦ λ e. let same : k ≡ j = cc in omega (arith, same) | false ↦ λ e. omega (arith, place_within test ls (k + 1) j e) ] h
+    [ true ↦ λ e. let same : k ≡ j = cc in omega (arith, same) | false ↦ λ e. omega (arith, index_within test ls (k + 1) j e) ] h

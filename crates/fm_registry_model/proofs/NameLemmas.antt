@@ -156,14 +156,14 @@ printed-tail None name unit = refl
 printed-tail (Some outer) name None = refl
 printed-tail (Some outer) name (Some unit) = append_assoc outer (codes "_" ++ name) (codes "_" ++ unit)
 
-one_behind : (namespace : Option Text) (a b : Text) → prefixed_name namespace a ≡ prefixed_name namespace b → a ≡ b
-one_behind None a b e = e
-one_behind (Some outer) a b e = append_cancel_left (codes "_") a b (append_cancel_left outer (codes "_" ++ a) (codes "_" ++ b) e)
+one_after : (namespace : Option Text) (a b : Text) → prefixed_name namespace a ≡ prefixed_name namespace b → a ≡ b
+one_after None a b e = e
+one_after (Some outer) a b e = append_cancel_left (codes "_") a b (append_cancel_left outer (codes "_" ++ a) (codes "_" ++ b) e)
 
 -- a text after the namespace of a subsystem is below its name, after the namespace of its registry
-behind_below : (namespace : Option Text) (n t : Text) → prefixed_name namespace n ++ (codes "_" ++ t) ≡ prefixed_name namespace (n ++ (codes "_" ++ t))
-behind_below None n t = refl
-behind_below (Some outer) n t = append_assoc outer (codes "_" ++ n) (codes "_" ++ t)
+after_below : (namespace : Option Text) (n t : Text) → prefixed_name namespace n ++ (codes "_" ++ t) ≡ prefixed_name namespace (n ++ (codes "_" ++ t))
+after_below None n t = refl
+after_below (Some outer) n t = append_assoc outer (codes "_" ++ n) (codes "_" ++ t)
 
 -- the name comes after the namespace, and is below n
 record IsPrintedBelow (namespace : Option Text) (n name : Text) : Type 0 where
@@ -192,7 +192,7 @@ one_of (c ∷ n) (d ∷ m) r s e =
 -- names below two subsystems of one registry differ
 apart_differ : (namespace : Option Text) (n m x y : Text) → AreApart n m → m ≢ n → IsPrintedBelow namespace n x → IsPrintedBelow namespace m y → y ≢ x
 apart_differ namespace n m x y apart other h k same =
-    let tails : h.tail ≡ k.tail = one_behind namespace h.tail k.tail (sym h.is ∙ sym same ∙ k.is) in
+    let tails : h.tail ≡ k.tail = one_after namespace h.tail k.tail (sym h.is ∙ sym same ∙ k.is) in
     elim (one_of n m h.below.rest k.below.rest (sym h.below.is ∙ tails ∙ k.below.is)) as (λ _. ⊥)
     [ inl equal ↦ other (sym equal) | inr (inl below) ↦ apart.not_above below | inr (inr below) ↦ apart.not_below below ]
 
@@ -222,7 +222,7 @@ module _ (namespace : Option Text) (f : Text → List Text) (below : (n : Text) 
   tail_differs t (m ∷ ms) free =
       all_append (λ y. y ≢ prefixed_name namespace t) (f m) (flat_map f ms)
       (all_weaker (λ y. IsPrintedBelow namespace m y) (λ y. y ≢ prefixed_name namespace t)
-      (λ y k same. free.0 (subst (λ u. IsBelow m u) (one_behind namespace k.tail t (sym k.is ∙ same)) k.below)) (f m) (below m))
+      (λ y k same. free.0 (subst (λ u. IsBelow m u) (one_after namespace k.tail t (sym k.is ∙ same)) k.below)) (f m) (below m))
       (tail_differs t ms free.1)
 
   tails_differ : (ts ms : List Text) → AllByRecursion (λ m. AllByRecursion (λ t. ¬ (IsBelow m t)) ts) ms → AllByRecursion (λ x. AllByRecursion (λ y. y ≢ x) (flat_map f ms)) (map (prefixed_name namespace) ts)
@@ -233,31 +233,31 @@ module _ (namespace : Option Text) (f : Text → List Text) (below : (n : Text) 
   )
 
 -- the name comes after the namespace
-abbrev IsBehind : Option Text → Text → Type 0
-IsBehind namespace name = (tail : Text) × (name ≡ prefixed_name namespace tail)
+abbrev IsAfter : Option Text → Text → Type 0
+IsAfter namespace name = (tail : Text) × (name ≡ prefixed_name namespace tail)
 
-tails_behind : (namespace : Option Text) (ts : List Text) → AllByRecursion (IsBehind namespace) (map (prefixed_name namespace) ts)
-tails_behind namespace [] = tt
-tails_behind namespace (t ∷ ts) = ((t, refl), tails_behind namespace ts)
+tails_after : (namespace : Option Text) (ts : List Text) → AllByRecursion (IsAfter namespace) (map (prefixed_name namespace) ts)
+tails_after namespace [] = tt
+tails_after namespace (t ∷ ts) = ((t, refl), tails_after namespace ts)
 
-below_behind : (namespace : Option Text) (n name : Text) → IsBehind (Some (prefixed_name namespace n)) name → IsPrintedBelow namespace n name
-below_behind namespace n name h = record { tail = n ++ (codes "_" ++ h.0); is = h.1 ∙ behind_below namespace n h.0; below = record { rest = h.0; is = refl } }
+below_after : (namespace : Option Text) (n name : Text) → IsAfter (Some (prefixed_name namespace n)) name → IsPrintedBelow namespace n name
+below_after namespace n name h = record { tail = n ++ (codes "_" ++ h.0); is = h.1 ∙ after_below namespace n h.0; below = record { rest = h.0; is = refl } }
 
-flat_behind : (namespace : Option Text) (f : Text → List Text) (ns : List Text) → ((n : Text) → AllByRecursion (IsBehind (Some (prefixed_name namespace n))) (f n)) → AllByRecursion (IsBehind namespace) (flat_map f ns)
-flat_behind namespace f [] each = tt
-flat_behind namespace f (n ∷ ns) each =
-    all_append (IsBehind namespace) (f n) (flat_map f ns)
-    (all_weaker (IsBehind (Some (prefixed_name namespace n))) (IsBehind namespace) (λ name h. (n ++ (codes "_" ++ h.0), h.1 ∙ behind_below namespace n h.0)) (f n) (each n))
-    (flat_behind namespace f ns each)
+flat_after : (namespace : Option Text) (f : Text → List Text) (ns : List Text) → ((n : Text) → AllByRecursion (IsAfter (Some (prefixed_name namespace n))) (f n)) → AllByRecursion (IsAfter namespace) (flat_map f ns)
+flat_after namespace f [] each = tt
+flat_after namespace f (n ∷ ns) each =
+    all_append (IsAfter namespace) (f n) (flat_map f ns)
+    (all_weaker (IsAfter (Some (prefixed_name namespace n))) (IsAfter namespace) (λ name h. (n ++ (codes "_" ++ h.0), h.1 ∙ after_below namespace n h.0)) (f n) (each n))
+    (flat_after namespace f ns each)
 
 -- different tails after one namespace
-different-behind : (namespace : Option Text) (ts : List Text) → AllDifferent ts → AllDifferent (map (prefixed_name namespace) ts)
-different-behind namespace [] h = tt
-different-behind namespace (t ∷ ts) h = (each ts h.0, different-behind namespace ts h.1)
+different-after : (namespace : Option Text) (ts : List Text) → AllDifferent ts → AllDifferent (map (prefixed_name namespace) ts)
+different-after namespace [] h = tt
+different-after namespace (t ∷ ts) h = (each ts h.0, different-after namespace ts h.1)
   where
     each : (us : List Text) → AllByRecursion (λ u. u ≢ t) us → AllByRecursion (λ x. x ≢ prefixed_name namespace t) (map (prefixed_name namespace) us)
     each [] k = tt
-    each (u ∷ us) k = ((λ same. k.0 (one_behind namespace u t same)), each us k.1)
+    each (u ∷ us) k = ((λ same. k.0 (one_after namespace u t same)), each us k.1)
 
 module _ {M : Type 0} where
   own_names : (namespace : Option Text) (labels : Labels) (rs : List (Registration M)) → map listed_name (listed_with namespace labels rs) ≡ map (prefixed_name namespace) (tails_of rs)
@@ -277,29 +277,29 @@ module _ {M : Type 0} where
       map-append listed_name (listed_with b.namespace b.labels (metrics_at b.calls [])) (flat_map (λ n. order_to k (history_below b n)) (children_at b.calls []))
       ∙ (λ i. own_names b.namespace b.labels (metrics_at b.calls []) i ++ names-flat (λ n. order_to k (history_below b n)) (children_at b.calls []) i)
 
-  names_behind : (k : ℕ) (b : History M) → AllByRecursion (IsBehind b.namespace) (names_to k b)
-  names_behind zero b = subst (AllByRecursion (IsBehind b.namespace)) (sym (own_names b.namespace b.labels (metrics_at b.calls []))) (tails_behind b.namespace (tails_of (metrics_at b.calls [])))
-  names_behind (suc k) b =
-      subst (AllByRecursion (IsBehind b.namespace)) (sym (names_to-suc k b))
-      (all_append (IsBehind b.namespace) (map (prefixed_name b.namespace) (tails_of (metrics_at b.calls []))) (flat_map (λ n. names_to k (history_below b n)) (children_at b.calls []))
-      (tails_behind b.namespace (tails_of (metrics_at b.calls [])))
-      (flat_behind b.namespace (λ n. names_to k (history_below b n)) (children_at b.calls []) (λ n. names_behind k (history_below b n))))
+  names_after : (k : ℕ) (b : History M) → AllByRecursion (IsAfter b.namespace) (names_to k b)
+  names_after zero b = subst (AllByRecursion (IsAfter b.namespace)) (sym (own_names b.namespace b.labels (metrics_at b.calls []))) (tails_after b.namespace (tails_of (metrics_at b.calls [])))
+  names_after (suc k) b =
+      subst (AllByRecursion (IsAfter b.namespace)) (sym (names_to-suc k b))
+      (all_append (IsAfter b.namespace) (map (prefixed_name b.namespace) (tails_of (metrics_at b.calls []))) (flat_map (λ n. names_to k (history_below b n)) (children_at b.calls []))
+      (tails_after b.namespace (tails_of (metrics_at b.calls [])))
+      (flat_after b.namespace (λ n. names_to k (history_below b n)) (children_at b.calls []) (λ n. names_after k (history_below b n))))
 
   names_below : (k : ℕ) (b : History M) (n : Text) → AllByRecursion (λ x. IsPrintedBelow b.namespace n x) (names_to k (history_below b n))
   names_below k b n =
-      all_weaker (IsBehind (Some (prefixed_name b.namespace n))) (λ x. IsPrintedBelow b.namespace n x) (λ x h. below_behind b.namespace n x h) (names_to k (history_below b n)) (names_behind k (history_below b n))
+      all_weaker (IsAfter (Some (prefixed_name b.namespace n))) (λ x. IsPrintedBelow b.namespace n x) (λ x h. below_after b.namespace n x h) (names_to k (history_below b n)) (names_after k (history_below b n))
 
   names_different : (k : ℕ) (b : History M) → IsHistory b → AllDifferent (names_to k b)
   names_different zero b h =
       let rules = names_separate b [] h in
-      subst AllDifferent (sym (own_names b.namespace b.labels (metrics_at b.calls []))) (different-behind b.namespace (tails_of (metrics_at b.calls [])) rules.different)
+      subst AllDifferent (sym (own_names b.namespace b.labels (metrics_at b.calls []))) (different-after b.namespace (tails_of (metrics_at b.calls [])) rules.different)
   names_different (suc k) b h =
       let rules = names_separate b [] h in
       let tails = tails_of (metrics_at b.calls []) in
       let children = children_at b.calls [] in
       subst AllDifferent (sym (names_to-suc k b))
       (different-++ (map (prefixed_name b.namespace) tails) (flat_map (λ n. names_to k (history_below b n)) children)
-      (different-behind b.namespace tails rules.different)
+      (different-after b.namespace tails rules.different)
       (different-flat b.namespace (λ n. names_to k (history_below b n)) (names_below k b) children (λ n there. names_different k (history_below b n) (IsHistory-below b n h there)) (is_once-children b [] h) rules.apart)
       (tails_differ b.namespace (λ n. names_to k (history_below b n)) (names_below k b) tails children rules.free))
 

@@ -8,7 +8,7 @@ use Rattle.fm_grammar.proofs.Runs.{all_weaker}
 use Rattle.fm_registry_model.specs.History.{root_history, labels_at, namespace_at}
 use Rattle.fm_registry_model.specs.Tree.{Tree, Leaf, Reads, subtree_from, metrics_of, children_of}
 use Rattle.fm_registry_model.specs.Texts.{Text, Path, Labels, has_text}
-use Rattle.fm_registry_model.specs.Answer.{Refusal, namespace_refusal, label_refusal_behind, labels_refusal_behind, root_labels_refusal, or_then}
+use Rattle.fm_registry_model.specs.Answer.{Refusal, namespace_refusal, label_refusal_after, labels_refusal_after, root_labels_refusal, or_then}
 use Rattle.fm_registry_model.proofs.TextLemmas.{bytes_eq-refl}
 use Rattle.fm_raw.proofs.NameLemmas.{snake_case_is, label_name_decides}
 use Rattle.fm_registry_model.proofs.AcceptedLemmas.{IsHistory-root_history}
@@ -35,10 +35,10 @@ record AreNew (before : List Text) (labels : Labels) : Type 0 where
   names : AllByRecursion (λ label. IsLabelName label.name) labels
   different : AllDifferent (map (λ l. l.name) labels)
 
-are_new : (before : List Text) (labels : Labels) → labels_refusal_behind before labels ≡ None → AreNew before labels
+are_new : (before : List Text) (labels : Labels) → labels_refusal_after before labels ≡ None → AreNew before labels
 are_new before [] h = record { absent = tt; names = tt; different = tt }
 are_new before (label ∷ labels) h =
-    let parts = or_then-none (label_refusal_behind before label.name) (labels_refusal_behind (before ++ label.name ∷ []) labels) h in
+    let parts = or_then-none (label_refusal_after before label.name) (labels_refusal_after (before ++ label.name ∷ []) labels) h in
     let passed = label_passed before label.name parts.0 in
     let rest = are_new (before ++ label.name ∷ []) labels parts.1 in
     record {
@@ -54,25 +54,25 @@ root_labels_valid labels h =
     record { names = new.names; different = new.different }
 
 -- labels in turn: if the first ones pass, the others decide
-pub labels_refusal_behind-++ : (before : List Text) (xs ys : Labels) → labels_refusal_behind before xs ≡ None → labels_refusal_behind before (xs ++ ys) ≡ labels_refusal_behind (before ++ map (λ l. l.name) xs) ys
-labels_refusal_behind-++ before [] ys h = ap (λ ns. labels_refusal_behind ns ys) (sym (append-nil before))
-labels_refusal_behind-++ before (x ∷ xs) ys h =
-    let parts = or_then-none (label_refusal_behind before x.name) (labels_refusal_behind (before ++ x.name ∷ []) xs) h in
-    ap (λ o. or_then o (labels_refusal_behind (before ++ x.name ∷ []) (xs ++ ys))) parts.0
-    ∙ labels_refusal_behind-++ (before ++ x.name ∷ []) xs ys parts.1
-    ∙ ap (λ ns. labels_refusal_behind ns ys) (append_assoc before (x.name ∷ []) (map (λ l. l.name) xs))
+pub labels_refusal_after-++ : (before : List Text) (xs ys : Labels) → labels_refusal_after before xs ≡ None → labels_refusal_after before (xs ++ ys) ≡ labels_refusal_after (before ++ map (λ l. l.name) xs) ys
+labels_refusal_after-++ before [] ys h = ap (λ ns. labels_refusal_after ns ys) (sym (append-nil before))
+labels_refusal_after-++ before (x ∷ xs) ys h =
+    let parts = or_then-none (label_refusal_after before x.name) (labels_refusal_after (before ++ x.name ∷ []) xs) h in
+    ap (λ o. or_then o (labels_refusal_after (before ++ x.name ∷ []) (xs ++ ys))) parts.0
+    ∙ labels_refusal_after-++ (before ++ x.name ∷ []) xs ys parts.1
+    ∙ ap (λ ns. labels_refusal_after ns ys) (append_assoc before (x.name ∷ []) (map (λ l. l.name) xs))
 
 -- and a refusal stays, whatever follows
-pub labels_refusal_behind-stays : (before : List Text) (xs ys : Labels) (why : Refusal) → labels_refusal_behind before xs ≡ Some why → labels_refusal_behind before (xs ++ ys) ≡ Some why
-labels_refusal_behind-stays before [] ys why h = absurd (none_not_some h)
+pub labels_refusal_after-stays : (before : List Text) (xs ys : Labels) (why : Refusal) → labels_refusal_after before xs ≡ Some why → labels_refusal_after before (xs ++ ys) ≡ Some why
+labels_refusal_after-stays before [] ys why h = absurd (none_not_some h)
   where
     none_not_some : None ≡ Some why → ⊥
     none_not_some e = cc
-labels_refusal_behind-stays before (x ∷ xs) ys why h = by (label_refusal_behind before x.name) h (λ e. labels_refusal_behind-stays (before ++ x.name ∷ []) xs ys why e)
+labels_refusal_after-stays before (x ∷ xs) ys why h = by (label_refusal_after before x.name) h (λ e. labels_refusal_after-stays (before ++ x.name ∷ []) xs ys why e)
   where
-    by : (o : Option Refusal) → or_then o (labels_refusal_behind (before ++ x.name ∷ []) xs) ≡ Some why
-        → (labels_refusal_behind (before ++ x.name ∷ []) xs ≡ Some why → labels_refusal_behind (before ++ x.name ∷ []) (xs ++ ys) ≡ Some why)
-        → or_then o (labels_refusal_behind (before ++ x.name ∷ []) (xs ++ ys)) ≡ Some why
+    by : (o : Option Refusal) → or_then o (labels_refusal_after (before ++ x.name ∷ []) xs) ≡ Some why
+        → (labels_refusal_after (before ++ x.name ∷ []) xs ≡ Some why → labels_refusal_after (before ++ x.name ∷ []) (xs ++ ys) ≡ Some why)
+        → or_then o (labels_refusal_after (before ++ x.name ∷ []) (xs ++ ys)) ≡ Some why
     by None e later = later e
     by (Some r) e later = e
 

@@ -107,17 +107,17 @@ abbrev pub namespace_refusal : Text → Option Refusal
 namespace_refusal namespace = first_of ((not (is_snake_case namespace), InvalidNamespace namespace) ∷ [])
 
 -- why a label is refused after labels with these names
-abbrev pub label_refusal_behind : List Text → Text → Option Refusal
-label_refusal_behind before name = first_of ((not (is_label_name name), InvalidLabelName name) ∷ (has_text before name, DuplicateLabel name) ∷ [])
+abbrev pub label_refusal_after : List Text → Text → Option Refusal
+label_refusal_after before name = first_of ((not (is_label_name name), InvalidLabelName name) ∷ (has_text before name, DuplicateLabel name) ∷ [])
 
 -- the first refusal of labels that come after others with these names
-abbrev pub labels_refusal_behind : List Text → Labels → Option Refusal
-labels_refusal_behind before [] = None
-labels_refusal_behind before (label ∷ labels) = or_then (label_refusal_behind before label.name) (labels_refusal_behind (before ++ label.name ∷ []) labels)
+abbrev pub labels_refusal_after : List Text → Labels → Option Refusal
+labels_refusal_after before [] = None
+labels_refusal_after before (label ∷ labels) = or_then (label_refusal_after before label.name) (labels_refusal_after (before ++ label.name ∷ []) labels)
 
 -- why a root refuses its labels
 abbrev pub root_labels_refusal : Labels → Option Refusal
-root_labels_refusal labels = labels_refusal_behind [] labels
+root_labels_refusal labels = labels_refusal_after [] labels
 
 -- the first name on the path that is not that of a subsystem
 abbrev pub missing_name : Option Text → Option Refusal
@@ -153,5 +153,5 @@ MayTakeMemory (Some (NameTaken name)) = ⊤
 MayTakeMemory (Some _) = ⊥
 
 -- a call got the wanted reply, or there was no memory and the call may need some
-abbrev pub IsAnswered : Option Refusal → Option Refusal → Type 0
-IsAnswered got wanted = ((got ≡ Some Memory) × MayTakeMemory wanted) ⊎ (got ≡ wanted)
+abbrev pub IsReturned : Option Refusal → Option Refusal → Type 0
+IsReturned got wanted = ((got ≡ Some Memory) × MayTakeMemory wanted) ⊎ (got ≡ wanted)

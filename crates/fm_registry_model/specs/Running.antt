@@ -2,13 +2,13 @@
 use Rattle.std.specs.Prelude.{◌≡◌, List, [], ◌∷◌, Option, None, Some}
 use Rattle.fm_registry_model.specs.History.{History, Call}
 use Rattle.fm_registry_model.specs.Tree.{Tree, Reads}
-use Rattle.fm_registry_model.specs.Answer.{Refusal, IsAnswered, answer, gained, after}
+use Rattle.fm_registry_model.specs.Answer.{Refusal, IsReturned, answer, gained, after}
 
 module _ {M : Type 0} where
   -- a call got the reply of the history, or there was no memory and the call may need some; a call that adds nothing to
   -- the history, since the subsystem exists, needs none
   pub record IsReply (reply : Option Refusal) (b : History M) (call : Call M) : Type 0 where
-    pub answered : IsAnswered reply (answer b call)
+    pub returned : IsReturned reply (answer b call)
     pub there : gained b call ≡ [] → reply ≡ answer b call
 
   -- the history after a reply: a call that found no memory does not change it

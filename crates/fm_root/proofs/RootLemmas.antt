@@ -7,7 +7,7 @@ use Rattle.fm_raw.specs.declared.metadata.Unit as unit
 use Rattle.fm_exposition.specs.Samples.{labels_of}
 use Rattle.fm_registry_model.specs.Texts.{Text, Path, Labels}
 use Rattle.fm_registry_model.specs.History.{History, Register, Subsystem}
-use Rattle.fm_registry_model.specs.Answer.{IsAnswered, refusal_of, answer, after}
+use Rattle.fm_registry_model.specs.Answer.{IsReturned, refusal_of, answer, after}
 use Rattle.fm_registry_model.specs.Running.{IsReply}
 use Rattle.fm_registry_model.specs.Tree.{Tree, Reads}
 use Rattle.fm_registry_model.specs.declared.RegistryError.{RegistryError}
@@ -47,7 +47,7 @@ module _ {M : Type 0} (Types : M → MetricType → Type 0) where
         registers = record {
           metric_type = t;
           declared = runs.is.1;
-          answer = λ b reads. subst (λ k. IsAnswered (refusal_of r) (answer b k)) same (runs.reply b reads).answered;
+          answer = λ b reads. subst (λ k. IsReturned (refusal_of r) (answer b k)) same (runs.reply b reads).returned;
           ok = subst (λ k. OnOk r ((b : History M) → Reads old b → Reads new (after b k))) same runs.ok;
           err = runs.err;
         };

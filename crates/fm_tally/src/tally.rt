@@ -17,7 +17,7 @@ impl TallyKey for Brand {}
 // What the lock protects. Its type says that whenever the lock is free, the book's sum is the sum of the amounts of
 // all shares of this tally: a ledger's total is the sum of its tokens, each share has one, and the one kept here is 0.
 #[derive(Drop)]
-struct Kept<K: TallyKey> {
+struct Protected<K: TallyKey> {
     book: Book,
     account: ledger::Book<K>,
     own: ledger::Share<K>,
@@ -60,7 +60,7 @@ impl<K: TallyKey> Share<K> {
     }
 }
 
-impl<K: TallyKey> Kept<K> {
+impl<K: TallyKey> Protected<K> {
     fn add(&mut self, share: &mut Share<K>, v: u64) -> Result<(), TallyError>
         ensures added { OnOk result (self.new.book ≡ self.old.book + v) }
         ensures amount { OnOk result (share.new.amount ≡ share.old.amount + v) }
@@ -69,7 +69,7 @@ impl<K: TallyKey> Kept<K> {
         ensures full { OnErr result (2 ^ 64 ≤ self.old.book + v) }
         ensures only_full { IfErr result (λ e. e ≡ TallyError.Full) }
     {
-        let Kept { book, account, .. } = self;
+        let Protected { book, account, .. } = self;
         book.add(0, v)?;
         account.add(&mut share.token, v);
         account.audit(&mut share.token);
@@ -99,7 +99,7 @@ impl<K: TallyKey> Kept<K> {
 #[derive(Drop)]
 pub struct Tally<K: TallyKey> {
     shares: usize,
-    kept: Mutex<Kept<K>>,
+    protected: Mutex<Protected<K>>,
 }
 
 impl<K: TallyKey> Model for Tally<K> {
@@ -136,12 +136,18 @@ impl<K: TallyKey> Tally<K> {
                 token,
             });
         }
-        let kept = Mutex::new(Kept {
+        let protected = Mutex::new(Protected {
             book: Book::new(),
             account,
             own,
         });
-        Ok((Tally { shares: n, kept }, shares))
+        Ok((
+            Tally {
+                shares: n,
+                protected,
+            },
+            shares,
+        ))
     }
 
     /// Adds a value to the tally through this share. Fails with `Full` if the tally's sum would pass 2^64 - 1; then
@@ -152,7 +158,7 @@ impl<K: TallyKey> Tally<K> {
         ensures full { OnErr result (share.new ≡ share.old) }
         ensures only_full { IfErr result (λ e. e ≡ TallyError.Full) }
     {
-        self.kept.lock(rt).add(share, v)
+        self.protected.lock(rt).add(share, v)
     }
 
     /// Returns the sum of what all workers have added so far: at least this share's amount, and at least each total
@@ -164,7 +170,7 @@ impl<K: TallyKey> Tally<K> {
         ensures seen { share.new.seen ≡ result }
         ensures amount { share.new.amount ≡ share.old.amount }
     {
-        self.kept.lock(rt).total(share)
+        self.protected.lock(rt).total(share)
     }
 
     /// Returns the sum of the amounts of all shares, once all workers have returned theirs. No share was told a greater
@@ -185,16 +191,16 @@ impl<K: TallyKey> Tally<K> {
     {
         let Tally {
             shares: wanted,
-            kept,
+            protected,
         } = self;
         if shares.len() != wanted {
             return Err(TallyError::MissingShares);
         }
-        let Kept {
+        let Protected {
             book,
             mut account,
             mut own,
-        } = kept.into_inner();
+        } = protected.into_inner();
         let most = gather(&mut own, shares);
         account.audit(&mut own);
         let sum = book.read();

@@ -2,7 +2,7 @@
 ghost use Rattle.std.specs.Prelude.{◌≡◌, [], ◌∷◌, pos};
 ghost use Rattle.fm_grammar.specs.Exposition.{Whole};
 ghost use Rattle.fm_encoder.specs.Points.{GaugePoint};
-ghost use Rattle.fm_encoder.specs.Hands.{Joined, MembersOf};
+ghost use Rattle.fm_encoder.specs.Emits.{Joined, MembersOf};
 
 use fastmetrics::encoder::{EncodeError, EncodeLabelSet, EncodeMetric, MetricEncoder};
 use fastmetrics::metrics::gauge::ConstGauge;

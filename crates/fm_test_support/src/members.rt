@@ -2,7 +2,7 @@
 ghost use Rattle.std.specs.Prelude.{◌≡◌, ◌⊎◌};
 ghost use Rattle.std.specs.Option.{option_map};
 ghost use Rattle.fm_encoder.specs.Points.{millis};
-ghost use Rattle.fm_encoder.specs.Hands.{MembersOf};
+ghost use Rattle.fm_encoder.specs.Emits.{MembersOf};
 
 use fastmetrics::encoder::{EncodeError, EncodeLabelSet, EncodeMetric, EncodePoint, MetricEncoder};
 use fastmetrics::raw::MetricType;

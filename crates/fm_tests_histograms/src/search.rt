@@ -38,16 +38,16 @@ fn search<L: Ledger>(n: usize, first: usize, blank: Blank) -> (usize, u64)
         asked: 0,
         steps: Steps::new(blank),
     };
-    let place = find_bucket(n, &mut probe);
-    (place, probe.asked)
+    let index = find_bucket(n, &mut probe);
+    (index, probe.asked)
 }
 
 #[test]
 fn asks_as_often_as_there_are_digits(rt: HostRuntime) -> Result<(), Fail> {
     for (n, most) in [(0, 0), (11, 4), (255, 8)] {
         for first in 0..256usize {
-            let (place, asked) = search::<Brand>(n, first, Blank::new(1));
-            assert!(rt; place == first.min(n) && asked <= most, "{asked} of {n}");
+            let (index, asked) = search::<Brand>(n, first, Blank::new(1));
+            assert!(rt; index == first.min(n) && asked <= most, "{asked} of {n}");
         }
     }
     Ok(())

@@ -21,7 +21,7 @@ fn laws_can_be_called(_rt: HostRuntime) -> Result<(), Fail> {
     laws::equal_metadata_hash_alike();
     laws::counts_add_up();
     laws::merging_is_lawful();
-    laws::clean_is_without_fault();
+    laws::valid_is_without_fault();
     laws::names_are_different::<Counter>();
     laws::unique_readability();
     Ok(())

@@ -2,7 +2,7 @@
 ghost use Rattle.std.specs.Prelude.{◌≡◌, [], ◌∷◌, pos, ⊤};
 ghost use Rattle.fm_grammar.specs.Exposition.{Whole};
 ghost use Rattle.fm_encoder.specs.Points.{GaugePoint};
-ghost use Rattle.fm_encoder.specs.Hands.{MembersOf};
+ghost use Rattle.fm_encoder.specs.Emits.{MembersOf};
 
 use crate::points::{TwoBuckets, TwoGaugeBuckets};
 use fastmetrics::encoder::{

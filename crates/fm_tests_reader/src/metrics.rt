@@ -18,7 +18,7 @@ use fm_test_support::members::OneMember;
 use fm_test_support::replies::Outcome;
 use fm_test_support::support::document_of;
 use fm_test_support::trees::{labels, subsystem_at, texts};
-use own_points::{Answered, Durations, Latencies};
+use own_points::{Durations, Latencies, Returned};
 use std::alloc::{AllocError, Global};
 use std::hash::{BuildHasherDefault, FoldHasher};
 use std::sync::Wait;
@@ -151,8 +151,8 @@ fn trace(alloc: Global) -> Result<LabeledExemplar<Pairs>, AllocError> {
 }
 
 // A counter with an exemplar.
-fn answered(alloc: Global) -> Result<Answered<Pairs>, Fail> {
-    Ok(Answered {
+fn returned(alloc: Global) -> Result<Returned<Pairs>, Fail> {
+    Ok(Returned {
         requests: 1,
         trace: trace(alloc)?,
     })
@@ -191,7 +191,7 @@ fn sizes(alloc: Global) -> Result<GaugeHistogramSnapshot, Fail> {
 // The types of metrics with points of a user's own, and a gauge histogram.
 #[derive(Clone, Copy)]
 enum Own {
-    Answered,
+    Returned,
     Durations,
     Latencies,
     Sizes,
@@ -200,7 +200,7 @@ enum Own {
 // A metric of this type.
 fn boxed_own(alloc: Global, each: Own) -> Result<Box<dyn EncodeMetric>, Fail> {
     Ok(match each {
-        Own::Answered => Box::new(alloc, answered(alloc)?)?,
+        Own::Returned => Box::new(alloc, returned(alloc)?)?,
         Own::Durations => Box::new(alloc, durations(alloc)?)?,
         Own::Latencies => Box::new(alloc, latencies(alloc)?)?,
         Own::Sizes => Box::new(alloc, sizes(alloc)?)?,
@@ -211,7 +211,7 @@ fn boxed_own(alloc: Global, each: Own) -> Result<Box<dyn EncodeMetric>, Fail> {
 fn point_calls(alloc: Global) -> Result<Vec<RegistryCall>, Fail> {
     let mut calls = Vec::new(alloc);
     for (name, each) in [
-        ("answered", Own::Answered),
+        ("answered", Own::Returned),
         ("durations", Own::Durations),
         ("latencies", Own::Latencies),
         ("sizes", Own::Sizes),

@@ -130,14 +130,14 @@ pub joined_nothing : (a b : Text → Type 0) (front back : List Label) (after : 
 joined_nothing a b front [] after none g = rw (append-nil front) g
 joined_nothing a b front (first ∷ others) after none g = absurd (omega (arith, none))
 
-pub joined_behind : (a b : Text → Type 0) (front back : List Label) (after : Text) → length front ≡ 0 → Grows a b (label_list_text back ++ after) → Grows a b (label_list_text (front ++ back) ++ after)
-joined_behind a b front back after none g = rw (list_back front back none) g
+pub joined_after : (a b : Text → Type 0) (front back : List Label) (after : Text) → length front ≡ 0 → Grows a b (label_list_text back ++ after) → Grows a b (label_list_text (front ++ back) ++ after)
+joined_after a b front back after none g = rw (list_back front back none) g
 
 -- the list of further labels, after the one before and a comma, is the list of all
-pub list_behind : (common own : List Label) → 0 < length own → list_before common ++ label_list_text own ≡ label_list_text (common ++ own)
-list_behind [] own more = refl
-list_behind (first ∷ others) [] more = absurd (omega arith)
-list_behind (first ∷ others) (next ∷ back) more =
+pub list_after : (common own : List Label) → 0 < length own → list_before common ++ label_list_text own ≡ label_list_text (common ++ own)
+list_after [] own more = refl
+list_after (first ∷ others) [] more = absurd (omega arith)
+list_after (first ∷ others) (next ∷ back) more =
     append_assoc (label_list_text (first ∷ others)) (codes ",") (label_list_text (next ∷ back))
     ∙ ap (λ (t : Text). label_list_text (first ∷ others) ++ (codes "," ++ t)) (label_list_is next back)
     ∙ sym (list_joined (first ∷ others) (next ∷ back) (omega arith))

@@ -10,7 +10,7 @@ use Rattle.fm_text.specs.declared.places.Part.{Part}
 use Rattle.fm_text.specs.declared.places.Place.{Place}
 use Rattle.fm_text.specs.inside.Grown.{Grown}
 use Rattle.fm_text.specs.inside.LabelTexts.{label_in, labels_in, names_in, IsPlace, AreWithin, IsListed, AreListed, further_list}
-use Rattle.fm_text.proofs.GrownLemmas.{list_behind}
+use Rattle.fm_text.proofs.GrownLemmas.{list_after}
 use Rattle.fm_text.proofs.LabelTextLemmas.{Contains-one, labels_grown, names_push}
 
 -- one of the names is so
@@ -31,20 +31,20 @@ name_not_so P text ps i d within other before there =
 
 -- the list of labels, and behind it the list of further ones, is the list of all
 joined : (old list : Text) (front back : List Label) (is_first : Bool) → is_first ≡ (length front == 0) → 0 < length back → IsListed None None old front → IsListed None None list back → IsListed None None (old ++ further_list is_first list) (front ++ back)
-joined old list front [] is_first e more before behind = absurd (omega arith)
-joined old list [] (m ∷ ms) true e more before behind = subst (λ (t : Text). (t ++ list) ++ codes "\"" ≡ label_list_text (m ∷ ms)) (sym before) behind
-joined old list [] (m ∷ ms) false e more before behind = absurd cc
-joined old list (l ∷ ls) (m ∷ ms) true e more before behind = absurd (grind (arith, nat_tests, e))
-joined old list (l ∷ ls) (m ∷ ms) false e more before behind =
+joined old list front [] is_first e more before after = absurd (omega arith)
+joined old list [] (m ∷ ms) true e more before after = subst (λ (t : Text). (t ++ list) ++ codes "\"" ≡ label_list_text (m ∷ ms)) (sym before) after
+joined old list [] (m ∷ ms) false e more before after = absurd cc
+joined old list (l ∷ ls) (m ∷ ms) true e more before after = absurd (grind (arith, nat_tests, e))
+joined old list (l ∷ ls) (m ∷ ms) false e more before after =
     let pieces : (old ++ (codes "\"" ++ (codes "," ++ list))) ++ codes "\"" ≡ ((old ++ codes "\"") ++ codes ",") ++ (list ++ codes "\"") = simp append_assoc in
     pieces ∙ ap (λ (t : Text). (t ++ codes ",") ++ (list ++ codes "\"")) before
-    ∙ ap (λ (t : Text). (label_list_text (l ∷ ls) ++ codes ",") ++ t) behind
-    ∙ list_behind (l ∷ ls) (m ∷ ms) more
+    ∙ ap (λ (t : Text). (label_list_text (l ∷ ls) ++ codes ",") ++ t) after
+    ∙ list_after (l ∷ ls) (m ∷ ms) more
 
 -- the labels, and the further ones behind them
 pub labels_joined : (old new list more : Text) (by : ℕ) (ps qs now : List Place) → Grown old new more → AllByRecursion (IsPlace old) ps → drop by new ≡ list → labels_in new now ≡ labels_in new ps ++ labels_in (drop by new) qs → labels_in new now ≡ labels_in old ps ++ labels_in list qs
-labels_joined old new list more by ps qs now grown are behind pushed =
-    pushed ∙ ap (λ (t : Text). labels_in new ps ++ labels_in t qs) behind ∙ ap (λ (ls : List Label). ls ++ labels_in list qs) (labels_grown old new more ps grown are)
+labels_joined old new list more by ps qs now grown are after pushed =
+    pushed ∙ ap (λ (t : Text). labels_in new ps ++ labels_in t qs) after ∙ ap (λ (ls : List Label). ls ++ labels_in list qs) (labels_grown old new more ps grown are)
 
 listed_joined : (listed further next is_first : Bool) (old new list : Text) (ps qs now : List Place) (n v m w : Option Part) → (IsTrue next → ((listed ≡ true) × (n ≡ None) × (v ≡ None)) × ((further ≡ true) × (m ≡ None) × (w ≡ None))) → is_first ≡ (length ps == 0) → 0 < length qs
     → Grown old new (further_list is_first list) → AreWithin listed old ps n v → AreWithin further list qs m w → labels_in new now ≡ labels_in old ps ++ labels_in list qs → AreListed next None None new (labels_in new now)

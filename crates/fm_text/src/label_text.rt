@@ -9,7 +9,7 @@ ghost use Rattle.fm_text.specs.inside.LabelTexts.{part_in, labels_in, IsPart, na
 use crate::growing::GrowingText;
 use crate::labels::{LabelSource, append_placed_list};
 use crate::output::Output;
-use crate::places::{Part, Place, are_labels, has_name, has_name_of, pairs_at, push_behind};
+use crate::places::{Part, Place, are_labels, has_name, has_name_of, pairs_at, push_after};
 use crate::plain::is_plain;
 use std::alloc::{AllocError, Global};
 use std::marker::Model;
@@ -253,7 +253,7 @@ impl LabelText {
         self.is_listed = false;
         let is_first = self.places.as_slice().is_empty();
         let by = append_further_list(&mut self.text, is_first, labels.text.as_slice())?;
-        push_behind(&mut self.places, self.text.as_slice(), by, &labels.places)?;
+        push_after(&mut self.places, self.text.as_slice(), by, &labels.places)?;
         self.is_listed = are_listed;
         Ok(())
     }
@@ -298,7 +298,7 @@ impl LabelText {
     }
 
     /// Appends the front of a line, and then the labels with commas between them and the end of their block. Fails if memory runs out.
-    pub fn append_behind(
+    pub fn append_after(
         &self,
         text: &mut GrowingText,
         front: &GrowingText,

@@ -101,7 +101,7 @@ pub fn are_labels(text: &[u8], places: &[Place], labels: &[(String, String)]) ->
 }
 
 // Where a part of what a text has after its first `by` bytes is in the whole text.
-fn part_behind(whole: &[u8], by: usize, part: Part) -> Part
+fn part_after(whole: &[u8], by: usize, part: Part) -> Part
     requires within { by ≤ length whole.now }
     requires part { IsPart (drop by whole.now) part }
     ensures is_part { IsPart whole.now result }
@@ -114,20 +114,20 @@ fn part_behind(whole: &[u8], by: usize, part: Part) -> Part
 }
 
 // Where a label of what a text has after its first `by` bytes is in the whole text.
-fn place_behind(whole: &[u8], by: usize, place: &Place) -> Place
+fn place_after(whole: &[u8], by: usize, place: &Place) -> Place
     requires within { by ≤ length whole.now }
     requires place { IsPlace (drop by whole.now) place.now }
     ensures is_place { IsPlace whole.now result }
     ensures same { label_in whole.now result ≡ label_in (drop by whole.now) place.now }
 {
     Place {
-        name: part_behind(whole, by, place.name),
-        value: part_behind(whole, by, place.value),
+        name: part_after(whole, by, place.name),
+        value: part_after(whole, by, place.value),
     }
 }
 
 /// Adds the places of labels of what a text has after its first `by` bytes.
-pub fn push_behind(
+pub fn push_after(
     places: &mut Vec<Place>,
     whole: &[u8],
     by: usize,
@@ -141,7 +141,7 @@ pub fn push_behind(
         ≡ labels_in whole.now places.old.items ++ labels_in (drop by whole.now) others.now) }
 {
     for place in others {
-        places.push(place_behind(whole, by, place))?;
+        places.push(place_after(whole, by, place))?;
     }
     Ok(())
 }

@@ -9,19 +9,19 @@ use Rattle.fm_text.specs.inside.LabelTexts.{list_before}
 use Rattle.fm_writer.specs.Front.{line_front}
 use Rattle.fm_writer.specs.Output.{OutputText, appended}
 use Rattle.fm_text.specs.inside.Grown.{Grown, Grows}
-use Rattle.fm_text.proofs.GrownLemmas.{block_back, list_behind}
+use Rattle.fm_text.proofs.GrownLemmas.{block_back, list_after}
 use Rattle.fm_writer.proofs.RowLemmas.{after_value}
 
-behind_is : (name suffix front list value time exemplar : Text) → ((name ++ (suffix ++ (codes "{" ++ front))) ++ (list ++ codes "} ")) ++ (value ++ (time ++ (exemplar ++ codes "\n"))) ≡ (name ++ (suffix ++ ((codes "{" ++ ((front ++ list) ++ codes "}")) ++ (codes " " ++ (value ++ (time ++ exemplar)))))) ++ codes "\n"
-behind_is name suffix front list value time exemplar = simp append_assoc
+after_is : (name suffix front list value time exemplar : Text) → ((name ++ (suffix ++ (codes "{" ++ front))) ++ (list ++ codes "} ")) ++ (value ++ (time ++ (exemplar ++ codes "\n"))) ≡ (name ++ (suffix ++ ((codes "{" ++ ((front ++ list) ++ codes "}")) ++ (codes " " ++ (value ++ (time ++ exemplar)))))) ++ codes "\n"
+after_is name suffix front list value time exemplar = simp append_assoc
 
 -- what comes behind the front of a sample's line, if the sample has labels of its own
-row_behind : (name : Text) (common own : List Label) (s : Sample) → s.labels ≡ common ++ own → 0 < length own → (line_front name s.kind common ++ (label_list_text own ++ codes "} ")) ++ (value_text s.value ++ after_value s) ≡ sample_row name s
+row_after : (name : Text) (common own : List Label) (s : Sample) → s.labels ≡ common ++ own → 0 < length own → (line_front name s.kind common ++ (label_list_text own ++ codes "} ")) ++ (value_text s.value ++ after_value s) ≡ sample_row name s
 unfolding sample_line in_braces line_front
-row_behind name common own s is more =
+row_after name common own s is more =
     let block : label_block_text s.labels ≡ in_braces s.labels = rw is (block_back common own more) in
-    let list : list_before common ++ label_list_text own ≡ label_list_text s.labels = rw is (list_behind common own more) in
-    rw (block, ← list) (behind_is name (suffix_of s.kind) (list_before common) (label_list_text own) (value_text s.value) (time_text s.time) (exemplar_text s.exemplar))
+    let list : list_before common ++ label_list_text own ≡ label_list_text s.labels = rw is (list_after common own more) in
+    rw (block, ← list) (after_is name (suffix_of s.kind) (list_before common) (label_list_text own) (value_text s.value) (time_text s.time) (exemplar_text s.exemplar))
 
 -- a text is the front of lines whose samples have no labels in common, or some
 pub front_bare : (name : Text) (kind : SampleKind) (common : List Label) (new : Text) → length common ≡ 0 → Grown [] new (name ++ (suffix_of kind ++ codes "{")) → new ≡ line_front name kind common
@@ -42,5 +42,5 @@ front_listed name kind (label ∷ labels) begun new more start list =
 pub row_pushed : (old new front name : Text) (common own : List Label) (s : Sample) → s.labels ≡ common ++ own → 0 < length own → front ≡ line_front name s.kind common → Grown old new ((front ++ (label_list_text own ++ codes "} ")) ++ (value_text s.value ++ after_value s)) → OutputText new ≡ appended name (OutputText old) (s ∷ [])
 row_pushed old new front name common own s is more front_is grown =
     let row : (front ++ (label_list_text own ++ codes "} ")) ++ (value_text s.value ++ after_value s) ≡ sample_row name s =
-    ap (λ (t : Text). (t ++ (label_list_text own ++ codes "} ")) ++ (value_text s.value ++ after_value s)) front_is ∙ row_behind name common own s is more in
+    ap (λ (t : Text). (t ++ (label_list_text own ++ codes "} ")) ++ (value_text s.value ++ after_value s)) front_is ∙ row_after name common own s is more in
     ap OutputText (grown.bytes ∙ ap (λ (t : Text). old ++ t) (row ∙ sym (append-nil (sample_row name s))))

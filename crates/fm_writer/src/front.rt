@@ -30,7 +30,7 @@ pub fn render_front(
 }
 
 // Appends a sample's line: its front, the labels of its own, and what comes after them.
-pub(crate) fn append_row_behind(
+pub(crate) fn append_row_after(
     text: &mut GrowingText,
     front: &GrowingText,
     own: &LabelText,
@@ -41,6 +41,6 @@ pub(crate) fn append_row_behind(
         ((front.now ++ (label_list_text own.now.labels ++ codes "} "))
         ++ reading_text reading.entry)) }
 {
-    own.append_behind(text, front)?;
+    own.append_after(text, front)?;
     append_reading(text, reading)
 }

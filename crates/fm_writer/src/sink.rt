@@ -9,7 +9,7 @@ ghost use Rattle.fm_writer.specs.NewSamples.{new_sample, IsFrontOf};
 ghost use Rattle.fm_writer.specs.Output.{OutputSamples, OutputText, AreShared, shared_by, appended, with_lines, samples_in, text_in};
 
 use crate::blocks::TextBlocks;
-use crate::front::append_row_behind;
+use crate::front::append_row_after;
 use crate::heads::{FamilyHead, append_heads};
 use crate::new_sample::NewSample;
 use crate::rendering::{Reading, append_sample_row};
@@ -89,7 +89,7 @@ fn append_row(
         exemplar: sample.exemplar.as_ref(),
     };
     match front {
-        Some(front) => append_row_behind(text, front, sample.own, reading),
+        Some(front) => append_row_after(text, front, sample.own, reading),
         None => append_sample_row(text, name, sample.kind, sample.common, sample.own, reading),
     }
 }

@@ -13,14 +13,14 @@ use std::time::Duration;
 
 /// How many requests were answered, and the trace of one of them.
 #[derive(Drop)]
-pub struct Answered<LS> {
+pub struct Returned<LS> {
     /// How many.
     pub requests: u64,
     /// How many seconds one of them took, under its labels.
     pub trace: LabeledExemplar<LS>,
 }
 
-impl<LS: EncodeLabelSet + Send + Sync + Drop> EncodeMetric for Answered<LS> {
+impl<LS: EncodeLabelSet + Send + Sync + Drop> EncodeMetric for Returned<LS> {
     ghost types = { λ _ t. t ≡ Counter };
 
     ghost offers = { λ a _ ms. ms ≡ record {

@@ -6,7 +6,7 @@ pub mod histograms;
 pub mod readings;
 pub mod summaries;
 
-pub use counters::Answered;
+pub use counters::Returned;
 pub use histograms::Durations;
 pub use readings::Readings;
 pub use summaries::Latencies;

@@ -10,10 +10,10 @@ use Rattle.fm_encode_error.specs.declared.EncodeError.{EncodeError}
 use Rattle.fm_encode_error.specs.declared.EncodeError.TheVariants.{KindMismatch, ExemplarCountMismatch, BucketOverflow}
 use Rattle.fm_raw.specs.declared.bucket.bound.Bucket.{Bucket}
 use Rattle.fm_writer.specs.Output.{appended}
-use Rattle.fm_encoder.specs.Points.{HandedExemplar, ExemplarClean, ExemplarFault, values_in, BucketsFault, bucket_line, bucket_samples}
+use Rattle.fm_encoder.specs.Points.{EmittedExemplar, ExemplarValid, ExemplarFault, values_in, BucketsFault, bucket_line, bucket_samples}
 use Rattle.fm_encoder.specs.Gathered.{GatheredPoints}
 use Rattle.fm_labels.specs.Refusals.{OwnRefusal}
-use Rattle.fm_encoder.specs.Hands.{SamePlace}
+use Rattle.fm_encoder.specs.Emits.{SameContext}
 
 -- metrics of the type have buckets
 abbrev pub HasBuckets : MetricType → Type 0
@@ -29,7 +29,7 @@ HasTotals type of_count of_sum =
 
 -- The tests of a point's type, then of the number of its slots, and then of whether its common labels were refused.
 pub record BeginsBuckets (type : MetricType) (buckets slots : ℕ) (old new : GatheredPoints) : Type 0 where
-  pub place : SamePlace old new
+  pub same : SameContext old new
   pub output : new.output ≡ old.output
   pub kept : (k : EncodeError) → old.refused ≡ Some k → new ≡ old
   pub same_type : new.refused ≡ None → type ≡ old.setting.metric_type
@@ -39,20 +39,20 @@ pub record BeginsBuckets (type : MetricType) (buckets slots : ℕ) (old new : Ga
       ((k ≡ KindMismatch) × (¬ (type ≡ old.setting.metric_type))) ⊎ (((k ≡ ExemplarCountMismatch) × (¬ (slots ≡ buckets))) ⊎ (old.deferred ≡ Some k))
 
 -- One more sample of a bucket, which shows how many values there are up to it, or why there is none.
-pub record PushesBucket (before : ℕ) (bucket : Bucket) (exemplars : List HandedExemplar) (MayFault : Type 0) (old new : GatheredPoints) (result : Result ℕ EncodeError) : Type 0 where
-  pub place : SamePlace old new
-  pub answered : MatchResult result
-      (λ values. (values ≡ before + bucket.count) × (values < 2 ^ 64) × (new.refused ≡ None) × ExemplarClean exemplars
+pub record PushesBucket (before : ℕ) (bucket : Bucket) (exemplars : List EmittedExemplar) (MayFault : Type 0) (old new : GatheredPoints) (result : Result ℕ EncodeError) : Type 0 where
+  pub same : SameContext old new
+  pub returned : MatchResult result
+      (λ values. (values ≡ before + bucket.count) × (values < 2 ^ 64) × (new.refused ≡ None) × ExemplarValid exemplars
       × (new.output ≡ appended old.setting.name old.output (bucket_line old.setting old.common bucket.upper_bound values exemplars ∷ []))
       × IsSample old.setting.metric_type (bucket_line old.setting old.common bucket.upper_bound values exemplars))
       (λ k. (new.refused ≡ Some k)
       × (OwnRefusal MayFault k ⊎ (((k ≡ BucketOverflow) × (2 ^ 64 ≤ before + bucket.count)) ⊎ ExemplarFault k exemplars)))
 
 -- Further samples of buckets, or why there are none.
-pub record PushesBuckets (buckets : List Bucket) (slots : List (List HandedExemplar)) (MayFault : Type 0) (old new : GatheredPoints) : Type 0 where
-  pub place : SamePlace old new
+pub record PushesBuckets (buckets : List Bucket) (slots : List (List EmittedExemplar)) (MayFault : Type 0) (old new : GatheredPoints) : Type 0 where
+  pub same : SameContext old new
   pub fits : new.refused ≡ None → values_in buckets < 2 ^ 64
-  pub clean : new.refused ≡ None → AllByRecursion ExemplarClean slots
+  pub valid : new.refused ≡ None → AllByRecursion ExemplarValid slots
   pub output : new.refused ≡ None → new.output ≡ appended old.setting.name old.output (bucket_samples old.setting old.common [] buckets slots)
   pub formed : new.refused ≡ None → AllByRecursion (IsSample old.setting.metric_type) (bucket_samples old.setting old.common [] buckets slots)
   pub refused : (k : EncodeError) → new.refused ≡ Some k → OwnRefusal MayFault k ⊎ BucketsFault k buckets slots

@@ -3,8 +3,8 @@ ghost use Rattle.std.specs.Prelude.{◌≡◌, ℕ, ℤ, ◌⊎◌, ◌<◌, [],
 ghost use Rattle.fm_grammar.specs.declared.MetricType.TheVariants.{Unknown};
 ghost use Rattle.fm_grammar.specs.WellFormed.{label_code_points};
 ghost use Rattle.fm_encode_error.specs.declared.EncodeError.TheVariants.{ExemplarTooLong};
-ghost use Rattle.fm_labels.specs.Labels.{LabelsFault, all_written, handed_again};
-ghost use Rattle.fm_encoder.specs.Points.{ExemplarPartsClean};
+ghost use Rattle.fm_labels.specs.Labels.{LabelsFault, all_written, emitted_again};
+ghost use Rattle.fm_encoder.specs.Points.{ExemplarPartsValid};
 ghost use Rattle.fm_labels.specs.Refusals.{OwnRefusal};
 
 use crate::exemplar::written_labels;
@@ -28,14 +28,14 @@ impl Model for ExemplarLabels {
     ghost use Rattle.fm_grammar.specs.Exposition.{Label};
     ghost use Rattle.fm_grammar.specs.WellFormed.{label_code_points};
     ghost use Rattle.fm_exposition.specs.Samples.{labels_of};
-    ghost use Rattle.fm_labels.specs.Labels.{LabelsClean, all_written, handed_again};
+    ghost use Rattle.fm_labels.specs.Labels.{LabelsValid, all_written, emitted_again};
 
     ghost Value = { List Label };
 
     ghost view = { λ l. labels_of l.labels.items };
 
-    ghost invariant = { λ l. LabelsClean Unknown [] (handed_again (labels_of l.labels.items))
-        × (label_code_points (all_written (handed_again (labels_of l.labels.items))) ≤ 128) };
+    ghost invariant = { λ l. LabelsValid Unknown [] (emitted_again (labels_of l.labels.items))
+        × (label_code_points (all_written (emitted_again (labels_of l.labels.items))) ≤ 128) };
 }
 
 impl ExemplarLabels {
@@ -63,14 +63,14 @@ impl ExemplarLabels {
     /// An exemplar with these labels is valid, whatever its value and its time. It does nothing.
     pub fn are_taken(&self)
         ensures { (value : ℤ) (time : Option ℕ)
-            → ExemplarPartsClean (record { labels = handed_again self.now; value = value; time = time }) }
+            → ExemplarPartsValid (record { labels = emitted_again self.now; value = value; time = time }) }
     {
         let _ = &self.labels;
     }
 }
 
 impl EncodeLabelSet for ExemplarLabels {
-    ghost labels = { handed_again };
+    ghost labels = { emitted_again };
 
     fn encode(&self, encoder: &mut LabelSetEncoder) -> Result<(), EncodeError> {
         encode_written(self.labels.as_slice(), encoder)

@@ -8,8 +8,8 @@ ghost use Rattle.fm_exposition.specs.Samples.{labels_of};
 ghost use Rattle.fm_writer.specs.Heads.{headed};
 ghost use Rattle.fm_writer.specs.Output.{AreShared, OutputText, with_lines};
 ghost use Rattle.fm_labels.specs.Refusals.{IsOutcome, result_of};
-ghost use Rattle.fm_labels.specs.Kept.{Keeps};
-ghost use Rattle.fm_encoder.specs.Hands.{MembersOf};
+ghost use Rattle.fm_labels.specs.WrittenLabels.{AreWritten};
+ghost use Rattle.fm_encoder.specs.Emits.{MembersOf};
 ghost use Rattle.fm_encoder.specs.Takes.{TakesMembers};
 
 use crate::constants::ConstantLabels;
@@ -17,8 +17,8 @@ use crate::metric::MetricEncoder;
 use crate::point::{EncodePoint, PointEncoder};
 use fm_encode_error::EncodeError;
 use fm_grammar::MetricType;
-use fm_labels::kept::KeptLabels;
 use fm_labels::label_set::EncodeLabelSet;
+use fm_labels::written_labels::WrittenLabels;
 use fm_writer::{FamilyHead, Sink, TextBlocks};
 use std::alloc::Global;
 
@@ -93,7 +93,7 @@ pub fn begin_family(
     }) }
     ensures kept { (k : EncodeError) → encoder.old.refused ≡ Some k
         → (encoder.new ≡ encoder.old) × (name.new ≡ name.old) × (result ≡ Err k) }
-    ensures answered { result ≡ result_of encoder.new.refused }
+    ensures returned { result ≡ result_of encoder.new.refused }
     ensures memory { IfErr result
         (λ e. (e ≡ EncodeError.Memory) ⊎ (encoder.old.refused ≡ Some e)) }
 {
@@ -108,13 +108,13 @@ pub fn begin_family(
 
 /// Takes a member as `MetricEncoder::encode` does. If its labels were kept, and none has the name of a constant label, the kept labels are
 /// copied in place of reading them.
-pub fn encode_kept<LS: EncodeLabelSet, P: EncodePoint>(
+pub fn encode_member<LS: EncodeLabelSet, P: EncodePoint>(
     encoder: &mut MetricEncoder,
-    kept: Option<&KeptLabels>,
+    written: Option<&WrittenLabels>,
     labels: &LS,
     point: &P,
 ) -> Result<(), EncodeError>
-    requires kept { IfSome kept (λ k. Keeps (LS.labels labels.now) k.now) }
+    requires written { IfSome written (λ k. AreWritten (LS.labels labels.now) k.now) }
     ensures { TakesMembers
         (MembersOf (LS.labels labels.now) (P.points point.now))
         (LS.may_fault labels.now ⊎ P.may_fault point.now)
@@ -122,7 +122,7 @@ pub fn encode_kept<LS: EncodeLabelSet, P: EncodePoint>(
 {
     encoder
         .points
-        .begin_member(&encoder.constants, kept, labels)?;
+        .begin_member(&encoder.constants, written, labels)?;
     let visited = point.encode(&mut encoder.points);
     encoder.points.end_points(visited)
 }

@@ -9,7 +9,7 @@ ghost use Rattle.fm_encode_error.specs.declared.EncodeError.{EncodeError};
 ghost use Rattle.fm_exposition.specs.Samples.{exemplar_of};
 ghost use Rattle.fm_writer.specs.Front.{line_front};
 ghost use Rattle.fm_encoder.specs.Points.{HistogramPoint, GaugeHistogramPoint, millis, plain_sample, bound_label};
-ghost use Rattle.fm_labels.specs.Refusals.{Takes};
+ghost use Rattle.fm_labels.specs.Refusals.{Takes, NoFault};
 ghost use Rattle.fm_encoder.specs.Takes.{TakesPoints};
 ghost use Rattle.fm_encoder.specs.inside.Steps.{PushesSample};
 ghost use Rattle.fm_encoder.specs.Buckets.{slots_of, MaySlotsFault};
@@ -150,7 +150,7 @@ impl PointEncoder {
         requires buckets { HasBuckets self.old.setting.metric_type }
         ensures { PushesBucket before bucket.now
             (option_map_or (λ e. E.exemplars e.now) exemplar.entry [])
-            (MatchOption exemplar.entry ⊥ (λ e. E.may_fault e.now))
+            (MatchOption exemplar.entry NoFault (λ e. E.may_fault e.now))
             self.old self.new result }
     {
         let Some(values) = before.checked_add(bucket.count()) else {

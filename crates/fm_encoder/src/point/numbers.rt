@@ -5,7 +5,7 @@ ghost use Rattle.fm_grammar.specs.declared.MetricType.{MetricType};
 ghost use Rattle.fm_grammar.specs.declared.SampleKind.TheVariants.{Created as CreatedKind};
 ghost use Rattle.fm_grammar.specs.WellFormed.{kinds_of};
 ghost use Rattle.fm_encoder.specs.Points.{UnknownPoint, GaugePoint, CounterPoint, created_samples, millis};
-ghost use Rattle.fm_labels.specs.Refusals.{Takes};
+ghost use Rattle.fm_labels.specs.Refusals.{Takes, NoFault};
 ghost use Rattle.fm_encoder.specs.Takes.{TakesPoints};
 ghost use Rattle.fm_encoder.specs.inside.Steps.{PushesSamples};
 
@@ -64,7 +64,7 @@ impl PointEncoder {
             (λ ps. ps ≡ CounterPoint (V.numbers total.now)
             (option_map_or (λ e. E.exemplars e.now) exemplar.entry [])
             (option_map millis created) ∷ [])
-            (V.may_fault total.now ⊎ MatchOption exemplar.entry ⊥ (λ e. E.may_fault e.now))
+            (V.may_fault total.now ⊎ MatchOption exemplar.entry NoFault (λ e. E.may_fault e.now))
             self.old self.new result }
     {
         self.begin_point(MetricType::Counter)?;

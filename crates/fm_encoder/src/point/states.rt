@@ -4,7 +4,7 @@ ghost use Rattle.fm_grammar.specs.declared.MetricType.{MetricType};
 ghost use Rattle.fm_encoder.specs.Points.{StateSetPoint, InfoPoint, state_sample};
 ghost use Rattle.fm_labels.specs.Labels.{label_names};
 ghost use Rattle.fm_encoder.specs.States.{state_of};
-ghost use Rattle.fm_labels.specs.Refusals.{Takes};
+ghost use Rattle.fm_labels.specs.Refusals.{Takes, NoFault};
 ghost use Rattle.fm_encoder.specs.Takes.{TakesPoints};
 ghost use Rattle.fm_encoder.specs.inside.Steps.{PushesSample, PushesSamples, TestsStates};
 
@@ -25,7 +25,7 @@ impl PointEncoder {
     pub fn encode_stateset(&mut self, states: Vec<(&str, bool)>) -> Result<(), EncodeError>
         ensures { TakesPoints
             (λ ps. ps ≡ StateSetPoint (map state_of states.entry.items) ∷ [])
-            ⊥ self.old self.new result }
+            NoFault self.old self.new result }
     {
         self.encode_states(states.as_slice())
     }
@@ -33,7 +33,7 @@ impl PointEncoder {
     fn encode_states(&mut self, states: &[(&str, bool)]) -> Result<(), EncodeError>
         ensures { TakesPoints
             (λ ps. ps ≡ StateSetPoint (map state_of states.now) ∷ [])
-            ⊥ self.old self.new result }
+            NoFault self.old self.new result }
     {
         self.begin_point(MetricType::StateSet)?;
         self.test_states(states.is_empty())?;

@@ -3,7 +3,7 @@ ghost use Rattle.std.specs.Prelude.{◌≡◌, [], ◌∷◌, None, map};
 ghost use Rattle.std.specs.Option.{option_map};
 ghost use Rattle.fm_grammar.specs.declared.MetricType.{MetricType};
 ghost use Rattle.fm_encoder.specs.Points.{SummaryPoint, millis, quantile_sample};
-ghost use Rattle.fm_labels.specs.Refusals.{Takes};
+ghost use Rattle.fm_labels.specs.Refusals.{Takes, NoFault};
 ghost use Rattle.fm_encoder.specs.Takes.{TakesPoints};
 ghost use Rattle.fm_encoder.specs.inside.Steps.{PushesSample, PushesSamples};
 
@@ -32,7 +32,7 @@ impl PointEncoder {
     ) -> Result<(), EncodeError>
         ensures { TakesPoints
             (λ ps. ps ≡ SummaryPoint quantiles.now sum count (option_map millis created) ∷ [])
-            ⊥ self.old self.new result }
+            NoFault self.old self.new result }
     {
         self.begin_point(MetricType::Summary)?;
         let mut own = LabelText::new(self.alloc);

@@ -1,7 +1,7 @@
 //! The value of a counter.
 ghost use Rattle.std.specs.Prelude.{pos, List, [], ◌∷◌};
 ghost use Rattle.fm_grammar.specs.Exposition.{Value as Number, Whole, Fixed as Millionths};
-ghost use Rattle.fm_encoder.specs.Hands.{HandsNumbers};
+ghost use Rattle.fm_encoder.specs.Emits.{EmitsNumbers};
 
 use crate::value::encoder::{OfCounter, ValueEncoder};
 use fm_encode_error::EncodeError;
@@ -20,7 +20,7 @@ pub trait EncodeCounterValue {
 
     /// Passes the number to the encoder.
     fn encode(&self, encoder: &mut CounterValueEncoder) -> Result<(), EncodeError>
-        ensures { HandsNumbers (numbers self.now) (may_fault self.now)
+        ensures { EmitsNumbers (numbers self.now) (may_fault self.now)
             encoder.old encoder.new result };
 }
 

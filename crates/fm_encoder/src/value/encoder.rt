@@ -3,7 +3,7 @@ ghost use Rattle.std.specs.Prelude.{◌≡◌, ◌⊎◌, pos, [], ◌∷◌, Ma
 ghost use Rattle.fm_grammar.specs.Exposition.{Whole, Fixed as Millionths};
 ghost use Rattle.fm_encode_error.specs.declared.EncodeError.{EncodeError};
 ghost use Rattle.fm_exposition.specs.Samples.{value_of};
-ghost use Rattle.fm_labels.specs.Refusals.{own_refusal};
+ghost use Rattle.fm_labels.specs.Refusals.{own_refusal, NoFault};
 ghost use Rattle.fm_encoder.specs.Takes.{TakesNumbers};
 ghost use Rattle.fm_encoder.specs.inside.Steps.{IsNumber};
 
@@ -74,7 +74,7 @@ impl<K> ValueEncoder<K> {
 
     fn gather(&mut self, number: Value) -> Result<(), EncodeError>
         requires { IsNumber (value_of number) }
-        ensures { TakesNumbers (value_of number ∷ []) ⊥ self.old self.new result }
+        ensures { TakesNumbers (value_of number ∷ []) NoFault self.old self.new result }
     {
         self.refused.check()?;
         if self.number.is_some() {
@@ -104,14 +104,14 @@ impl<K> ValueEncoder<K> {
 
     /// Takes the number. A second number is refused as `ValueTwice`.
     pub fn encode_u32(&mut self, number: u32) -> Result<(), EncodeError>
-        ensures { TakesNumbers (Whole (pos number) ∷ []) ⊥ self.old self.new result }
+        ensures { TakesNumbers (Whole (pos number) ∷ []) NoFault self.old self.new result }
     {
         self.gather(Value::Whole(i128::from(number)))
     }
 
     /// Takes the number, in millionths. A second number is refused as `ValueTwice`.
     pub fn encode_fixed(&mut self, number: Fixed) -> Result<(), EncodeError>
-        ensures { TakesNumbers (Millionths number ∷ []) ⊥ self.old self.new result }
+        ensures { TakesNumbers (Millionths number ∷ []) NoFault self.old self.new result }
     {
         self.gather(Value::Fixed(FixedSum::from(number)))
     }
@@ -120,7 +120,7 @@ impl<K> ValueEncoder<K> {
 impl<K: TakesLong> ValueEncoder<K> {
     /// Takes the number. A second number is refused as `ValueTwice`.
     pub fn encode_u64(&mut self, number: u64) -> Result<(), EncodeError>
-        ensures { TakesNumbers (Whole (pos number) ∷ []) ⊥ self.old self.new result }
+        ensures { TakesNumbers (Whole (pos number) ∷ []) NoFault self.old self.new result }
     {
         self.gather(Value::Whole(i128::from(number)))
     }
@@ -129,21 +129,21 @@ impl<K: TakesLong> ValueEncoder<K> {
 impl<K: TakesSigned> ValueEncoder<K> {
     /// Takes the number. A second number is refused as `ValueTwice`.
     pub fn encode_i32(&mut self, number: i32) -> Result<(), EncodeError>
-        ensures { TakesNumbers (Whole number ∷ []) ⊥ self.old self.new result }
+        ensures { TakesNumbers (Whole number ∷ []) NoFault self.old self.new result }
     {
         self.gather(Value::Whole(i128::from(number)))
     }
 
     /// Takes the number. A second number is refused as `ValueTwice`.
     pub fn encode_i64(&mut self, number: i64) -> Result<(), EncodeError>
-        ensures { TakesNumbers (Whole number ∷ []) ⊥ self.old self.new result }
+        ensures { TakesNumbers (Whole number ∷ []) NoFault self.old self.new result }
     {
         self.gather(Value::Whole(i128::from(number)))
     }
 
     /// Takes the number. A second number is refused as `ValueTwice`.
     pub fn encode_isize(&mut self, number: isize) -> Result<(), EncodeError>
-        ensures { TakesNumbers (Whole number ∷ []) ⊥ self.old self.new result }
+        ensures { TakesNumbers (Whole number ∷ []) NoFault self.old self.new result }
     {
         self.gather(Value::Whole(number as i128))
     }
@@ -152,7 +152,7 @@ impl<K: TakesSigned> ValueEncoder<K> {
 impl ValueEncoder<OfCounter> {
     /// Takes the number. A second number is refused as `ValueTwice`.
     pub fn encode_usize(&mut self, number: usize) -> Result<(), EncodeError>
-        ensures { TakesNumbers (Whole (pos number) ∷ []) ⊥ self.old self.new result }
+        ensures { TakesNumbers (Whole (pos number) ∷ []) NoFault self.old self.new result }
     {
         self.gather(Value::Whole(number as i128))
     }

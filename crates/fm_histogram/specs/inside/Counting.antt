@@ -12,9 +12,9 @@ pub record IsOfSome (bounds : List ℤ) (s : Histogram) : Type 0 where
   pub high : s.sum ≤ℤ pos (2 ^ 63 * s.count)
 
 -- the index of the bucket that takes x
-abbrev pub place : ℤ → List Bucket → ℕ
-place x [] = 0
-place x (b ∷ bs) = if lies_below b.upper_bound x then suc (place x bs) else 0
+abbrev pub index : ℤ → List Bucket → ℕ
+index x [] = 0
+index x (b ∷ bs) = if lies_below b.upper_bound x then suc (index x bs) else 0
 
 -- a bucket with one value more
 abbrev pub one_more : Bucket → Bucket

@@ -4,7 +4,7 @@ use Rattle.std.specs.Option.{option_to_list, option_map}
 use Rattle.fm_grammar.specs.Exposition.{Text}
 use Rattle.fm_encode_error.specs.declared.EncodeError.{EncodeError}
 use Rattle.fm_encode_error.specs.declared.EncodeError.TheVariants.{Memory, MalformedLabel}
-use Rattle.fm_labels.specs.Labels.{HandedLabel, LabelClean, IsMalformed, written, NamePiece, ValuePiece}
+use Rattle.fm_labels.specs.Labels.{EmittedLabel, LabelValid, IsMalformed, written, NamePiece, ValuePiece}
 use Rattle.fm_labels.specs.LabelEncoders.{GatheredPieces}
 use Rattle.fm_labels.specs.Refusals.{own_refusal}
 
@@ -15,11 +15,11 @@ pub record EndsLabel (visited : Result (Unit {0}) EncodeError) (old new : Gather
   pub kept : (k : EncodeError) → old.refused ≡ Some k → new ≡ old
   pub visited_ok : old.refused ≡ None → new.refused ≡ None → visited ≡ Ok tt
   pub pieces : old.refused ≡ None → new.refused ≡ None → new.pieces ≡ []
-  pub clean : old.refused ≡ None → new.refused ≡ None → LabelClean old.metric_type old.labels old.pieces
+  pub valid : old.refused ≡ None → new.refused ≡ None → LabelValid old.metric_type old.labels old.pieces
   pub labels : old.refused ≡ None → new.refused ≡ None → new.labels ≡ old.labels ++ written old.pieces
   pub own : (e : EncodeError) → old.refused ≡ None → visited ≡ Err e → new.refused ≡ Some (own_refusal e)
   pub refused : (k : EncodeError) → old.refused ≡ None → visited ≡ Ok tt → new.refused ≡ Some k → (k ≡ Memory) ⊎ ((k ≡ MalformedLabel) × IsMalformed old.pieces)
 
 -- the pieces of the current label, which has this name and this value
-abbrev pub pieces_of : Option Text → Option Text → HandedLabel
+abbrev pub pieces_of : Option Text → Option Text → EmittedLabel
 pieces_of name text = option_to_list (option_map NamePiece name) ++ option_to_list (option_map ValuePiece text)

@@ -21,7 +21,7 @@ use Rattle.fm_registry.specs.declared.registry.Subsystem.{Subsystem}
 module _ (T A : RattleType) (g : alloc.Ghosts A.Denot) where
   -- the list has at this index the final value of r
   abbrev pub lends_element : MutBor (Option (Vec T.Denot A.Denot)) → ℕ → MutBor T.Denot → Fml
-  lends_element v place r = Lends (option.the_row (vec.the_row T A g)) T v r (λ w. option_map (λ items. with_item items place w) v.now)
+  lends_element v index r = Lends (option.the_row (vec.the_row T A g)) T v r (λ w. option_map (λ items. with_item items index w) v.now)
 
 module _ (M : RattleType) where
   -- the subsystems are the final value of r
@@ -30,4 +30,4 @@ module _ (M : RattleType) where
 
   -- the subsystem at this index is the final value of r, with its name
   abbrev pub lends_nth : MutBor (Tree M.Denot) → ℕ → MutBor (Subsystem M.Denot) → Fml
-  lends_nth t place r = Lends (the_row M) (subsystem.the_row M) t r (λ w. record t.now { children = with_nth t.now.children place (string_bytes w.name) w.registry })
+  lends_nth t index r = Lends (the_row M) (subsystem.the_row M) t r (λ w. record t.now { children = with_nth t.now.children index (string_bytes w.name) w.registry })

@@ -20,7 +20,7 @@ abbrev pub label_fault : Text → Refusal
 label_fault name = if is_label_name name then DuplicateLabel name else InvalidLabelName name
 
 -- the label at this index is the first that a root refuses
-pub record IsRefusedAt (labels : List (String Global × String Global)) (place : ℕ) : Type 0 where
+pub record IsRefusedAt (labels : List (String Global × String Global)) (index : ℕ) : Type 0 where
   pub label : String Global × String Global
-  pub there : slice_get labels place ≡ Some label
+  pub there : slice_get labels index ≡ Some label
   pub why : root_labels_refusal (labels_of labels) ≡ Some (label_fault (label_of label).name)

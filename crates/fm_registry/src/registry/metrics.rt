@@ -5,7 +5,7 @@ ghost use Rattle.std.specs.String.{string_bytes};
 ghost use Rattle.fm_raw.specs.Units.{seen_unit};
 ghost use Rattle.indexmap.specs.IndexMap.{get};
 ghost use Rattle.fm_registry_model.specs.Registration.{is_same_metric};
-ghost use Rattle.fm_registry_model.specs.Answer.{refusal_of, has_metric, IsAnswered, answer, after};
+ghost use Rattle.fm_registry_model.specs.Answer.{refusal_of, has_metric, IsReturned, answer, after};
 ghost use Rattle.fm_registry_model.specs.inside.Refusals.{name_refusal, standing_refusal};
 ghost use Rattle.fm_registry_model.specs.History.{Register};
 ghost use Rattle.fm_registry_model.specs.Tree.{Reads, names_in};
@@ -61,8 +61,8 @@ fn standing_under<'a, M>(metrics: &'a IndexMap<Tailed, M>, key: &Tailed) -> Opti
         × ((x : M) → has_metric (seen_metrics metrics.now.entries) (seen_metric key.now.metadata x)
         ≡ is_same_metric (seen_metric key.now.metadata x) (seen_metric there.now x))) }
 {
-    let place = metrics.get_index_of(key)?;
-    let (there, _) = metrics.get_index(place)?;
+    let index = metrics.get_index_of(key)?;
+    let (there, _) = metrics.get_index(index)?;
     Some(there.metadata())
 }
 
@@ -77,7 +77,7 @@ fn insert_new<M: Drop>(
         (seen_metrics metrics.new.entries
         ≡ seen_metrics metrics.old.entries ++ seen_metric key.metadata metric ∷ []) }
     ensures err { OnErr result (metrics.new.entries ≡ metrics.old.entries) }
-    ensures answer { IsAnswered (refusal_of result)
+    ensures answer { IsReturned (refusal_of result)
         (refusal_beside (seen_metrics metrics.old.entries)
         is_below (seen_metric key.metadata metric)) }
 {
@@ -110,7 +110,7 @@ fn insert_metric<M: Drop>(
     ensures ok { OnOk result
         (metrics_in metrics.new ≡ metrics_in metrics.old ++ seen_metric key.metadata metric ∷ []) }
     ensures err { OnErr result (metrics_in metrics.new ≡ metrics_in metrics.old) }
-    ensures answer { IsAnswered (refusal_of result)
+    ensures answer { IsReturned (refusal_of result)
         (refusal_beside (metrics_in metrics.old) is_below (seen_metric key.metadata metric)) }
 {
     insert_new(
@@ -129,7 +129,7 @@ impl<M: Drop> Registry<M> {
         metadata: Metadata,
         metric: M,
     ) -> Result<(), RegistryError>
-        ensures answer { IsAnswered (refusal_of result)
+        ensures answer { IsReturned (refusal_of result)
             (standing_refusal self.old.facts.metrics (names_in self.old.children)
             (seen_metric metadata metric)) }
         ensures ok { OnOk result (self.new ≡ with_metric self.old (seen_metric metadata metric)) }
@@ -153,7 +153,7 @@ impl<M: Drop> Registry<M> {
         metric: M,
     ) -> Result<(), RegistryError>
         ensures answer { (b : _) → Reads self.old b
-            → IsAnswered (refusal_of result)
+            → IsReturned (refusal_of result)
             (answer b (Register [] (seen_metric (asked name help metric_type unit) metric))) }
         ensures ok { OnOk result
             ((b : _) → Reads self.old b

@@ -2,7 +2,7 @@
 ghost use Rattle.std.specs.Prelude.{◌≡◌, OnOk, OnErr, IfOk, None, true, [], map};
 ghost use Rattle.std.specs.String.{string_bytes};
 ghost use Rattle.fm_exposition.specs.Samples.{labels_of};
-ghost use Rattle.fm_registry_model.specs.Answer.{refusal_of, asking_refusal, subsystem_refusal, after, IsAnswered};
+ghost use Rattle.fm_registry_model.specs.Answer.{refusal_of, asking_refusal, subsystem_refusal, after, IsReturned};
 ghost use Rattle.fm_registry_model.specs.History.{Subsystem as AskSubsystem};
 ghost use Rattle.fm_registry_model.specs.Texts.{has_text};
 ghost use Rattle.fm_registry_model.specs.Tree.{Reads, names_in};
@@ -56,7 +56,7 @@ enum Request<M> {
 impl<M: Drop> Registry<M> {
     // Creates a subsystem if it does not exist. Stated of the tree alone.
     fn ask_here(&mut self, name: String, labels: Vec<(String, String)>) -> Result<(), RegistryError>
-        ensures answer { IsAnswered (refusal_of result)
+        ensures answer { IsReturned (refusal_of result)
             (subsystem_refusal self.old.facts.depth self.old.facts.metrics
             (names_in self.old.children) (string_bytes name) (labels_of labels.items)) }
         ensures there { has_text (names_in self.old.children) (string_bytes name) ≡ true
@@ -122,9 +122,9 @@ impl<M: Drop> Registry<M> {
     {
         match path.pop() {
             None => self.apply_here(request),
-            Some(name) => match self.place_of(name.as_str()) {
+            Some(name) => match self.index_of(name.as_str()) {
                 None => Err(RegistryError::NoSuchSubsystem { name }),
-                Some(place) => self.subsystem_at(place).apply(path, request),
+                Some(index) => self.subsystem_at(index).apply(path, request),
             },
         }
     }
@@ -192,7 +192,7 @@ impl Registry {
         ensures replies { IfOk result
             (λ replies. RunsCalls (λ m t. types m t) calls.items
             self.old self.new (map refusal_of replies.items)) }
-        ensures answer { IsAnswered (refusal_of result) None }
+        ensures answer { IsReturned (refusal_of result) None }
         ensures err { OnErr result (self.new ≡ self.old) }
         ensures grows { Grows self.old self.new }
         ensures sound { HasHistory self.old → HasHistory self.new }

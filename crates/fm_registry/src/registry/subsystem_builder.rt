@@ -3,7 +3,7 @@ ghost use Rattle.std.specs.Prelude.{◌≡◌, true, IfOk, []};
 ghost use Rattle.std.specs.Borrow.{sem};
 ghost use Rattle.std.specs.String.{string_bytes};
 ghost use Rattle.fm_exposition.specs.Samples.{labels_of};
-ghost use Rattle.fm_registry_model.specs.Answer.{refusal_of, name_or_depth_refusal, asking_refusal, subsystem_refusal, first_bad_label, after, IsAnswered};
+ghost use Rattle.fm_registry_model.specs.Answer.{refusal_of, name_or_depth_refusal, asking_refusal, subsystem_refusal, first_bad_label, after, IsReturned};
 ghost use Rattle.fm_registry_model.specs.History.{Subsystem as AskSubsystem};
 ghost use Rattle.fm_registry_model.specs.Texts.{has_text};
 ghost use Rattle.fm_registry_model.specs.Tree.{Reads, names_in};
@@ -108,7 +108,7 @@ impl<'a, M: Drop> RegistrySubsystemBuilder<'a, M> {
     /// `subsystem` does, or with `Memory`. At an error the registry stays as it was.
     pub fn build(self) -> Result<&'a mut Subsystem<M>, RegistryError>
         ensures* writes_back { sem 𝓛 (lends_built M.row self.entry result) }
-        ensures answer { IsAnswered (refusal_of result)
+        ensures answer { IsReturned (refusal_of result)
             (subsystem_refusal self.entry.registry.now.facts.depth
             self.entry.registry.now.facts.metrics
             (names_in self.entry.registry.now.children) (string_bytes self.entry.name)

@@ -5,13 +5,13 @@ ghost use Rattle.std.specs.List.{position_from, list_any};
 ghost use Rattle.std.specs.Str.{bytes_eq};
 ghost use Rattle.std.specs.String.{string_bytes};
 ghost use Rattle.fm_exposition.specs.Samples.{labels_of};
-ghost use Rattle.fm_registry_model.specs.Answer.{refusal_of, new_name_refusal, child_refusal, asking_refusal, subsystem_refusal, after, IsAnswered};
+ghost use Rattle.fm_registry_model.specs.Answer.{refusal_of, new_name_refusal, child_refusal, asking_refusal, subsystem_refusal, after, IsReturned};
 ghost use Rattle.fm_registry_model.specs.History.{Subsystem as AskSubsystem};
 ghost use Rattle.fm_registry_model.specs.Taken.{is_below as below_test, is_child_taken, tails_of};
 ghost use Rattle.fm_registry_model.specs.Texts.{has_text};
 ghost use Rattle.fm_registry_model.specs.Tree.{Reads, names_in};
 ghost use Rattle.fm_registry_model.specs.Steps.{with_subsystem};
-ghost use Rattle.fm_registry_model.specs.inside.Forests.{nth_in, nth_name, place_in, new_tree};
+ghost use Rattle.fm_registry_model.specs.inside.Forests.{nth_in, nth_name, index_in, new_tree};
 ghost use Rattle.fm_registry_model.specs.Loan.{LoanReads};
 ghost use Rattle.fm_registry.specs.inside.TreeView.{forest_of, seen_metrics};
 ghost use Rattle.fm_registry.specs.Lists.{items_of};
@@ -82,8 +82,8 @@ fn push_subsystem<M>(
 ) -> Result<usize, RegistryError>
 where
     M: Drop,
-    ensures answer { IsAnswered (refusal_of result) None }
-    ensures place { IfOk result (λ place. place ≡ length (items_of subsystems.old)) }
+    ensures answer { IsReturned (refusal_of result) None }
+    ensures index { IfOk result (λ index. index ≡ length (items_of subsystems.old)) }
     ensures ok { OnOk result (items_of subsystems.new ≡ items_of subsystems.old ++ subsystem ∷ []) }
     ensures err { OnErr result (items_of subsystems.new ≡ items_of subsystems.old) }
 {
@@ -93,8 +93,8 @@ where
 
 impl<M: Drop> Registry<M> {
     // The index of the subsystem with this name.
-    pub(super) fn place_of(&self, name: &str) -> Option<usize>
-        ensures { result ≡ place_in self.now.children name.now }
+    pub(super) fn index_of(&self, name: &str) -> Option<usize>
+        ensures { result ≡ index_in self.now.children name.now }
     {
         match &self.subsystems {
             Some(subsystems) => position_of(subsystems, name),
@@ -154,13 +154,13 @@ impl<M: Drop> Registry<M> {
     }
 
     // A mutable reference to the subsystem at an index.
-    pub(super) fn subsystem_at(&mut self, place: usize) -> &mut Subsystem<M>
-        requires { IsSome (nth_in self.old.children place) }
-        ensures* writes_back { sem 𝓛 (lends_nth M.row self.entry place result) }
-        ensures value { nth_in self.old.children place ≡ Some result.now.registry }
-        ensures name { nth_name self.old.children place ≡ Some (string_bytes result.now.name) }
+    pub(super) fn subsystem_at(&mut self, index: usize) -> &mut Subsystem<M>
+        requires { IsSome (nth_in self.old.children index) }
+        ensures* writes_back { sem 𝓛 (lends_nth M.row self.entry index result) }
+        ensures value { nth_in self.old.children index ≡ Some result.now.registry }
+        ensures name { nth_name self.old.children index ≡ Some (string_bytes result.now.name) }
     {
-        element_mut(self.subsystems_mut(), place)
+        element_mut(self.subsystems_mut(), index)
     }
 
     // A new subsystem of this registry, not yet added.
@@ -185,18 +185,18 @@ impl<M: Drop> Registry<M> {
     }
 
     // Adds a subsystem whose name does not exist yet, and returns its index.
-    fn new_place(
+    fn new_index(
         &mut self,
         name: String,
         labels: Vec<(String, String)>,
     ) -> Result<usize, RegistryError>
         requires depth { self.old.facts.depth < 64 }
-        requires absent { place_in self.old.children (string_bytes name) ≡ None }
-        ensures answer { IsAnswered (refusal_of result)
+        requires absent { index_in self.old.children (string_bytes name) ≡ None }
+        ensures answer { IsReturned (refusal_of result)
             (new_name_refusal self.old.facts.metrics (names_in self.old.children)
             (string_bytes name)) }
-        ensures place { IfOk result
-            (λ place. place_in self.new.children (string_bytes name) ≡ Some place) }
+        ensures index { IfOk result
+            (λ index. index_in self.new.children (string_bytes name) ≡ Some index) }
         ensures ok { OnOk result
             (self.new ≡ with_subsystem self.old (string_bytes name) (labels_of labels.items)) }
         ensures err { OnErr result (self.new ≡ self.old) }
@@ -211,26 +211,26 @@ impl<M: Drop> Registry<M> {
     }
 
     // The index of the subsystem with this name, which is created if it does not exist.
-    fn place_or_new(
+    fn index_or_new(
         &mut self,
         name: String,
         labels: Vec<(String, String)>,
     ) -> Result<usize, RegistryError>
         requires { self.old.facts.depth < 64 }
-        ensures answer { IsAnswered (refusal_of result)
+        ensures answer { IsReturned (refusal_of result)
             (child_refusal self.old.facts.metrics
             (names_in self.old.children) (string_bytes name)) }
         ensures there { has_text (names_in self.old.children) (string_bytes name) ≡ true
             → refusal_of result ≡ None }
-        ensures place { IfOk result
-            (λ place. place_in self.new.children (string_bytes name) ≡ Some place) }
+        ensures index { IfOk result
+            (λ index. index_in self.new.children (string_bytes name) ≡ Some index) }
         ensures ok { OnOk result
             (self.new ≡ with_subsystem self.old (string_bytes name) (labels_of labels.items)) }
         ensures err { OnErr result (self.new ≡ self.old) }
     {
-        match self.place_of(name.as_str()) {
-            Some(place) => Ok(place),
-            None => self.new_place(name, labels),
+        match self.index_of(name.as_str()) {
+            Some(index) => Ok(index),
+            None => self.new_index(name, labels),
         }
     }
 
@@ -240,14 +240,14 @@ impl<M: Drop> Registry<M> {
         name: String,
         labels: Vec<(String, String)>,
     ) -> Result<usize, RegistryError>
-        ensures answer { IsAnswered (refusal_of result)
+        ensures answer { IsReturned (refusal_of result)
             (subsystem_refusal self.old.facts.depth self.old.facts.metrics
             (names_in self.old.children) (string_bytes name) (labels_of labels.items)) }
         ensures there { has_text (names_in self.old.children) (string_bytes name) ≡ true
             → refusal_of result
             ≡ asking_refusal self.old.facts.depth (string_bytes name) (labels_of labels.items) }
-        ensures place { IfOk result
-            (λ place. place_in self.new.children (string_bytes name) ≡ Some place) }
+        ensures index { IfOk result
+            (λ index. index_in self.new.children (string_bytes name) ≡ Some index) }
         ensures ok { OnOk result
             (self.new ≡ with_subsystem self.old (string_bytes name) (labels_of labels.items)) }
         ensures err { OnErr result (self.new ≡ self.old) }
@@ -259,7 +259,7 @@ impl<M: Drop> Registry<M> {
             return Err(RegistryError::TooDeep { name });
         }
         let labels = tested_labels(labels)?;
-        self.place_or_new(name, labels)
+        self.index_or_new(name, labels)
     }
 
     // Returns the subsystem with this name, which is created with these labels if it does not exist.
@@ -271,7 +271,7 @@ impl<M: Drop> Registry<M> {
         ensures* writes_back { sem 𝓛
             (lends_subsystem M.row self.entry (string_bytes name)
             (labels_of labels.items) result) }
-        ensures answer { IsAnswered (refusal_of result)
+        ensures answer { IsReturned (refusal_of result)
             (subsystem_refusal self.old.facts.depth self.old.facts.metrics
             (names_in self.old.children) (string_bytes name) (labels_of labels.items)) }
         ensures there { has_text (names_in self.old.children) (string_bytes name) ≡ true
@@ -284,8 +284,8 @@ impl<M: Drop> Registry<M> {
             (after b (AskSubsystem [] (string_bytes name) (labels_of labels.items)))) }
         ensures sound { IfOk result (λ s. HasHistory self.old → HasHistory s.now.registry) }
     {
-        let place = self.add_subsystem(name, labels)?;
-        Ok(self.subsystem_at(place))
+        let index = self.add_subsystem(name, labels)?;
+        Ok(self.subsystem_at(index))
     }
 
     /// Returns the subsystem with this name. If it does not exist, it is created with this registry's labels; its
@@ -300,7 +300,7 @@ impl<M: Drop> Registry<M> {
     pub fn subsystem(&mut self, name: String) -> Result<&mut Subsystem<M>, RegistryError>
         ensures* writes_back { sem 𝓛
             (lends_subsystem M.row self.entry (string_bytes name) [] result) }
-        ensures answer { IsAnswered (refusal_of result)
+        ensures answer { IsReturned (refusal_of result)
             (subsystem_refusal self.old.facts.depth self.old.facts.metrics
             (names_in self.old.children) (string_bytes name) []) }
         // Returning an existing one allocates nothing.

@@ -17,30 +17,30 @@ module _ {M : Type 0} where
 
   -- the registry at an index
   abbrev pub nth_in : Forest M → ℕ → Option (Tree M)
-  nth_in Leaf place = None
+  nth_in Leaf index = None
   nth_in (Child name facts below rest) zero = Some (record { facts = facts; children = below })
-  nth_in (Child name facts below rest) (suc place) = nth_in rest place
+  nth_in (Child name facts below rest) (suc index) = nth_in rest index
 
   -- the name at an index
   abbrev pub nth_name : Forest M → ℕ → Option Text
-  nth_name Leaf place = None
+  nth_name Leaf index = None
   nth_name (Child name facts below rest) zero = Some name
-  nth_name (Child name facts below rest) (suc place) = nth_name rest place
+  nth_name (Child name facts below rest) (suc index) = nth_name rest index
 
   -- the forest with the tree w, under a new name, at an index
   abbrev pub with_nth : Forest M → ℕ → Text → Tree M → Forest M
-  with_nth Leaf place new w = Leaf
+  with_nth Leaf index new w = Leaf
   with_nth (Child name facts below rest) zero new w = Child new w.facts w.children rest
-  with_nth (Child name facts below rest) (suc place) new w = Child name facts below (with_nth rest place new w)
+  with_nth (Child name facts below rest) (suc index) new w = Child name facts below (with_nth rest index new w)
 
   -- the index of the registry with the wanted name, if the first registry has this index
-  abbrev pub place_from : ℕ → Forest M → Text → Option ℕ
-  place_from place Leaf wanted = None
-  place_from place (Child name facts below rest) wanted = if bytes_eq name wanted then Some place else place_from (place + 1) rest wanted
+  abbrev pub index_from : ℕ → Forest M → Text → Option ℕ
+  index_from index Leaf wanted = None
+  index_from index (Child name facts below rest) wanted = if bytes_eq name wanted then Some index else index_from (index + 1) rest wanted
 
   -- the index of the registry with the wanted name
-  abbrev pub place_in : Forest M → Text → Option ℕ
-  place_in forest wanted = place_from 0 forest wanted
+  abbrev pub index_in : Forest M → Text → Option ℕ
+  index_in forest wanted = index_from 0 forest wanted
 
   -- the number of registries
   abbrev pub forest_size : Forest M → ℕ

@@ -2,7 +2,7 @@
 ghost use Rattle.std.specs.Prelude.{◌≡◌, [], ◌∷◌, None, map};
 ghost use Rattle.std.specs.Option.{option_map};
 ghost use Rattle.fm_encoder.specs.Points.{HistogramPoint, GaugeHistogramPoint, millis};
-ghost use Rattle.fm_labels.specs.Refusals.{Takes};
+ghost use Rattle.fm_labels.specs.Refusals.{Takes, NoFault};
 ghost use Rattle.fm_encoder.specs.Takes.{TakesPoints};
 ghost use Rattle.fm_encoder.specs.inside.BucketSteps.{HasBuckets, PushesBuckets};
 
@@ -24,7 +24,7 @@ pub fn encode_bare_histogram(
     ensures { TakesPoints
         (λ ps. ps ≡ HistogramPoint buckets.now (map (λ _. []) buckets.now) count sum
         (option_map millis created) ∷ [])
-        ⊥ points.old points.new result }
+        NoFault points.old points.new result }
 {
     points.begin_buckets(MetricType::Histogram, buckets.len(), buckets.len())?;
     push_bare_buckets(points, buckets)?;
@@ -41,7 +41,7 @@ pub fn encode_bare_gauge_histogram(
 ) -> Result<(), EncodeError>
     ensures { TakesPoints
         (λ ps. ps ≡ GaugeHistogramPoint buckets.now (map (λ _. []) buckets.now) count sum ∷ [])
-        ⊥ points.old points.new result }
+        NoFault points.old points.new result }
 {
     points.begin_buckets(MetricType::GaugeHistogram, buckets.len(), buckets.len())?;
     push_bare_buckets(points, buckets)?;
@@ -53,7 +53,7 @@ fn push_bare_buckets(points: &mut PointEncoder, buckets: &[Bucket]) -> Result<()
     requires accepting { points.old.refused ≡ None }
     requires buckets { HasBuckets points.old.setting.metric_type }
     ensures { Takes
-        (PushesBuckets buckets.now (map (λ _. []) buckets.now) ⊥ points.old points.new)
+        (PushesBuckets buckets.now (map (λ _. []) buckets.now) NoFault points.old points.new)
         points.new.refused result }
 {
     let front = points.bucket_front()?;

@@ -11,5 +11,5 @@ returns-in_default c = (
 pub returns-in_default-checked_sub : goal.returns-in_default-checked_sub
 returns-in_default-checked_sub c = (
   λ never. absurd (true≢false (sym never)),
-  λ h. absurd (long_value c.args.labels.now c.loop-name.name-index c.loop-name.left c.code_points.result c.in-Some.behind_name c.code_points-in-loop-name.result c.loop-name-item.result c.deref.result.now c.deref-in-loop-name.result.now c.loop-name-test.true c.loop-name-item.is c.loop-name.invariant c.deref.ensures c.code_points.ensures c.in-Some.ensures c.deref-in-loop-name.ensures c.code_points-in-loop-name.ensures c.in_default-checked_sub.ensures h),
+  λ h. absurd (long_value c.args.labels.now c.loop-name.name-index c.loop-name.left c.code_points.result c.in-Some.after_name c.code_points-in-loop-name.result c.loop-name-item.result c.deref.result.now c.deref-in-loop-name.result.now c.loop-name-test.true c.loop-name-item.is c.loop-name.invariant c.deref.ensures c.code_points.ensures c.in-Some.ensures c.deref-in-loop-name.ensures c.code_points-in-loop-name.ensures c.in_default-checked_sub.ensures h),
 )

@@ -13,8 +13,8 @@ loop-i-preserved g c =
     let differs : g.T.PartialEq.eq c.index-all-i.result c.args.state.now ≡ false = sym c.eq.ensures ∙ c.if-eq.false in
     no_match_more g.T.PartialEq.eq _ _ _ c.args.state.now at differs c.loop-i.invariant
 
-pub returns-then-eq-clause-place : goal.returns-then-eq-clause-place
-returns-then-eq-clause-place g c =
+pub returns-then-eq-clause-index : goal.returns-then-eq-clause-index
+returns-then-eq-clause-index g c =
     let at : slice_get c.args.all.now c.loop-i.i ≡ Some c.index-all-i.result =
     slice_get_read _ (length c.args.all.now) _ _ refl c.loop-i-test.true c.index-all-i.is in
     let equals : g.T.PartialEq.eq c.index-all-i.result c.args.state.now ≡ true = sym c.eq.ensures ∙ c.if-eq.true in
@@ -27,8 +27,8 @@ returns-then-eq-clause-found g c =
     let equals : g.T.PartialEq.eq c.index-all-i.result c.args.state.now ≡ true = sym c.eq.ensures ∙ c.if-eq.true in
     (c.loop-i.i, c.index-all-i.result, at, equals)
 
-pub returns-clause-place : goal.returns-clause-place
-returns-clause-place g c = λ i x at.
+pub returns-clause-index : goal.returns-clause-index
+returns-clause-index g c = λ i x at.
     let within : i < length c.args.all.now = slice_get_within _ _ _ at in
     c.loop-i.invariant i (omega (arith, within)) x at
 

@@ -6,10 +6,10 @@ use Rattle.fm_registry.proofs.labels.tested_root_labels.Goals as goal
 
 pub returns-then-is_label_name-clause-answer : goal.returns-then-is_label_name-clause-answer
 returns-then-is_label_name-clause-answer c =
-    refused-label c.args.labels.items c.in-Some.place c.swap_remove-name.result _ (subst (λ ls. IsRefusedAt ls c.in-Some.place) c.deref.ensures.value c.in-Some.ensures) c.swap_remove-name.ensures.value
+    refused-label c.args.labels.items c.in-Some.index c.swap_remove-name.result _ (subst (λ ls. IsRefusedAt ls c.in-Some.index) c.deref.ensures.value c.in-Some.ensures) c.swap_remove-name.ensures.value
     (ap is_label_name (sym c.as_str.ensures.value) ∙ sym c.is_label_name.ensures.test ∙ c.if-is_label_name.true)
 
 pub returns-clause-answer : goal.returns-clause-answer
 returns-clause-answer c =
-    refused-label c.args.labels.items c.in-Some.place c.swap_remove-name.result _ (subst (λ ls. IsRefusedAt ls c.in-Some.place) c.deref.ensures.value c.in-Some.ensures) c.swap_remove-name.ensures.value
+    refused-label c.args.labels.items c.in-Some.index c.swap_remove-name.result _ (subst (λ ls. IsRefusedAt ls c.in-Some.index) c.deref.ensures.value c.in-Some.ensures) c.swap_remove-name.ensures.value
     (ap is_label_name (sym c.as_str.ensures.value) ∙ sym c.is_label_name.ensures.test ∙ c.if-is_label_name.false)

@@ -3,7 +3,7 @@ use Rattle.fm_grammar.specs.Kinds.{suffix_of}
 use Rattle.fm_grammar.specs.Spelling.{label_list_text}
 use Rattle.fm_exposition.proofs.ResultLemmas.{on_ok_more}
 use Rattle.fm_text.specs.inside.Grown.{Grows}
-use Rattle.fm_text.proofs.GrownLemmas.{block_neither, block_front, block_back, grown_two, joined_whole, joined_nothing, joined_behind}
+use Rattle.fm_text.proofs.GrownLemmas.{block_neither, block_front, block_back, grown_two, joined_whole, joined_nothing, joined_after}
 use Rattle.fm_writer.proofs.RowLemmas.{before_value, begun_bare, begun_braced, row_begun}
 use Rattle.fm_writer.proofs.rendering.append_sample_row.Goals as goal
 use Rattle.fm_writer.proofs.rendering.append_sample_row.Goals.{then-len-eq0+then-len-eq0-2+in_ok-put_three, then-len-eq0+else-len-eq0-2+in_ok-put_three-2+in_ok-append_before, else-len-eq0+in_ok-put_three-3+in_ok-append_before-3, then-len-gt0+in_ok-append_before-2, else-len-gt0}
@@ -33,7 +33,7 @@ returns g c =
                 (let some : 0 < length front = omega (arith, w.len-else-len-eq0.ensures, v.if-len-gt0.true) in
                 joined_whole _ _ front back (codes "} ") some more (grown_two _ _ _ _ _ _ (rw (v.in_ok-append_before-2.was, ← v.text-is) at v.append_before-then-len-gt0.ensures) own))
             | else-len-gt0 v ↦
-                joined_behind _ _ front back (codes "} ") (omega (arith, w.len-else-len-eq0.ensures, v.if-len-gt0.false)) (rw (v.text-is) at own)
+                joined_after _ _ front back (codes "} ") (omega (arith, w.len-else-len-eq0.ensures, v.if-len-gt0.false)) (rw (v.text-is) at own)
           ] in
           rw (w.text-is) (begun_braced _ _ _ name suffix (front ++ back) block (rw (w.in_ok-put_three-3.was, c.as_bytes-name.ensures.value, c.as_bytes-suffix.ensures.value, c.suffix.ensures) at w.put_three-else-len-eq0.ensures) list))
     ] in

@@ -9,5 +9,5 @@ returns-clause-err g c =
     let accepting : c.enter.new.self.refused ≡ None = ap (λ e. e.refused) c.enter.ensures ∙ c.requires.accepting in
     let members = g.M.EncodeMetric in
     refused_under (members.offers c.args.metric.now) (members.stamps c.args.metric.now) (members.may_fault c.args.metric.now) (next_heading c.enter.new.self c.args.metadata.now) (heading_within c.args.scope c.args.metadata.now) c.encode.result c.encode.new.self.refused
-    (ap (λ e. heading_in e.namespace e.labels c.args.metadata.now) c.enter.ensures) c.encode.ensures.answered
-    (λ k is. c.encode.ensures.handed.refused k accepting is)
+    (ap (λ e. heading_in e.namespace e.labels c.args.metadata.now) c.enter.ensures) c.encode.ensures.returned
+    (λ k is. c.encode.ensures.emitted.refused k accepting is)

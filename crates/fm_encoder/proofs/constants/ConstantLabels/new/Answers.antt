@@ -1,7 +1,7 @@
 use Rattle.std.proofs.Common.{List, [], subst, sym, ◌∙◌}
 use Rattle.fm_grammar.specs.Exposition.{Label}
 use Rattle.fm_exposition.specs.Samples.{labels_of}
-use Rattle.fm_labels.specs.Labels.{LabelsClean, handed_again}
+use Rattle.fm_labels.specs.Labels.{LabelsValid, emitted_again}
 use Rattle.fm_labels.proofs.LabelsLemmas.{written_again}
 use Rattle.fm_encoder.proofs.constants.ConstantLabels.new.Goals as goal
 
@@ -9,7 +9,7 @@ pub invariant_of-result : goal.invariant_of-result
 invariant_of-result c =
     let same = c.in-Ok.ensures.1 ∙ written_again (labels_of c.args.labels.now) in
     record {
-      clean = λ _. subst (λ (ls : List Label). LabelsClean c.args.metric_type [] (handed_again ls)) (sym same) c.in-Ok.ensures.0;
+      valid = λ _. subst (λ (ls : List Label). LabelsValid c.args.metric_type [] (emitted_again ls)) (sym same) c.in-Ok.ensures.0;
       fault = λ k some. absurd cc;
     }
 

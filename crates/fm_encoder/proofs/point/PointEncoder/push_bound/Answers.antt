@@ -17,11 +17,11 @@ returns-in-Ok-push c =
     let formed = IsSample-bucket _ _ c.args.values _ c.args.exemplar buckets labels (omega arith) c.self.invariant.time c.requires.exemplar in
     let pushed = rw (c.as_str.ensures.value, c.text.ensures, c.count_value.ensures.value, c.in-Ok.ensures) at c.in-Ok-push.ensures.pushed in
     rw (← c.self.view_is) (record {
-      handed = record {
-        place = record { setting = refl; common = refl; deferred = refl };
+      emitted = record {
+        same = record { setting = refl; common = refl; deferred = refl };
         formed = λ _. formed;
         output = λ _. pushed;
         refused = λ k is. absurd cc;
       };
-      answered = sym (ap result_of accepting);
+      returned = sym (ap result_of accepting);
     })

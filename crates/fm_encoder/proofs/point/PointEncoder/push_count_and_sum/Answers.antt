@@ -14,18 +14,18 @@ push_sample-requires-clause-fits c =
 
 pub push_sample-requires-2-clause-fits : goal.push_sample-requires-2-clause-fits
 push_sample-requires-2-clause-fits c =
-    let same = ap (λ (s : Setting). s.metric_type) c.push_sample.ensures.handed.place.setting in
+    let same = ap (λ (s : Setting). s.metric_type) c.push_sample.ensures.emitted.same.setting in
     let kinds = subst (λ (type : MetricType). HasTotals type c.args.of_count c.args.of_sum) (sym same) c.requires.kinds in
     FitsType-sum _ _ _ _ c.args.sum kinds (ap value_of c.sum_value.ensures.value) c.sum_value.ensures.fits
 
 pub returns : goal.returns
 returns c =
-    let counted = none_from_answer _ c.push_sample.ensures.answered c.in_ok-push_sample.was in
+    let counted = none_from_answer _ c.push_sample.ensures.returned c.in_ok-push_sample.was in
     let after_count = c.push_sample.new.self in
     let sum_is = ap (λ v. plain_sample after_count.setting after_count.common c.args.of_sum [] (value_of v)) c.sum_value.ensures.value in
-    let summed = PushesSamples-one _ _ after_count _ c.push_sample-2.ensures.handed sum_is in
+    let summed = PushesSamples-one _ _ after_count _ c.push_sample-2.ensures.emitted sum_is in
     let count_is = ap (λ v. plain_sample c.args.self.now.setting c.args.self.now.common c.args.of_count [] (value_of v)) c.count_value.ensures.value in
     record {
-      handed = PushesSamples-after (λ s ls. plain_sample s ls c.args.of_count [] (Whole (pos c.args.count))) (λ s ls. plain_sample s ls c.args.of_sum [] (Fixed c.args.sum) ∷ []) _ c.args.self.now _ _ c.push_sample.ensures.handed counted summed count_is;
-      answered = c.push_sample-2.ensures.answered;
+      emitted = PushesSamples-after (λ s ls. plain_sample s ls c.args.of_count [] (Whole (pos c.args.count))) (λ s ls. plain_sample s ls c.args.of_sum [] (Fixed c.args.sum) ∷ []) _ c.args.self.now _ _ c.push_sample.ensures.emitted counted summed count_is;
+      returned = c.push_sample-2.ensures.returned;
     }

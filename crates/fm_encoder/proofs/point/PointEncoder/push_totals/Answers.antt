@@ -17,16 +17,16 @@ push_count_and_sum-requires-clause-kinds c = inl (c.requires.has_created, refl, 
 
 pub push_created-requires-clause-kind : goal.push_created-requires-clause-kind
 push_created-requires-clause-kind c =
-    let same = ap (λ (s : Setting). s.metric_type) c.push_count_and_sum.ensures.handed.place.setting in
+    let same = ap (λ (s : Setting). s.metric_type) c.push_count_and_sum.ensures.emitted.same.setting in
     type_has_created _ (subst (λ (t : MetricType). (t ≡ Histogram) ⊎ (t ≡ Summary)) (sym same) c.requires.has_created)
 
 pub returns-in-Some : goal.returns-in-Some
 returns-in-Some c =
     let old = c.args.self.now in
-    let pushed = none_from_answer _ c.push_count_and_sum.ensures.answered c.in_ok-push_count_and_sum.was in
+    let pushed = none_from_answer _ c.push_count_and_sum.ensures.returned c.in_ok-push_count_and_sum.was in
     let totals = total_samples old.setting old.common Count Sum c.args.count c.args.sum in
-    let all = PushesSamples-then totals (λ s ls. created_samples s ls (Some (millis c.in-Some.created))) old _ _ c.push_count_and_sum.ensures.handed pushed c.push_created.ensures.handed in
+    let all = PushesSamples-then totals (λ s ls. created_samples s ls (Some (millis c.in-Some.created))) old _ _ c.push_count_and_sum.ensures.emitted pushed c.push_created.ensures.emitted in
     record {
-      handed = rw (c.in-Some.is) all;
-      answered = c.push_created.ensures.answered;
+      emitted = rw (c.in-Some.is) all;
+      returned = c.push_created.ensures.returned;
     }

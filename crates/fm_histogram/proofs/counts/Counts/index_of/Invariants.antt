@@ -1,4 +1,4 @@
 use Rattle.fm_histogram.proofs.counts.Counts.index_of.Given as goal
 
-abbrev pub ghosts-place_of : goal.ghosts-place_of
-ghosts-place_of a = record { name = a.blank.name; parts = a.blank.parts }
+abbrev pub ghosts-index_of : goal.ghosts-index_of
+ghosts-index_of a = record { name = a.blank.name; parts = a.blank.parts }

@@ -9,4 +9,4 @@ returns-in-true-true c =
     let named = sym (c.in-true-true.ensures {u = tt}) in
     let valued = sym (c.in-true-true.ensures' {u = tt}) in
     let whole = EndsLabel-both _ labels.name labels.value _ _ c.in_default.is c.in_ok-check.ensures named valued c.self.invariant refl w.type_kept w.pieces w.labels w.refused in
-    record { handed = rw (← c.self.view_is) whole; answered = w.answered }
+    record { emitted = rw (← c.self.view_is) whole; returned = w.returned }

@@ -5,7 +5,7 @@ use Rattle.std.proofs.lemmas.List.{map-append}
 use Rattle.std.proofs.lemmas.Option.{get_or_from_slice_get}
 use Rattle.std.proofs.lemmas.Map.Iter.{iter_turn, rest_so_far, rest_more, iter_end}
 use Rattle.std.proofs.lemmas.Result.{err_from_is_err_and}
-use Rattle.fm_labels.proofs.LabelsLemmas.{HandsLabels-then, HandsLabels-stopped, HandsLabels-weaker}
+use Rattle.fm_labels.proofs.LabelsLemmas.{EmitsLabels-then, EmitsLabels-stopped, EmitsLabels-weaker}
 use Rattle.fm_labels.proofs.label_set.BTreeMapEncodeLabelSet.encode.Goals as goal
 
 pub loop-label-preserved : goal.loop-label-preserved
@@ -14,8 +14,8 @@ loop-label-preserved g c =
     let xs = c.args.self.now.entries in
     let x = deref_pair c.in-Some.label in
     let turn : (length c.loop-label.yielded < length xs) × (slice_get xs (length c.loop-label.yielded) ≡ Some x) = iter_turn deref_pair xs c.loop-label.yielded c.into_iter-label-iterator.result c.loop-label.label-iterator c.next.new.self c.next.result c.into_iter-label-iterator.ensures.into_iter_gives.0 c.loop-label.yielded_by c.in-Some.label c.in-Some.is c.next.ensures.steps in
-    let one = HandsLabels-weaker {G = Any (λ e. N.may_fault e.0 ⊎ V.may_fault e.1) xs} _ _ _ (λ (fault : N.may_fault x.0 ⊎ V.may_fault x.1). (length c.loop-label.yielded, x, turn.0, get_or_from_slice_get xs (length c.loop-label.yielded) x x turn.1, fault)) c.encode.ensures.handed in
-    simp map-append (HandsLabels-then _ _ _ _ _ c.loop-label.invariant refl (rw c.in_ok-encode.was at one))
+    let one = EmitsLabels-weaker {G = Any (λ e. N.may_fault e.0 ⊎ V.may_fault e.1) xs} _ _ _ (λ (fault : N.may_fault x.0 ⊎ V.may_fault x.1). (length c.loop-label.yielded, x, turn.0, get_or_from_slice_get xs (length c.loop-label.yielded) x x turn.1, fault)) c.encode.ensures.emitted in
+    simp map-append (EmitsLabels-then _ _ _ _ _ c.loop-label.invariant refl (rw c.in_ok-encode.was at one))
 
 pub returns : goal.returns
 returns g c =
@@ -28,12 +28,12 @@ returns-in_err-encode g c =
     let xs = c.args.self.now.entries in
     let x = deref_pair c.in-Some.label in
     let turn : (length c.loop-label.yielded < length xs) × (slice_get xs (length c.loop-label.yielded) ≡ Some x) = iter_turn deref_pair xs c.loop-label.yielded c.into_iter-label-iterator.result c.loop-label.label-iterator c.next.new.self c.next.result c.into_iter-label-iterator.ensures.into_iter_gives.0 c.loop-label.yielded_by c.in-Some.label c.in-Some.is c.next.ensures.steps in
-    let one = HandsLabels-weaker {G = Any (λ e. N.may_fault e.0 ⊎ V.may_fault e.1) xs} _ _ _ (λ (fault : N.may_fault x.0 ⊎ V.may_fault x.1). (length c.loop-label.yielded, x, turn.0, get_or_from_slice_get xs (length c.loop-label.yielded) x x turn.1, fault)) c.encode.ensures.handed in
+    let one = EmitsLabels-weaker {G = Any (λ e. N.may_fault e.0 ⊎ V.may_fault e.1) xs} _ _ _ (λ (fault : N.may_fault x.0 ⊎ V.may_fault x.1). (length c.loop-label.yielded, x, turn.0, get_or_from_slice_get xs (length c.loop-label.yielded) x x turn.1, fault)) c.encode.ensures.emitted in
     let exit = err_from_is_err_and c.from_residual.result c.from_residual.ensures.1 in
     let left = rest_more deref_pair c.loop-label.label-iterator c.next.new.self c.next.result c.in-Some.label c.in-Some.is c.next.ensures.steps in
     let f = λ (e : _). if V.is_skipped e.1 then [] else N.pieces e.0 ++ V.pieces e.1 in
     let all : xs ≡ map deref_pair c.loop-label.yielded ++ (x ∷ c.next.new.self) =
     sym c.into_iter-label-iterator.ensures.into_iter_gives.0 ∙ rest_so_far deref_pair c.loop-label.yielded c.into_iter-label-iterator.result c.loop-label.label-iterator c.loop-label.yielded_by ∙ ap (λ (t : _). map deref_pair c.loop-label.yielded ++ t) left in
     let whole : map f xs ≡ map f (map deref_pair c.loop-label.yielded) ++ (f x ∷ map f c.next.new.self) = ap (map f) all ∙ map-append f _ _ in
-    let done = HandsLabels-then _ _ _ _ _ c.loop-label.invariant refl (rw c.in_err-encode.was at one) in
-    rw (whole, exit.1, exit.2) (rw append_assoc at (HandsLabels-stopped (map f c.next.new.self) _ _ _ done))
+    let done = EmitsLabels-then _ _ _ _ _ c.loop-label.invariant refl (rw c.in_err-encode.was at one) in
+    rw (whole, exit.1, exit.2) (rw append_assoc at (EmitsLabels-stopped (map f c.next.new.self) _ _ _ done))

@@ -1,7 +1,7 @@
 use Rattle.std.proofs.Common.{◌≡◌, ◌++◌, map, Any, sym, ap, ◌∙◌}
 use Rattle.std.proofs.lemmas.List.{map-append}
 use Rattle.std.proofs.lemmas.Result.{err_from_is_err_and}
-use Rattle.fm_labels.proofs.LabelsLemmas.{HandsLabels-then, HandsLabels-stopped, HandsLabels-weaker, Any-left, Any-right}
+use Rattle.fm_labels.proofs.LabelsLemmas.{EmitsLabels-then, EmitsLabels-stopped, EmitsLabels-weaker, Any-left, Any-right}
 use Rattle.fm_labels.proofs.label_set.VecDequeEncodeLabelSet.encode.Goals as goal
 
 pub returns-in_err-encode_all : goal.returns-in_err-encode_all
@@ -11,8 +11,8 @@ returns-in_err-encode_all g c =
     let back = c.as_slices.result.1.now in
     let whole : map T.pieces c.args.self.now.items ≡ map T.pieces front ++ map T.pieces back = ap (map T.pieces) (sym c.as_slices.ensures.items) ∙ map-append T.pieces front back in
     let exit = err_from_is_err_and c.from_residual.result c.from_residual.ensures.1 in
-    let first = HandsLabels-weaker {G = Any T.may_fault (front ++ back)} _ _ _ (Any-left T.may_fault front back) c.encode_all.ensures in
-    rw (whole, ← c.as_slices.ensures.items, exit.1, exit.2) (HandsLabels-stopped (map T.pieces back) _ _ _ (rw c.in_err-encode_all.was at first))
+    let first = EmitsLabels-weaker {G = Any T.may_fault (front ++ back)} _ _ _ (Any-left T.may_fault front back) c.encode_all.ensures in
+    rw (whole, ← c.as_slices.ensures.items, exit.1, exit.2) (EmitsLabels-stopped (map T.pieces back) _ _ _ (rw c.in_err-encode_all.was at first))
 
 pub returns : goal.returns
 returns g c =
@@ -20,6 +20,6 @@ returns g c =
     let front = c.as_slices.result.0.now in
     let back = c.as_slices.result.1.now in
     let whole : map T.pieces c.args.self.now.items ≡ map T.pieces front ++ map T.pieces back = ap (map T.pieces) (sym c.as_slices.ensures.items) ∙ map-append T.pieces front back in
-    let first = HandsLabels-weaker {G = Any T.may_fault (front ++ back)} _ _ _ (Any-left T.may_fault front back) c.encode_all.ensures in
-    let second = HandsLabels-weaker {G = Any T.may_fault (front ++ back)} _ _ _ (Any-right T.may_fault front back) c.encode_all-2.ensures in
-    rw (whole, ← c.as_slices.ensures.items) (HandsLabels-then _ _ _ _ _ first c.in_ok-encode_all.was second)
+    let first = EmitsLabels-weaker {G = Any T.may_fault (front ++ back)} _ _ _ (Any-left T.may_fault front back) c.encode_all.ensures in
+    let second = EmitsLabels-weaker {G = Any T.may_fault (front ++ back)} _ _ _ (Any-right T.may_fault front back) c.encode_all-2.ensures in
+    rw (whole, ← c.as_slices.ensures.items) (EmitsLabels-then _ _ _ _ _ first c.in_ok-encode_all.was second)

@@ -1,5 +1,5 @@
 use Rattle.std.proofs.Common.{◌≡◌, List, [], ◌∷◌, ◌⊎◌, MatchOption, Option, Some, None, inl, inr, refl}
-use Rattle.fm_encoder.proofs.MemberLemmas.{HandsPoints-weaker}
+use Rattle.fm_encoder.proofs.MemberLemmas.{EmitsPoints-weaker}
 use Rattle.fm_metrics.proofs.exemplar_counter.ExemplarCounterEncodePoint.encode.Goals as goal
 
 -- an exemplar of such labels never returns an error of its own
@@ -9,7 +9,7 @@ no_fault (Some e) h = h
 
 pub returns : goal.returns
 returns g c =
-    HandsPoints-weaker _ _ _
+    EmitsPoints-weaker _ _ _
     (λ ps is. (c.get-total.result, _, c.get-total.ensures, c.lent.ensures, rw c.deref-3.ensures at is))
     (λ either. elim either [ inl of_total ↦ (c.get-total.result, c.get-total.ensures, of_total) | inr of_exemplar ↦ absurd (no_fault _ of_exemplar) ])
-    c.encode_counter.ensures.handed
+    c.encode_counter.ensures.emitted

@@ -1,6 +1,6 @@
 use Rattle.std.proofs.Common.{◌∙◌, ap, refl, subst, inl}
 use Rattle.fm_registry_model.specs.Tree.{names_in}
-use Rattle.fm_registry_model.specs.Answer.{IsAnswered, refusal_of}
+use Rattle.fm_registry_model.specs.Answer.{IsReturned, refusal_of}
 use Rattle.fm_registry_model.proofs.AnswerLemmas.{standing_may}
 use Rattle.fm_registry.specs.inside.Names.{refusal_beside}
 use Rattle.fm_registry.specs.View.{seen_metric}
@@ -9,7 +9,7 @@ use Rattle.fm_registry.proofs.registry.Registry.insert_named.Goals as goal
 
 pub returns-clause-answer : goal.returns-clause-answer
 returns-clause-answer g c =
-    subst (λ o. IsAnswered (refusal_of c.insert_metric.result) o)
+    subst (λ o. IsReturned (refusal_of c.insert_metric.result) o)
     (ap (λ t. refusal_beside t.facts.metrics c.is_below_child-is_below.result (seen_metric c.in-Ok.key.metadata c.args.metric)) c.self.view_is
     ∙ beside_standing c.args.self.now.facts.metrics (names_in c.args.self.now.children) c.in-Ok.key c.args.metadata c.args.metric c.tail.result.now c.is_below_child-is_below.result c.in-Ok.ensures c.tail.ensures c.is_below_child-is_below.ensures)
     c.insert_metric.ensures.answer

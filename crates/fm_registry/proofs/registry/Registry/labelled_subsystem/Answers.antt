@@ -4,7 +4,7 @@ use Rattle.fm_registry_model.specs.Tree.{find_child}
 use Rattle.fm_registry_model.proofs.CallLemmas.{subsystem-loan}
 use Rattle.std.specs.String.{string_bytes}
 use Rattle.fm_registry_model.specs.Steps.{with_named}
-use Rattle.fm_registry_model.proofs.ForestLemmas.{place_in-IsPlace}
+use Rattle.fm_registry_model.proofs.ForestLemmas.{index_in-IsPlace}
 use Rattle.fm_registry.proofs.SoundLemmas.{LoanReads-sound}
 use Rattle.fm_registry.proofs.registry.Registry.labelled_subsystem.Goals as goal
 
@@ -12,25 +12,25 @@ some_same : (x y : List ℕ) → Some x ≡ Some y → x ≡ y
 some_same x y e = cc
 
 pub subsystem_at-requires : goal.subsystem_at-requires
-subsystem_at-requires g c = (place_in-IsPlace _ _ _ c.in_ok-place.ensures.place).there
+subsystem_at-requires g c = (index_in-IsPlace _ _ _ c.in_ok-index.ensures.index).there
 
 pub returns : goal.returns
 returns g c =
-    let place = place_in-IsPlace c.add_subsystem.new.self.children (string_bytes c.args.name) c.in_ok-place.place c.in_ok-place.ensures.place in
-    let reads = subsystem-loan c.args.self.now c.subsystem_at.result.now.registry (string_bytes c.args.name) (labels_of c.args.labels.items) c.in_ok-place.ensures.answer
-    (ap (λ t. find_child t.children (string_bytes c.args.name)) (sym c.in_ok-place.ensures.ok) ∙ place.found ∙ c.subsystem_at.ensures.value) in (
+    let index = index_in-IsPlace c.add_subsystem.new.self.children (string_bytes c.args.name) c.in_ok-index.index c.in_ok-index.ensures.index in
+    let reads = subsystem-loan c.args.self.now c.subsystem_at.result.now.registry (string_bytes c.args.name) (labels_of c.args.labels.items) c.in_ok-index.ensures.answer
+    (ap (λ t. find_child t.children (string_bytes c.args.name)) (sym c.in_ok-index.ensures.ok) ∙ index.found ∙ c.subsystem_at.ensures.value) in (
       λ i. inl (
         c.subsystem_at.result.ghost_name,
         λ w.
-            (ap (λ f. record { facts = c.add_subsystem.new.self.facts; children = f }) (place.replaced (string_bytes w.name) w.registry)
-            ∙ ap (λ t. record { facts = t.facts; children = with_named t.children (string_bytes c.args.name) (string_bytes w.name) w.registry }) c.in_ok-place.ensures.ok) i,
+            (ap (λ f. record { facts = c.add_subsystem.new.self.facts; children = f }) (index.replaced (string_bytes w.name) w.registry)
+            ∙ ap (λ t. record { facts = t.facts; children = with_named t.children (string_bytes c.args.name) (string_bytes w.name) w.registry }) c.in_ok-index.ensures.ok) i,
       ),
       record {
         writes_back = tt;
-        answer = c.in_ok-place.ensures.answer;
-        there = c.in_ok-place.ensures.there;
+        answer = c.in_ok-index.ensures.answer;
+        there = c.in_ok-index.ensures.there;
         name =
-            let both : Some (string_bytes c.subsystem_at.result.now.name) ≡ Some (string_bytes c.args.name) = sym c.subsystem_at.ensures.name ∙ place.name in
+            let both : Some (string_bytes c.subsystem_at.result.now.name) ≡ Some (string_bytes c.args.name) = sym c.subsystem_at.ensures.name ∙ index.name in
             some_same _ _ both;
         reads = reads;
         sound = λ sound. LoanReads-sound _ _ _ _ (reads sound.history sound.reads);

@@ -11,10 +11,10 @@ element_mut-requires g c = within-nth_in _ _ (rw (← c.subsystems_mut.ensures.v
 
 pub returns : goal.returns
 returns g c = (
-  (refl, λ w. ap (λ f. record { facts = c.args.self.now.facts; children = f }) (forest_of-with_item _ _ w ∙ ap (λ f. with_nth f c.args.place (string_bytes w.name) w.registry) c.subsystems_mut.ensures.value)),
+  (refl, λ w. ap (λ f. record { facts = c.args.self.now.facts; children = f }) (forest_of-with_item _ _ w ∙ ap (λ f. with_nth f c.args.index (string_bytes w.name) w.registry) c.subsystems_mut.ensures.value)),
   record {
     writes_back = tt;
-    value = ap (λ f. nth_in f c.args.place) (sym c.subsystems_mut.ensures.value) ∙ nth_in-forest_of (items_of c.subsystems_mut.result.now) c.args.place ∙ ap (option_map (λ s. s.registry)) c.element_mut.ensures.value;
-    name = ap (λ f. nth_name f c.args.place) (sym c.subsystems_mut.ensures.value) ∙ nth_name-forest_of (items_of c.subsystems_mut.result.now) c.args.place ∙ ap (option_map (λ s. string_bytes s.name)) c.element_mut.ensures.value;
+    value = ap (λ f. nth_in f c.args.index) (sym c.subsystems_mut.ensures.value) ∙ nth_in-forest_of (items_of c.subsystems_mut.result.now) c.args.index ∙ ap (option_map (λ s. s.registry)) c.element_mut.ensures.value;
+    name = ap (λ f. nth_name f c.args.index) (sym c.subsystems_mut.ensures.value) ∙ nth_name-forest_of (items_of c.subsystems_mut.result.now) c.args.index ∙ ap (option_map (λ s. string_bytes s.name)) c.element_mut.ensures.value;
   },
 )

@@ -1,5 +1,5 @@
-use Rattle.fm_tests_histograms.proofs.PointsLemmas.{HandsPoints-weaker}
+use Rattle.fm_tests_histograms.proofs.PointsLemmas.{EmitsPoints-weaker}
 use Rattle.fm_tests_histograms.proofs.histograms.FaultySlotEncodePoint.encode.Goals as goal
 
 pub returns : goal.returns
-returns c = HandsPoints-weaker _ _ _ (λ _. tt) c.encode_histogram.ensures.handed
+returns c = EmitsPoints-weaker _ _ _ (λ _. tt) c.encode_histogram.ensures.emitted

@@ -3,13 +3,13 @@ use Rattle.std.proofs.lemmas.List.{length-map}
 use Rattle.fm_grammar.specs.declared.SampleKind.TheVariants.{GCount, GSum}
 use Rattle.fm_encoder.specs.Points.{GaugeHistogramPoint, total_samples}
 use Rattle.fm_labels.proofs.Cases.{none_from_answer}
-use Rattle.fm_encoder.proofs.BucketLemmas.{HandsPoints-buckets}
+use Rattle.fm_encoder.proofs.BucketLemmas.{EmitsPoints-buckets}
 use Rattle.fm_encoder.proofs.point.histogram.bare.encode_bare_gauge_histogram.Goals as goal
 
 pub returns : goal.returns
 returns c =
-    let begun = none_from_answer _ c.begin_buckets.ensures.answered c.in_ok-begin_buckets.was in
-    let pushed = none_from_answer _ c.push_bare_buckets.ensures.answered c.in_ok-push_bare_buckets.was in
+    let begun = none_from_answer _ c.begin_buckets.ensures.returned c.in_ok-begin_buckets.was in
+    let pushed = none_from_answer _ c.push_bare_buckets.ensures.returned c.in_ok-push_bare_buckets.was in
     let slots = map (λ _. []) c.args.buckets.now in
     let point = GaugeHistogramPoint c.args.buckets.now slots c.args.count c.args.sum in
-    rw (c.push_count_and_sum.ensures.answered) (record { handed = HandsPoints-buckets point (λ s ls. total_samples s ls GCount GSum c.args.count c.args.sum) c.args.buckets.now slots _ _ _ _ _ _ (λ _ clean. clean) (λ _. refl) (length-map c.args.buckets.now _) c.begin_buckets.ensures.handed begun c.push_bare_buckets.ensures.handed pushed c.push_count_and_sum.ensures.handed; answered = refl })
+    rw (c.push_count_and_sum.ensures.returned) (record { emitted = EmitsPoints-buckets point (λ s ls. total_samples s ls GCount GSum c.args.count c.args.sum) c.args.buckets.now slots _ _ _ _ _ _ (λ _ valid. valid) (λ _. refl) (length-map c.args.buckets.now _) c.begin_buckets.ensures.emitted begun c.push_bare_buckets.ensures.emitted pushed c.push_count_and_sum.ensures.emitted; returned = refl })
