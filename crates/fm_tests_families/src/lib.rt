@@ -13,3 +13,7 @@ mod leaving;
 mod meeting;
 #[cfg(test)]
 mod members;
+#[cfg(test)]
+mod pairs;
+#[cfg(test)]
+mod texts;

@@ -6,6 +6,8 @@ mod label_numbers;
 #[cfg(test)]
 mod labels;
 #[cfg(test)]
+mod own_labels;
+#[cfg(test)]
 mod refusals;
 #[cfg(test)]
 mod wrappers;

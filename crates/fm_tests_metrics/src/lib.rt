@@ -6,6 +6,8 @@ pub mod cases;
 #[cfg(test)]
 mod clones;
 #[cfg(test)]
+mod constants;
+#[cfg(test)]
 mod default_states;
 #[cfg(test)]
 mod exemplar_counters;

@@ -3,15 +3,24 @@
 #![tactic(auto)]
 
 #[cfg(test)]
+mod asking;
+#[cfg(test)]
 mod boxed;
 #[cfg(test)]
 mod calls;
 #[cfg(test)]
+mod deciding;
+#[cfg(test)]
 mod deep;
+#[cfg(test)]
+mod global_registering;
+pub mod global_support;
 #[cfg(test)]
 mod names;
 #[cfg(test)]
 mod nested;
+#[cfg(test)]
+mod readers;
 #[cfg(test)]
 mod registering;
 #[cfg(test)]

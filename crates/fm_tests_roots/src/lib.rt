@@ -10,6 +10,8 @@ mod own;
 #[cfg(test)]
 mod paths;
 #[cfg(test)]
+mod process;
+#[cfg(test)]
 mod refused;
 #[cfg(test)]
 mod refused_paths;

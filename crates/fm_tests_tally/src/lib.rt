@@ -9,3 +9,5 @@ mod pieces;
 mod shares;
 #[cfg(test)]
 mod sums;
+#[cfg(test)]
+mod tallies;

@@ -2,10 +2,18 @@
 #![tactic(auto)]
 
 #[cfg(test)]
+mod documents;
+#[cfg(test)]
+mod expositions;
+#[cfg(test)]
 mod large;
 #[cfg(test)]
 mod lines;
 #[cfg(test)]
 mod sizes;
 #[cfg(test)]
+mod stops;
+#[cfg(test)]
 mod writers;
+#[cfg(test)]
+mod writing;

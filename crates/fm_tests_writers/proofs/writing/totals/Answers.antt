@@ -1,6 +1,6 @@
 use Rattle.std.proofs.Common.{[], ◌++◌, sym, subst}
 use Rattle.fm_grammar.specs.WellFormed.{AreLabels}
-use Rattle.fm_tests_exposition.proofs.writing.totals.Goals as goal
+use Rattle.fm_tests_writers.proofs.writing.totals.Goals as goal
 
 pub loop-i-preserved : goal.loop-i-preserved
 loop-i-preserved c = record {

@@ -1,7 +1,7 @@
 //! What is registered in the registry under the lock.
 ghost use Rattle.fm_registry.specs.HasHistory.{HasHistory};
 
-use crate::support::{One, UpAndDown, document};
+use crate::global_support::{One, UpAndDown, document};
 use fastmetrics::encoder::EncodeMetric;
 use fastmetrics::metrics::gauge::ConstGauge;
 use fastmetrics::raw::MetricType;

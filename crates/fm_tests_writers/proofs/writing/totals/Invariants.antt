@@ -2,7 +2,7 @@ use Rattle.std.proofs.Common.{[], ◌++◌}
 use Rattle.std.specs.List.{AllByRecursion}
 use Rattle.fm_grammar.specs.WellFormed.{AreLabels, IsSample}
 use Rattle.fm_grammar.specs.declared.MetricType.TheVariants.{Counter}
-use Rattle.fm_tests_exposition.proofs.writing.totals.Given as goal
+use Rattle.fm_tests_writers.proofs.writing.totals.Given as goal
 
 abbrev pub invariant-loop-i : goal.invariant-loop-i
 invariant-loop-i l = record {

@@ -1,7 +1,7 @@
 //! What decides which registry a program shares.
 ghost use Rattle.fm_registry.specs.HasHistory.{HasHistory};
 
-use crate::support::{One, UpAndDown, document};
+use crate::global_support::{One, UpAndDown, document};
 use fastmetrics::encoder::EncodeMetric;
 use fastmetrics::metrics::gauge::ConstGauge;
 use fastmetrics::raw::Unit;
