@@ -97,18 +97,6 @@ pub fn refuses(
     }
 }
 
-/// Whether all results but the one at this index are `Ok`, and that one is the refusal with this number, which names this
-/// text.
-pub fn are_accepted_but(
-    answers: &[Result<(), RegistryError>],
-    index: usize,
-    number: u8,
-    text: &str,
-) -> bool {
-    refuses(answers, index, number, text)
-        && answers.iter().filter(|answer| answer.is_err()).count() == 1
-}
-
 /// The path that goes down this number of times, from one subsystem to another of the same name.
 pub fn path_down(alloc: Global, name: &str, depth: usize) -> Result<Vec<String>, AllocError> {
     let mut path = Vec::new(alloc);
