@@ -5,7 +5,7 @@
 #   scripts/try_tests.sh [CRATE..]        those of all crates that have tests, and the scripts (scripts/replay.sh), or those of these crates alone
 #
 # Prints a line for each crate, and what was said where a test failed. Its last line is 'N crates passed, M failed', and with the scripts '; scripts:
-# A agree, D differ' behind it; the status is 0 if M and D are 0.
+# A agree, D differ' after it; the status is 0 if M and D are 0.
 set -u
 cd "$(dirname "$0")/.." || exit 2
 said=$(mktemp -d) || exit 2

@@ -61,7 +61,7 @@ pub use Rattle.fm_core.specs.Encoded
 pub use Rattle.fm_encoder.specs.States
 pub use Rattle.fm_metrics.specs.Counters
 pub use Rattle.fm_metrics.specs.NumberOrder
-pub use Rattle.fm_metrics.specs.KeptState
+pub use Rattle.fm_metrics.specs.CurrentState
 pub use Rattle.fm_metrics.specs.StateSets
 pub use Rattle.fm_raw.specs.BucketErrors
 pub use Rattle.fm_raw.specs.BoundTests

@@ -40,8 +40,8 @@ module _ (Offers : Option ℕ → List Member → Type 0) (Stamps : Option ℕ �
 -- An encoder that had refused does not change. Otherwise it adds the family of the metric, unless the metric is empty, or refuses
 -- for want of memory or for a fault in the metric.
 pub record EncodesFamily (Offers : Option ℕ → List Member → Type 0) (Stamps : Option ℕ → Type 0) (MayBeEmpty MayFault : Type 0) (heading : Heading) (old new : GatheredFamilies) : Type 0 where
-  pub namespace_kept : new.namespace ≡ old.namespace
-  pub labels_kept : new.labels ≡ old.labels
+  pub same_namespace : new.namespace ≡ old.namespace
+  pub same_labels : new.labels ≡ old.labels
   pub kept : (k : EncodeError) → old.refused ≡ Some k → new ≡ old
   pub added : old.refused ≡ None → new.refused ≡ None → AddsFamily Offers Stamps MayBeEmpty heading old.families new.families
   pub refused : (k : EncodeError) → old.refused ≡ None → new.refused ≡ Some k → (k ≡ Memory) ⊎ FaultUnder Offers Stamps k MayFault heading

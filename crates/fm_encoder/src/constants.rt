@@ -33,7 +33,7 @@ fn tested(
     Ok(encoder.into_text())
 }
 
-// Adds the labels that a label set emits, behind those that the encoder has. Kept labels are copied, unless one of them has the name of a
+// Adds the labels that a label set emits, after those that the encoder has. Kept labels are copied, unless one of them has the name of a
 // label that the encoder has.
 fn add_labels<LS: EncodeLabelSet>(
     encoder: &mut LabelSetEncoder,
@@ -42,7 +42,7 @@ fn add_labels<LS: EncodeLabelSet>(
 ) -> Result<(), EncodeError>
     requires accepting { encoder.old.refused ≡ None }
     requires written { IfSome written (λ k. AreWritten (LS.labels labels.now) k.now) }
-    ensures type_kept { encoder.new.metric_type ≡ encoder.old.metric_type }
+    ensures same_type { encoder.new.metric_type ≡ encoder.old.metric_type }
     ensures gathered { MatchResult result
         (λ _. LabelsValid encoder.old.metric_type encoder.old.labels (LS.labels labels.now)
         × (encoder.new.labels ≡ encoder.old.labels ++ all_written (LS.labels labels.now)))
@@ -134,7 +134,7 @@ impl ConstantLabels {
     ) -> Result<(), EncodeError>
         requires of_type { self.now.metric_type ≡ encoder.old.metric_type }
         requires written { IfSome written (λ k. AreWritten (LS.labels labels.now) k.now) }
-        ensures type_kept { encoder.new.metric_type ≡ encoder.old.metric_type }
+        ensures same_type { encoder.new.metric_type ≡ encoder.old.metric_type }
         ensures gathered { let all = emitted_again self.now.labels ++ LS.labels labels.now in
             MatchResult result
             (λ _. LabelsValid encoder.old.metric_type [] all

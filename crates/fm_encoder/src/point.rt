@@ -254,7 +254,7 @@ impl PointEncoder {
     // Keeps a refusal, which is the first, and returns it.
     pub(crate) fn refuse(&mut self, error: EncodeError) -> Result<(), EncodeError>
         requires accepting { self.old.refused ≡ None }
-        ensures kept { self.new ≡ record self.old { refused = Some error } }
+        ensures refused { self.new ≡ record self.old { refused = Some error } }
         ensures returned { result ≡ Err error }
     {
         self.refused.refuse(error)

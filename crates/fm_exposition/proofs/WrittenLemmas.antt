@@ -40,8 +40,8 @@ pub all_but_none : (a b : Option Text) (whole : Text) → AppendsAllBut [] a b w
 all_but_none a b whole before = let P : Text → Type 0 = λ t. Appends a b t in subst P (sym (append-nil before.front) ∙ before.is) before.appended
 
 -- nothing more is written
-pub all_but_kept : (a b c : Option Text) (rest whole : Text) → AppendsAllBut rest a b whole → Keeps b c → AppendsBeginning a c whole
-all_but_kept a b c rest whole before kept = (before.front, rest, Appends-keeps a b c before.front before.appended kept, before.is)
+pub all_but_same : (a b c : Option Text) (rest whole : Text) → AppendsAllBut rest a b whole → Keeps b c → AppendsBeginning a c whole
+all_but_same a b c rest whole before kept = (before.front, rest, Appends-keeps a b c before.front before.appended kept, before.is)
 
 -- the writer took n bytes of the rest
 pub all_but_taken : (a b c : Option Text) (n : ℕ) (rest whole : Text) → AppendsAllBut rest a b whole → Appends b c (take n rest) → AppendsAllBut (take (length rest - n) (drop n rest)) a c whole

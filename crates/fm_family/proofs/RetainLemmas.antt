@@ -31,7 +31,7 @@ module _ {X P : Type 0} (R : P → X → Bool → P → Type 0) where
 
   -- after the calls at the first i items of xs: they left the closure f as g, what it keeps stands in the first n places of ys, and
   -- from i on ys is as xs
-  pub record KeptSoFar (f g : P) (xs ys : List X) (n i : ℕ) : Type 0 where
+  pub record RetainedSoFar (f g : P) (xs ys : List X) (n i : ℕ) : Type 0 where
     pub answers : List Bool
     pub count : length answers ≡ i
     pub ran : ReturnsInTurn R f answers xs g
@@ -41,10 +41,10 @@ module _ {X P : Type 0} (R : P → X → Bool → P → Type 0) where
     pub long : length ys ≡ length xs
 
   -- before the first call
-  pub kept_none : (f : P) (xs : List X) → KeptSoFar f f xs xs 0 0
-  kept_none f xs = record { answers = []; count = refl; ran = refl; front = refl; rest = refl; beyond = omega arith; long = refl }
+  pub retained_none : (f : P) (xs : List X) → RetainedSoFar f f xs xs 0 0
+  retained_none f xs = record { answers = []; count = refl; ran = refl; front = refl; rest = refl; beyond = omega arith; long = refl }
 
-  module _ (f g h : P) (xs ys : List X) (n i : ℕ) (x : X) (so_far : KeptSoFar f g xs ys n i) (within : i < length ys) (read : slice_get ys i ≡ Some x) where
+  module _ (f g h : P) (xs ys : List X) (n i : ℕ) (x : X) (so_far : RetainedSoFar f g xs ys n i) (within : i < length ys) (read : slice_get ys i ≡ Some x) where
     both : get_or ys i x ∷ drop (i + 1) ys ≡ get_or xs i x ∷ drop (i + 1) xs
     both =
         let long = so_far.long in
@@ -63,8 +63,8 @@ module _ {X P : Type 0} (R : P → X → Bool → P → Type 0) where
     counted b = length-append so_far.answers (b ∷ []) ∙ ap (λ k. k + 1) so_far.count
 
     -- an item that goes
-    pub kept_not : R g x false h → KeptSoFar f h xs ys n (i + 1)
-    kept_not call =
+    pub retained_not : R g x false h → RetainedSoFar f h xs ys n (i + 1)
+    retained_not call =
         let beyond = so_far.beyond in
         record {
           answers = so_far.answers ++ false ∷ [];
@@ -77,8 +77,8 @@ module _ {X P : Type 0} (R : P → X → Bool → P → Type 0) where
         }
 
     -- an item that stays, which is moved to the end of those that stay
-    pub kept_one : (zs : List X) → zs ≡ swap ys n i → R g x true h → KeptSoFar f h xs zs (n + 1) (i + 1)
-    kept_one zs moved call =
+    pub retained_one : (zs : List X) → zs ≡ swap ys n i → R g x true h → RetainedSoFar f h xs zs (n + 1) (i + 1)
+    retained_one zs moved call =
         let beyond = so_far.beyond in
         let is = moved ∙ sym (swap_is ys n i x (omega arith) within) in
         let long : length zs ≡ length ys = ap length moved ∙ length-swap ys n i in

@@ -55,7 +55,7 @@ impl<
 > Family<LS, M, MF, S, H> {
     /// A family without members, with this factory and the default hasher. Fails with `Memory` if memory runs out.
     pub fn new(wait: H, alloc: Global, factory: MF) -> Result<Self, MetricError>
-        ensures kept { IfOk result (λ f. (arc_value f.shared).factory ≡ factory) }
+        ensures factory { IfOk result (λ f. (arc_value f.shared).factory ≡ factory) }
         ensures memory { IfErr result (λ e. e ≡ Memory) }
     {
         Family::with_hasher(wait, alloc, factory, S::default())
@@ -71,7 +71,7 @@ impl<
 > Family<LS, M, MF, S, H> {
     /// A family without members, with this factory and this hasher. Fails with `Memory` if memory runs out.
     pub fn with_hasher(wait: H, alloc: Global, factory: MF, hasher: S) -> Result<Self, MetricError>
-        ensures kept { IfOk result (λ f. (arc_value f.shared).factory ≡ factory) }
+        ensures factory { IfOk result (λ f. (arc_value f.shared).factory ≡ factory) }
         ensures memory { IfErr result (λ e. e ≡ Memory) }
     {
         let core = RwLock::new(FamilyCore::with_hasher(alloc, hasher));

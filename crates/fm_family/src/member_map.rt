@@ -102,10 +102,10 @@ impl<LS: EncodeLabelSet + Eq + Hash + Drop, M: Drop, S: BuildHasher> MemberMap<L
         ensures different { IsUnique LS.eq self.new }
     {
         let count = self.members.len();
-        let Ok(kept) = WrittenLabels::read(self.alloc, &labels) else {
+        let Ok(written) = WrittenLabels::read(self.alloc, &labels) else {
             return Err(AllocError);
         };
-        self.labels.push(kept)?;
+        self.labels.push(written)?;
         match self.members.insert(labels, metric) {
             Ok(_) => Ok(()),
             Err(_) => {
@@ -164,20 +164,20 @@ impl<LS: EncodeLabelSet + Eq + Hash + Drop, M: Drop, S: BuildHasher> MemberMap<L
     // Keeps the members at which the closure returns `true`, in their order. It is called once for each, in their order.
     pub(crate) fn retain<F: FnMut(&LS, &M) -> bool>(&mut self, mut keep: F)
         requires { F.IsAlwaysCallable keep }
-        ensures kept { IsFiltered (CalledAtMember F.FnMut) keep self.old.entries self.new.entries }
+        ensures retained { IsFiltered (CalledAtMember F.FnMut) keep self.old.entries self.new.entries }
         ensures different { IsUnique LS.eq self.new }
     {
-        let mut kept = 0;
+        let mut retained = 0;
         for index in 0..self.len() {
             let Some((labels, metric)) = self.members.get_index(index) else {
                 unreachable!()
             };
             if keep(labels, metric) {
-                self.exchange(kept, index);
-                kept += 1;
+                self.exchange(retained, index);
+                retained += 1;
             }
         }
-        self.truncate(kept);
+        self.truncate(retained);
     }
 }
 

@@ -162,7 +162,7 @@ impl<LS: EncodeLabelSet + Eq + Hash + Drop, M: Drop, S: BuildHasher> FamilyCore<
     /// to the number of metrics.
     pub fn retain<F: FnMut(&LS, &M) -> bool>(&mut self, keep: F)
         requires { F.IsAlwaysCallable keep }
-        ensures kept { IsFiltered (CalledAtMember F.FnMut) keep self.old.members.entries
+        ensures retained { IsFiltered (CalledAtMember F.FnMut) keep self.old.members.entries
             self.new.members.entries }
         ensures different { IsUnique LS.eq self.new.members }
     {

@@ -42,14 +42,14 @@ EmitsLabels-one pieces F old mid new visited emits ends empty =
     let all_pieces : old.refused ≡ None → mid.refused ≡ None → visited ≡ Ok tt → mid.pieces ≡ pieces =
     (λ o m v. rw (empty o) at (emits.emitted o m v)) in
     record {
-      type_kept = ends.type_kept ∙ emits.type_kept;
+      same_type = ends.same_type ∙ emits.same_type;
       kept = λ k e. (let same : mid ≡ old = emits.kept k e in let again : new ≡ mid = ends.kept k (ap (λ (g : GatheredPieces). g.refused) same ∙ e) in ap set_of (again ∙ same));
       valid = λ o n r.
           (let m = none_before_end visited mid new ends n in
-          (rw (emits.type_kept, emits.labels_kept, all_pieces o m (ends.visited_ok m n)) at (ends.valid m n), tt));
+          (rw (emits.same_type, emits.same_labels, all_pieces o m (ends.visited_ok m n)) at (ends.valid m n), tt));
       emitted = λ o n r.
           (let m = none_before_end visited mid new ends n in
-          rw append-nil (rw (emits.labels_kept, all_pieces o m (ends.visited_ok m n)) at (ends.labels m n)));
+          rw append-nil (rw (emits.same_labels, all_pieces o m (ends.visited_ok m n)) at (ends.labels m n)));
       own = λ e n r. (let no : Ok tt ≡ Err e = rw n at r in cc);
       refused = λ k o n. elim (option_cases mid.refused) [
         | inr (j, e) ↦
@@ -79,7 +79,7 @@ pub EndsLabel-both : (visited : Result (Unit {0}) EncodeError) (name text : Opti
 EndsLabel-both visited None text old new v o named valued fits whole type empty labels memory = absurd cc
 EndsLabel-both visited (Some n) None old new v o named valued fits whole type empty labels memory = absurd cc
 EndsLabel-both visited (Some n) (Some t) old new v o named valued fits whole type empty labels memory = record {
-  type_kept = type;
+  same_type = type;
   kept = λ k e. absurd cc;
   visited_ok = λ _ _. v;
   pieces = λ _ none. empty none;

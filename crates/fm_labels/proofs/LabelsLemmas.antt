@@ -39,11 +39,11 @@ all_written-append xs ys = flat_map-append written xs ys
 -- some labels, and then others
 pub EmitsLabels-then : {xs ys : List EmittedLabel} {F : Type 0} (old mid new : GatheredLabels) (first r : Result (Unit {0}) EncodeError) → EmitsLabels xs F old mid first → first ≡ Ok tt → EmitsLabels ys F mid new r → EmitsLabels (xs ++ ys) F old new r
 EmitsLabels-then {xs} {ys} {F} old mid new first r a ok b = record {
-  type_kept = b.type_kept ∙ a.type_kept;
+  same_type = b.same_type ∙ a.same_type;
   kept = λ k e. (let same : mid ≡ old = a.kept k e in let again : new ≡ mid = b.kept k (ap (λ (g : GatheredLabels). g.refused) same ∙ e) in again ∙ same);
   valid = λ o n e.
       (let m = none_before_labels mid new r b n in
-      LabelsValid-append _ _ xs ys (a.valid o m ok) (rw (a.type_kept, a.emitted o m ok) at (b.valid m n e)));
+      LabelsValid-append _ _ xs ys (a.valid o m ok) (rw (a.same_type, a.emitted o m ok) at (b.valid m n e)));
   emitted = λ o n e.
       (let m = none_before_labels mid new r b n in
       rw all_written-append (b.emitted m n e ∙ ap (λ (ls : List Label). ls ++ all_written ys) (a.emitted o m ok) ∙ append_assoc old.labels (all_written xs) (all_written ys)));
@@ -58,7 +58,7 @@ EmitsLabels-then {xs} {ys} {F} old mid new first r a ok b = record {
         ])
     | inl m ↦ elim (b.refused k m n) [
       | inl own ↦ inl own
-      | inr fault ↦ inr (LabelsFault-after k _ _ xs ys (rw (a.type_kept, a.emitted o m ok) at fault))
+      | inr fault ↦ inr (LabelsFault-after k _ _ xs ys (rw (a.same_type, a.emitted o m ok) at fault))
     ]
   ];
 }
@@ -66,7 +66,7 @@ EmitsLabels-then {xs} {ys} {F} old mid new first r a ok b = record {
 -- some labels that ended with an error, of a longer list
 pub EmitsLabels-stopped : {xs : List EmittedLabel} {F : Type 0} (ys : List EmittedLabel) (old new : GatheredLabels) (e : EncodeError) → EmitsLabels xs F old new (Err e) → EmitsLabels (xs ++ ys) F old new (Err e)
 EmitsLabels-stopped {xs} ys old new e a = record {
-  type_kept = a.type_kept;
+  same_type = a.same_type;
   kept = a.kept;
   valid = λ o n ok. absurd cc;
   emitted = λ o n ok. absurd cc;
@@ -79,7 +79,7 @@ EmitsLabels-stopped {xs} ys old new e a = record {
 
 pub EmitsLabels-weaker : {xs : List EmittedLabel} {F G : Type 0} (old new : GatheredLabels) (r : Result (Unit {0}) EncodeError) → (F → G) → EmitsLabels xs F old new r → EmitsLabels xs G old new r
 EmitsLabels-weaker old new r weaker a = record {
-  type_kept = a.type_kept;
+  same_type = a.same_type;
   kept = a.kept;
   valid = a.valid;
   emitted = a.emitted;
@@ -93,7 +93,7 @@ EmitsLabels-weaker old new r weaker a = record {
 
 pub EmitsLabels-nothing : {F : Type 0} (g : GatheredLabels) → EmitsLabels [] F g g (Ok tt)
 EmitsLabels-nothing g = record {
-  type_kept = refl;
+  same_type = refl;
   kept = λ _ _. refl;
   valid = λ _ _ _. tt;
   emitted = λ _ _ _. sym (append-nil g.labels);

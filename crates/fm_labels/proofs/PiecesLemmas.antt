@@ -29,8 +29,8 @@ PieceFault-append k type before ps qs (inr n) = inr (n.0, Contains-append_left p
 -- one part, and then another
 pub EmitsPieces-then : {xs ys : EmittedLabel} {F : Type 0} (old mid new : GatheredPieces) (first r : Result (Unit {0}) EncodeError) → EmitsPieces xs F old mid first → first ≡ Ok tt → EmitsPieces ys F mid new r → EmitsPieces (xs ++ ys) F old new r
 EmitsPieces-then {xs} {ys} {F} old mid new first r a ok b = record {
-  type_kept = b.type_kept ∙ a.type_kept;
-  labels_kept = b.labels_kept ∙ a.labels_kept;
+  same_type = b.same_type ∙ a.same_type;
+  same_labels = b.same_labels ∙ a.same_labels;
   kept = λ k e. (let same : mid ≡ old = a.kept k e in let again : new ≡ mid = b.kept k (ap (λ (g : GatheredPieces). g.refused) same ∙ e) in again ∙ same);
   emitted = λ o n e.
       (let m = none_before_emits mid new r b n in
@@ -50,7 +50,7 @@ EmitsPieces-then {xs} {ys} {F} old mid new first r a ok b = record {
       | inl memory ↦ inl memory
       | inr fault ↦
           (let p : mid.pieces ++ ys ≡ old.pieces ++ (xs ++ ys) = ap (λ (ps : EmittedLabel). ps ++ ys) (a.emitted o m ok) ∙ append_assoc old.pieces xs ys in
-          inr (rw (a.type_kept, a.labels_kept, p) at fault))
+          inr (rw (a.same_type, a.same_labels, p) at fault))
     ]
   ];
 }
@@ -58,8 +58,8 @@ EmitsPieces-then {xs} {ys} {F} old mid new first r a ok b = record {
 -- a first part that returned an error
 pub EmitsPieces-stopped : {xs : EmittedLabel} {F : Type 0} (ys : EmittedLabel) (old new : GatheredPieces) (e : EncodeError) → EmitsPieces xs F old new (Err e) → EmitsPieces (xs ++ ys) F old new (Err e)
 EmitsPieces-stopped {xs} ys old new e a = record {
-  type_kept = a.type_kept;
-  labels_kept = a.labels_kept;
+  same_type = a.same_type;
+  same_labels = a.same_labels;
   kept = a.kept;
   emitted = λ o n ok. absurd cc;
   own = a.own;
@@ -72,8 +72,8 @@ EmitsPieces-stopped {xs} ys old new e a = record {
 -- a part that may return an error only if the whole may
 pub EmitsPieces-weaker : {xs : EmittedLabel} {F G : Type 0} (old new : GatheredPieces) (r : Result (Unit {0}) EncodeError) → (F → G) → EmitsPieces xs F old new r → EmitsPieces xs G old new r
 EmitsPieces-weaker old new r weaker a = record {
-  type_kept = a.type_kept;
-  labels_kept = a.labels_kept;
+  same_type = a.same_type;
+  same_labels = a.same_labels;
   kept = a.kept;
   emitted = a.emitted;
   own = λ e n w. elim (a.own e n w) [ inl memory ↦ inl memory | inr fault ↦ inr (weaker fault) ];
@@ -83,8 +83,8 @@ EmitsPieces-weaker old new r weaker a = record {
 -- nothing is emitted
 pub EmitsPieces-nothing : {F : Type 0} (g : GatheredPieces) → EmitsPieces [] F g g (Ok tt)
 EmitsPieces-nothing g = record {
-  type_kept = refl;
-  labels_kept = refl;
+  same_type = refl;
+  same_labels = refl;
   kept = λ _ _. refl;
   emitted = λ _ _ _. sym (append-nil g.pieces);
   own = λ e n w. absurd cc;

@@ -1,5 +1,5 @@
 -- Labels that are valid in a summary, and have no label of a bucket's bound, are valid in a family of any type. Valid labels are also
--- valid behind labels with other names.
+-- valid after labels with other names.
 use Rattle.std.proofs.Common.{◌≡◌, List, [], ◌∷◌, ◌++◌, inl, inr, refl, sym, ap, subst, append_assoc, append-nil, arith, Contains, codes}
 use Rattle.std.specs.List.{Any}
 use Rattle.std.proofs.lemmas.List.{map-append}
@@ -75,9 +75,9 @@ LabelsValid-after type front before (label ∷ labels) valid apart =
           (LabelsValid-after type front (before ++ written label) labels valid.1 (λ there. split (Any-right (Contains (label_names front)) (label_names (written label)) (label_names (all_written labels)) there))),
     )
 
--- kept labels, behind labels with other names
-pub kept_after : (type : MetricType) (front : List Label) (labels : List EmittedLabel) (kept : List Label) → AreWritten labels kept → ¬ (Any (Contains (label_names front)) (label_names kept)) → LabelsValid type front labels × (front ++ kept ≡ front ++ all_written labels)
-kept_after type front labels kept keeps apart = (
+-- written labels, after labels with other names
+pub written_after : (type : MetricType) (front : List Label) (labels : List EmittedLabel) (kept : List Label) → AreWritten labels kept → ¬ (Any (Contains (label_names front)) (label_names kept)) → LabelsValid type front labels × (front ++ kept ≡ front ++ all_written labels)
+written_after type front labels kept keeps apart = (
   subst (λ (ls : List Label). LabelsValid type ls labels) (append-nil front) (LabelsValid-after type front [] labels (keeps.valid type) (subst (Apart front) keeps.written apart)),
   ap (λ (ls : List Label). front ++ ls) keeps.written,
 )

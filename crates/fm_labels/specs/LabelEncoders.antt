@@ -24,8 +24,8 @@ pub record GatheredLabels : Type 0 where
 
 -- these pieces of a label are emitted to a label encoder
 pub record EmitsPieces (pieces : EmittedLabel) (MayFault : Type 0) (old new : GatheredPieces) (result : Result (Unit {0}) EncodeError) : Type 0 where
-  pub type_kept : new.metric_type ≡ old.metric_type
-  pub labels_kept : new.labels ≡ old.labels
+  pub same_type : new.metric_type ≡ old.metric_type
+  pub same_labels : new.labels ≡ old.labels
   pub kept : (k : EncodeError) → old.refused ≡ Some k → new ≡ old
   pub emitted : old.refused ≡ None → new.refused ≡ None → result ≡ Ok tt → new.pieces ≡ old.pieces ++ pieces
   pub own : (e : EncodeError) → new.refused ≡ None → result ≡ Err e → OwnError MayFault e
@@ -33,7 +33,7 @@ pub record EmitsPieces (pieces : EmittedLabel) (MayFault : Type 0) (old new : Ga
 
 -- these labels are emitted to a label set encoder
 pub record EmitsLabels (labels : List EmittedLabel) (MayFault : Type 0) (old new : GatheredLabels) (result : Result (Unit {0}) EncodeError) : Type 0 where
-  pub type_kept : new.metric_type ≡ old.metric_type
+  pub same_type : new.metric_type ≡ old.metric_type
   pub kept : (k : EncodeError) → old.refused ≡ Some k → new ≡ old
   pub valid : old.refused ≡ None → new.refused ≡ None → result ≡ Ok tt → LabelsValid old.metric_type old.labels labels
   pub emitted : old.refused ≡ None → new.refused ≡ None → result ≡ Ok tt → new.labels ≡ old.labels ++ all_written labels

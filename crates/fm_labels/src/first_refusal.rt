@@ -15,7 +15,7 @@ pub struct FirstRefusal {
 impl FirstRefusal {
     /// Keeps the error, and returns it.
     pub fn refuse<T>(&mut self, error: EncodeError) -> Result<T, EncodeError>
-        ensures kept { self.new.error ≡ Some error }
+        ensures error { self.new.error ≡ Some error }
         ensures returned { result ≡ Err error }
     {
         self.error = Some(error);

@@ -10,13 +10,13 @@ use fm_encode_error::EncodeError;
 use fm_text::LabelText;
 use std::alloc::{AllocError, Global};
 
-/// Adds the labels that a label set emits, behind those that the encoder has.
+/// Adds the labels that a label set emits, after those that the encoder has.
 pub fn read_labels<LS: EncodeLabelSet>(
     encoder: &mut LabelSetEncoder,
     labels: &LS,
 ) -> Result<(), EncodeError>
     requires accepting { encoder.old.refused ≡ None }
-    ensures type_kept { encoder.new.metric_type ≡ encoder.old.metric_type }
+    ensures same_type { encoder.new.metric_type ≡ encoder.old.metric_type }
     ensures gathered { MatchResult result
         (λ _. LabelsValid encoder.old.metric_type encoder.old.labels (LS.labels labels.now)
         × (encoder.new.labels ≡ encoder.old.labels ++ all_written (LS.labels labels.now)))

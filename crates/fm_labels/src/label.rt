@@ -137,7 +137,7 @@ impl LabelEncoder {
     // Writes the current label, which has both pieces.
     fn write_label(&mut self) -> Result<(), EncodeError>
         requires accepting { self.old.refused ≡ None }
-        ensures type_kept { self.new.metric_type ≡ self.old.metric_type }
+        ensures same_type { self.new.metric_type ≡ self.old.metric_type }
         ensures pieces { self.new.refused ≡ None → self.new.pieces ≡ [] }
         ensures labels { self.new.refused ≡ None
             → self.new.labels ≡ self.old.labels ++ written self.old.pieces }

@@ -5,4 +5,4 @@ pub mod Constants
 pub mod NumberOrder
 pub mod Counters
 pub mod StateSets
-pub mod KeptState
+pub mod CurrentState

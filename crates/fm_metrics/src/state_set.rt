@@ -251,12 +251,12 @@ pub struct ConstStateSet<T: StateSetValue> {
 }
 
 impl<T: StateSetValue + 'static> ConstStateSet<T> {
-    ghost use Rattle.fm_metrics.specs.KeptState.{kept_state};
+    ghost use Rattle.fm_metrics.specs.CurrentState.{current_state};
 
     /// A state set whose state is `state`. Errors, in this order: there are more than 256 states (`TooManyStates`), no
     /// state equals `state` (`UnknownState`). It takes no memory. It keeps the allocator for `states`.
     pub fn new(alloc: Global, state: T) -> Result<ConstStateSet<T>, MetricError>
-        ensures made { IfOk result (λ s. kept_state s ≡ state) }
+        ensures made { IfOk result (λ s. current_state s ≡ state) }
         ensures refused { MatchResult result
             (λ _. (length T.all ≤ MAX_STATES) × IsState T.eq T.all state)
             (λ e. IsRefusedAs T.eq T.all state e × ¬ (e ≡ Memory)) }
@@ -272,7 +272,7 @@ impl<T: StateSetValue + 'static> ConstStateSet<T> {
 
     /// The state.
     pub fn get(&self) -> &T
-        ensures { result.now ≡ kept_state self.now }
+        ensures { result.now ≡ current_state self.now }
     {
         &self.state
     }
@@ -280,7 +280,7 @@ impl<T: StateSetValue + 'static> ConstStateSet<T> {
     /// Each state's text, in order, and whether the state equals this one. Fails with `Memory` if memory runs out.
     pub fn states(&self) -> Result<Vec<(&str, bool)>, MetricError>
         ensures told { IfOk result
-            (λ told. map state_of told.items ≡ states_at T.eq T.all T.text (kept_state self.now)) }
+            (λ told. map state_of told.items ≡ states_at T.eq T.all T.text (current_state self.now)) }
         ensures one { IfOk result
             (λ told. AreDifferent T.eq T.all → count_by (λ p. p.1) told.items ≡ 1) }
         ensures memory { IfErr result (λ e. e ≡ Memory) }
@@ -290,13 +290,13 @@ impl<T: StateSetValue + 'static> ConstStateSet<T> {
 }
 
 impl<T: StateSetValue + Clone + 'static> ConstStateSet<T> {
-    ghost use Rattle.fm_metrics.specs.KeptState.{kept_state};
+    ghost use Rattle.fm_metrics.specs.CurrentState.{current_state};
 
     /// A state set with a clone of the state, which must equal the state. Cloning fails if memory runs out.
     pub fn clone(&self) -> Result<ConstStateSet<T>, AllocError>
         requires { (state : T)
-            → T.is_clone (kept_state self.now) state → T.eq (kept_state self.now) state ≡ true }
-        ensures { IfOk result (λ s. T.is_clone (kept_state self.now) (kept_state s)) }
+            → T.is_clone (current_state self.now) state → T.eq (current_state self.now) state ≡ true }
+        ensures { IfOk result (λ s. T.is_clone (current_state self.now) (current_state s)) }
     {
         let state = self.state.clone()?;
         equal_is_known(&self.state, &state);

@@ -18,18 +18,18 @@ one_list ks ls s t p q e = one_braces ks ls s t p q (braces_then ks s ∙ ap (λ
 pub no_braces : (text : Text) → IsLabelsFront text None → IsBracesFront text None
 no_braces text none = λ labels rest are e. none labels (32 ∷ rest) are.names e
 
-braces_parts : (text : Text) (ks ls : List Label) (behind rest : Text) → IsLabelsFront text (Some (ks, behind)) → AreLabels ls → text ≡ label_list_text ls ++ (125 ∷ 32 ∷ rest) → (ks ≡ ls) × (behind ≡ 32 ∷ rest)
-braces_parts text ks ls behind rest found are e = one_list ks ls behind (32 ∷ rest) found.0 are.names (sym found.1 ∙ e)
+braces_parts : (text : Text) (ks ls : List Label) (after rest : Text) → IsLabelsFront text (Some (ks, after)) → AreLabels ls → text ≡ label_list_text ls ++ (125 ∷ 32 ∷ rest) → (ks ≡ ls) × (after ≡ 32 ∷ rest)
+braces_parts text ks ls after rest found are e = one_list ks ls after (32 ∷ rest) found.0 are.names (sym found.1 ∙ e)
 
-pub braces_twice : (text : Text) (ks : List Label) (behind : Text) → IsLabelsFront text (Some (ks, behind)) → (AllDifferent (map (λ label. label.name) ks) → ⊥) → IsBracesFront text None
-braces_twice text ks behind found bad = λ ls rest are e.
-    bad (subst (λ l. AllDifferent (map (λ label. label.name) l)) (sym (braces_parts text ks ls behind rest found are e).0) are.different)
+pub braces_twice : (text : Text) (ks : List Label) (after : Text) → IsLabelsFront text (Some (ks, after)) → (AllDifferent (map (λ label. label.name) ks) → ⊥) → IsBracesFront text None
+braces_twice text ks after found bad = λ ls rest are e.
+    bad (subst (λ l. AllDifferent (map (λ label. label.name) l)) (sym (braces_parts text ks ls after rest found are e).0) are.different)
 
-pub braces_no_space : (text : Text) (ks : List Label) (behind : Text) → IsLabelsFront text (Some (ks, behind)) → ((rest : Text) → behind ≢ 32 ∷ rest) → IsBracesFront text None
-braces_no_space text ks behind found bad = λ ls rest are e. bad rest (braces_parts text ks ls behind rest found are e).1
+pub braces_no_space : (text : Text) (ks : List Label) (after : Text) → IsLabelsFront text (Some (ks, after)) → ((rest : Text) → after ≢ 32 ∷ rest) → IsBracesFront text None
+braces_no_space text ks after found bad = λ ls rest are e. bad rest (braces_parts text ks ls after rest found are e).1
 
-pub braces_found : (text : Text) (ks : List Label) (behind rest : Text) → IsLabelsFront text (Some (ks, behind)) → AllDifferent (map (λ label. label.name) ks) → behind ≡ 32 ∷ rest → IsBracesFront text (Some (ks, rest))
-braces_found text ks behind rest found different space =
+pub braces_found : (text : Text) (ks : List Label) (after rest : Text) → IsLabelsFront text (Some (ks, after)) → AllDifferent (map (λ label. label.name) ks) → after ≡ 32 ∷ rest → IsBracesFront text (Some (ks, rest))
+braces_found text ks after rest found different space =
     (record { names = found.0; different = different }, found.1 ∙ ap (λ z. label_list_text ks ++ (125 ∷ z)) space)
 
 -- one list of labels is in braces before a space

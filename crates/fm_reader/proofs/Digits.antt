@@ -73,10 +73,10 @@ parsed_signed (pos n) text r fits h e =
     ok_of r _ _ (parse_signed_digits digits_model w128 text r h (subst (AllDigits 10) (sym e) d.0.1)) (some, omega (arith, value)) ∙ ap (λ v. Ok (pos v)) value
 parsed_signed (negsuc n) text r fits h e =
     let d = decimal_is_IsNumeral_wide (suc n) (omega arith) in
-    let behind : drop 1 text ≡ decimal (suc n) = ap (drop 1) e in
-    let value : digits_value 10 (drop 1 text) ≡ suc n = ap (digits_value 10) behind ∙ d.1 in
-    let some : 0 < length (drop 1 text) = subst (λ t. 0 < length t) (sym behind) d.0.0 in
-    ok_of r _ _ (parse_signed_minus digits_model w128 text r h (ap (λ t. get_or t 0 0) e)) (subst (AllDigits 10) (sym behind) d.0.1, some, omega (arith, value)) ∙ ap (λ v. Ok (neg_ℤ (pos v))) value
+    let after : drop 1 text ≡ decimal (suc n) = ap (drop 1) e in
+    let value : digits_value 10 (drop 1 text) ≡ suc n = ap (digits_value 10) after ∙ d.1 in
+    let some : 0 < length (drop 1 text) = subst (λ t. 0 < length t) (sym after) d.0.0 in
+    ok_of r _ _ (parse_signed_minus digits_model w128 text r h (ap (λ t. get_or t 0 0) e)) (subst (AllDigits 10) (sym after) d.0.1, some, omega (arith, value)) ∙ ap (λ v. Ok (neg_ℤ (pos v))) value
 
 -- numbers with a point
 
@@ -88,10 +88,10 @@ unfolding IsNoPoint
 no_point_in_digits text h = all_weaker IsDigit IsNoPoint (λ b d e. omega arith) text h
 
 -- where a point cuts a text
-pub pointed_cut : (whole decimals digits behind : Text) → AllByRecursion (λ b. b ≢ 46) whole → AllByRecursion IsDigit digits → whole ++ (46 ∷ decimals) ≡ digits ++ (46 ∷ behind) → (whole ≡ digits) × (decimals ≡ behind)
+pub pointed_cut : (whole decimals digits after : Text) → AllByRecursion (λ b. b ≢ 46) whole → AllByRecursion IsDigit digits → whole ++ (46 ∷ decimals) ≡ digits ++ (46 ∷ after) → (whole ≡ digits) × (decimals ≡ after)
 unfolding IsNoPoint
-pointed_cut whole decimals digits behind lacks d e =
-    let r = one_run IsNoPoint whole digits (46 ∷ decimals) (46 ∷ behind) lacks (no_point_in_digits digits d) (λ h. h refl) (λ h. h refl) e in
+pointed_cut whole decimals digits after lacks d e =
+    let r = one_run IsNoPoint whole digits (46 ∷ decimals) (46 ∷ after) lacks (no_point_in_digits digits d) (λ h. h refl) (λ h. h refl) e in
     let k = r.1 in
     (r.0, cc)
 
@@ -111,8 +111,8 @@ lacks_all [] h = tt
 lacks_all (x ∷ text) h = (h 0 (omega arith), lacks_all text (λ k l. h (suc k) (omega arith)))
 
 -- a text with no point is no such number's
-pub no_point : (text digits behind : Text) → ((i : ℕ) → i < length text → get_or text i 0 ≢ 46) → text ≡ digits ++ (46 ∷ behind) → ⊥
-no_point text digits behind lacks e = not_in_run (λ b. b ≢ 46) text digits 46 behind (lacks_all text lacks) e refl
+pub no_point : (text digits after : Text) → ((i : ℕ) → i < length text → get_or text i 0 ≢ 46) → text ≡ digits ++ (46 ∷ after) → ⊥
+no_point text digits after lacks e = not_in_run (λ b. b ≢ 46) text digits 46 after (lacks_all text lacks) e refl
 
 -- milliseconds
 

@@ -39,13 +39,13 @@ body_no_value text labels rest token tail found cut none = λ x is e. none x.val
 pub body_no_time : (text : Text) (labels : List Label) (rest token : Text) (tail : Option (Bor Text)) → IsBracesFront text (Some (labels, rest)) → IsToken rest token (tail_text tail) → IsTimeFront (tail_text tail) None → FoundBody text None
 body_no_time text labels rest token tail found cut none = λ x is e. none x.time [] is.time (inl refl) (body_tail text labels rest token tail x found cut is e).1
 
-pub body_more : (text : Text) (labels : List Label) (rest token : Text) (tail behind : Option (Bor Text)) (time : Option ℕ) → IsBracesFront text (Some (labels, rest)) → IsToken rest token (tail_text tail) → IsTimeFront (tail_text tail) (Some (time, behind)) → (tail_text behind ≡ [] → ⊥) → FoundBody text None
-body_more text labels rest token tail behind time found cut front more = λ x is e.
-    more (one_time_front (tail_text tail) time x.time behind [] front is.time (inl refl) (body_tail text labels rest token tail x found cut is e).1).1
+pub body_more : (text : Text) (labels : List Label) (rest token : Text) (tail after : Option (Bor Text)) (time : Option ℕ) → IsBracesFront text (Some (labels, rest)) → IsToken rest token (tail_text tail) → IsTimeFront (tail_text tail) (Some (time, after)) → (tail_text after ≡ [] → ⊥) → FoundBody text None
+body_more text labels rest token tail after time found cut front more = λ x is e.
+    more (one_time_front (tail_text tail) time x.time after [] front is.time (inl refl) (body_tail text labels rest token tail x found cut is e).1).1
 
-pub body_found : (text : Text) (labels : List Label) (rest token : Text) (tail behind : Option (Bor Text)) (time : Option ℕ) (value : ℤ) (x : Exemplar) → IsBracesFront text (Some (labels, rest)) → label_code_points labels ≤ 128 → IsToken rest token (tail_text tail) → FoundSmall token (Some value) → IsTimeFront (tail_text tail) (Some (time, behind)) → tail_text behind ≡ []
+pub body_found : (text : Text) (labels : List Label) (rest token : Text) (tail after : Option (Bor Text)) (time : Option ℕ) (value : ℤ) (x : Exemplar) → IsBracesFront text (Some (labels, rest)) → label_code_points labels ≤ 128 → IsToken rest token (tail_text tail) → FoundSmall token (Some value) → IsTimeFront (tail_text tail) (Some (time, after)) → tail_text after ≡ []
     → x ≡ record { labels = labels; value = value; time = time } → FoundBody text (Some x)
-body_found text labels rest token tail behind time value x found short cut number front none is =
+body_found text labels rest token tail after time value x found short cut number front none is =
     let whole : rest ≡ fixed_text value ++ time_text time = cut.is ∙ (λ i. number.1 i ++ (front.2 ∙ ap (λ z. time_text time ++ z) none ∙ append-nil (time_text time)) i) in
     subst (λ y. FoundBody text (Some y)) (sym is)
     (record { labels = found.0; short = short; value = number.0; time = front.0 }, found.1 ∙ ap (λ z. label_list_text labels ++ (125 ∷ 32 ∷ z)) whole)
@@ -112,13 +112,13 @@ shown_no_value kind text token tail cut none = λ shown may e. none shown.value 
 pub shown_no_time : (kind : SampleKind) (text token : Text) (tail : Option (Bor Text)) → IsToken text token (tail_text tail) → IsTimeFront (tail_text tail) None → FoundShown kind text None
 shown_no_time kind text token tail cut none = λ shown may e. none shown.time (exemplar_text shown.exemplar) may.time (exemplar_ends shown.exemplar) (shown_tail kind text token tail shown cut may e).1
 
-pub shown_no_exemplar : (kind : SampleKind) (text token : Text) (tail behind : Option (Bor Text)) (time : Option ℕ) → IsToken text token (tail_text tail) → IsTimeFront (tail_text tail) (Some (time, behind)) → FoundExemplar kind (tail_text behind) None → FoundShown kind text None
-shown_no_exemplar kind text token tail behind time cut front none = λ shown may e.
-    none shown.exemplar may.allowed may.exemplar (one_time_front (tail_text tail) time shown.time behind (exemplar_text shown.exemplar) front may.time (exemplar_ends shown.exemplar) (shown_tail kind text token tail shown cut may e).1).1
+pub shown_no_exemplar : (kind : SampleKind) (text token : Text) (tail after : Option (Bor Text)) (time : Option ℕ) → IsToken text token (tail_text tail) → IsTimeFront (tail_text tail) (Some (time, after)) → FoundExemplar kind (tail_text after) None → FoundShown kind text None
+shown_no_exemplar kind text token tail after time cut front none = λ shown may e.
+    none shown.exemplar may.allowed may.exemplar (one_time_front (tail_text tail) time shown.time after (exemplar_text shown.exemplar) front may.time (exemplar_ends shown.exemplar) (shown_tail kind text token tail shown cut may e).1).1
 
-pub shown_found : (kind : SampleKind) (text token : Text) (tail behind : Option (Bor Text)) (value : Value) (time : Option ℕ) (exemplar : Option Exemplar) → IsToken text token (tail_text tail) → FoundValue kind token (Some value) → IsTimeFront (tail_text tail) (Some (time, behind)) → FoundExemplar kind (tail_text behind) (Some exemplar)
+pub shown_found : (kind : SampleKind) (text token : Text) (tail after : Option (Bor Text)) (value : Value) (time : Option ℕ) (exemplar : Option Exemplar) → IsToken text token (tail_text tail) → FoundValue kind token (Some value) → IsTimeFront (tail_text tail) (Some (time, after)) → FoundExemplar kind (tail_text after) (Some exemplar)
     → FoundShown kind text (Some (record { value = value; time = time; exemplar = exemplar }))
-shown_found kind text token tail behind value time exemplar cut number front found = (
+shown_found kind text token tail after value time exemplar cut number front found = (
   record { suits = number.0; value = number.1; time = front.0; allowed = found.0; exemplar = found.1 },
   cut.is ∙ (λ i. number.2 i ++ (front.2 ∙ ap (λ z. time_text time ++ z) found.2) i),
 )

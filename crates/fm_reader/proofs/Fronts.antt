@@ -42,10 +42,10 @@ read_so_far (x ∷ v) (y ∷ w) u r h e =
     read_so_far v w u r h k.1
 
 -- after a backslash comes an n, a quote or a backslash
-pub behind_backslash : (s w r : Text) → EndsEscaped r → 92 ∷ s ≡ escaped w ++ r → (byte : ℕ) × (t : Text) × ((byte ≡ 110) ⊎ ((byte ≡ 34) ⊎ (byte ≡ 92))) × (s ≡ byte ∷ t)
-behind_backslash s [] [] h e = absurd (cc)
-behind_backslash s [] (x ∷ r) h e = let k : 92 ≡ x = cc in absurd (grind arith)
-behind_backslash s (y ∷ w) r h e = by (writing y)
+pub after_backslash : (s w r : Text) → EndsEscaped r → 92 ∷ s ≡ escaped w ++ r → (byte : ℕ) × (t : Text) × ((byte ≡ 110) ⊎ ((byte ≡ 34) ⊎ (byte ≡ 92))) × (s ≡ byte ∷ t)
+after_backslash s [] [] h e = absurd (cc)
+after_backslash s [] (x ∷ r) h e = let k : 92 ≡ x = cc in absurd (grind arith)
+after_backslash s (y ∷ w) r h e = by (writing y)
   where
     spelled : 92 ∷ s ≡ escape y ++ (escaped w ++ r)
     spelled = e ∙ append_assoc (escape y) (escaped w) r
@@ -96,9 +96,9 @@ escaped_character c f q d = ⊎_elim
     (cases_lt c 128)
 
 -- one more character of a value is read
-pub read_more : (text v rest e behind w new : Text) → text ≡ escaped v ++ rest → rest ≡ e ++ behind → e ≡ escaped w → new ≡ v ++ w → text ≡ escaped new ++ behind
-read_more text v rest e behind w new h r s n =
-    h ∙ ap (λ z. escaped v ++ z) (r ∙ ap (λ z. z ++ behind) s) ∙ sym (append_assoc (escaped v) (escaped w) behind) ∙ ap (λ z. z ++ behind) (sym (escaped_append v w) ∙ ap escaped (sym n))
+pub read_more : (text v rest e after w new : Text) → text ≡ escaped v ++ rest → rest ≡ e ++ after → e ≡ escaped w → new ≡ v ++ w → text ≡ escaped new ++ after
+read_more text v rest e after w new h r s n =
+    h ∙ ap (λ z. escaped v ++ z) (r ∙ ap (λ z. z ++ after) s) ∙ sym (append_assoc (escaped v) (escaped w) after) ∙ ap (λ z. z ++ after) (sym (escaped_append v w) ∙ ap escaped (sym n))
 
 -- the escape of a character after a backslash
 abbrev pub IsEscapeOf : ℕ → ℕ → Type 0
@@ -111,14 +111,14 @@ pair_text e n (inl (p, q)) = rw (p, q)
 pair_text e n (inr (inl p, q)) = rw (q, p)
 pair_text e n (inr (inr p, q)) = rw (q, p)
 
-pub read_pair : (text v rest first one two behind new : Text) (c e n : ℕ) → text ≡ escaped v ++ rest → first ≡ rest → first ≡ encode c ++ one → c ≡ 92 → one ≡ encode e ++ two → IsEscapeOf e n → behind ≡ two → new ≡ v ++ encode n → text ≡ escaped new ++ behind
-read_pair text v rest first one two behind new c e n h f a b o k d m =
-    let spelled : rest ≡ (encode 92 ++ encode e) ++ behind = sym f ∙ a ∙ ap (λ z. encode z ++ one) b ∙ ap (λ z. encode 92 ++ z) (o ∙ ap (λ z. encode e ++ z) (sym d)) ∙ sym (append_assoc (encode 92) (encode e) behind) in
-    read_more text v rest (encode 92 ++ encode e) behind (encode n) new h spelled (pair_text e n k) m
+pub read_pair : (text v rest first one two after new : Text) (c e n : ℕ) → text ≡ escaped v ++ rest → first ≡ rest → first ≡ encode c ++ one → c ≡ 92 → one ≡ encode e ++ two → IsEscapeOf e n → after ≡ two → new ≡ v ++ encode n → text ≡ escaped new ++ after
+read_pair text v rest first one two after new c e n h f a b o k d m =
+    let spelled : rest ≡ (encode 92 ++ encode e) ++ after = sym f ∙ a ∙ ap (λ z. encode z ++ one) b ∙ ap (λ z. encode 92 ++ z) (o ∙ ap (λ z. encode e ++ z) (sym d)) ∙ sym (append_assoc (encode 92) (encode e) after) in
+    read_more text v rest (encode 92 ++ encode e) after (encode n) new h spelled (pair_text e n k) m
 
-pub read_single : (text v rest first one behind new : Text) (c : ℕ) → text ≡ escaped v ++ rest → first ≡ rest → first ≡ encode c ++ one → c ≢ 10 → c ≢ 34 → c ≢ 92 → behind ≡ one → new ≡ v ++ encode c → text ≡ escaped new ++ behind
-read_single text v rest first one behind new c h f a p q r d m =
-    read_more text v rest (encode c) behind (encode c) new h (sym f ∙ a ∙ ap (λ z. encode c ++ z) (sym d)) (sym (escaped_character c p q r)) m
+pub read_single : (text v rest first one after new : Text) (c : ℕ) → text ≡ escaped v ++ rest → first ≡ rest → first ≡ encode c ++ one → c ≢ 10 → c ≢ 34 → c ≢ 92 → after ≡ one → new ≡ v ++ encode c → text ≡ escaped new ++ after
+read_single text v rest first one after new c h f a p q r d m =
+    read_more text v rest (encode c) after (encode c) new h (sym f ∙ a ∙ ap (λ z. encode c ++ z) (sym d)) (sym (escaped_character c p q r)) m
 
 -- a backslash with nothing that belongs to it after it
 pub no_escape : (text v rest first one : Text) (c : ℕ) → text ≡ escaped v ++ rest → first ≡ rest → first ≡ encode c ++ one → c ≡ 92 → ((byte : ℕ) (t : Text) → (byte ≡ 110) ⊎ ((byte ≡ 34) ⊎ (byte ≡ 92)) → one ≡ byte ∷ t → ⊥)
@@ -126,7 +126,7 @@ pub no_escape : (text v rest first one : Text) (c : ℕ) → text ≡ escaped v 
 no_escape text v rest first one c h f a b never w r ends e =
     let k = read_so_far v w rest r ends (sym h ∙ e) in
     let spelled : rest ≡ 92 ∷ one = sym f ∙ a ∙ ap (λ z. encode z ++ one) b ∙ ap (λ z. z ++ one) (encode_ascii 92 (omega arith)) in
-    let q = behind_backslash one k.0 r ends (sym spelled ∙ k.1) in
+    let q = after_backslash one k.0 r ends (sym spelled ∙ k.1) in
     never q.0 q.1 q.2 q.3
 
 pub no_such_escape : (e : ℕ) (two : Text) → e ≢ 110 → e ≢ 34 → e ≢ 92 → (byte : ℕ) (t : Text) → (byte ≡ 110) ⊎ ((byte ≡ 34) ⊎ (byte ≡ 92)) → encode e ++ two ≡ byte ∷ t → ⊥

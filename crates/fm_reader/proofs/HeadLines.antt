@@ -18,8 +18,8 @@ use Rattle.fm_reader.specs.inside.Lines.{FoundType, FoundUnit}
 
 -- type lines
 
-type_behind : (line behind name : Text) (m : MetricType) → line ≡ codes "# TYPE " ++ behind → IsTypeLine line name m → behind ≡ name ++ (32 ∷ type_word m)
-type_behind line behind name m cut e = append_cancel_left (codes "# TYPE ") behind (name ++ (32 ∷ type_word m)) (sym cut ∙ e)
+after_type : (line after name : Text) (m : MetricType) → line ≡ codes "# TYPE " ++ after → IsTypeLine line name m → after ≡ name ++ (32 ∷ type_word m)
+after_type line after name m cut e = append_cancel_left (codes "# TYPE ") after (name ++ (32 ∷ type_word m)) (sym cut ∙ e)
 
 -- no space is in a name
 name_unspaced : (name : Text) → IsSnakeCase name → AllByRecursion (λ b. b ≢ 32) name
@@ -32,43 +32,43 @@ LacksSpace text = (i : ℕ) → i < length text → get_or text i 0 ≢ 32
 pub type_other : (line : Text) → ((rest : Text) → line ≢ codes "# TYPE " ++ rest) → FoundType line None
 type_other line none = λ name m n e. none _ e
 
-pub type_no_space : (line behind : Text) → line ≡ codes "# TYPE " ++ behind → LacksSpace behind → FoundType line None
-type_no_space line behind cut lacks = λ name m n e. not_in_run (λ b. b ≢ 32) behind name 32 (type_word m) (all_from (λ b. b ≢ 32) behind lacks) (type_behind line behind name m cut e) refl
+pub type_no_space : (line after : Text) → line ≡ codes "# TYPE " ++ after → LacksSpace after → FoundType line None
+type_no_space line after cut lacks = λ name m n e. not_in_run (λ b. b ≢ 32) after name 32 (type_word m) (all_from (λ b. b ≢ 32) after lacks) (after_type line after name m cut e) refl
 
-type_parts : (line behind name word other : Text) (m : MetricType) → line ≡ codes "# TYPE " ++ behind → (behind ≡ name ++ (32 ∷ word)) × LacksSpace name → IsSnakeCase other → IsTypeLine line other m → (name ≡ other) × (word ≡ type_word m)
-type_parts line behind name word other m cut split n e =
-    let r = one_run (λ b. b ≢ 32) name other (32 ∷ word) (32 ∷ type_word m) (all_from (λ b. b ≢ 32) name split.1) (name_unspaced other n) (λ d. d refl) (λ d. d refl) (sym split.0 ∙ type_behind line behind other m cut e) in
+type_parts : (line after name word other : Text) (m : MetricType) → line ≡ codes "# TYPE " ++ after → (after ≡ name ++ (32 ∷ word)) × LacksSpace name → IsSnakeCase other → IsTypeLine line other m → (name ≡ other) × (word ≡ type_word m)
+type_parts line after name word other m cut split n e =
+    let r = one_run (λ b. b ≢ 32) name other (32 ∷ word) (32 ∷ type_word m) (all_from (λ b. b ≢ 32) name split.1) (name_unspaced other n) (λ d. d refl) (λ d. d refl) (sym split.0 ∙ after_type line after other m cut e) in
     let k = r.1 in
     (r.0, cc)
 
-pub type_bad_name : (line behind name word : Text) → line ≡ codes "# TYPE " ++ behind → (behind ≡ name ++ (32 ∷ word)) × LacksSpace name → (IsSnakeCase name → ⊥) → FoundType line None
-type_bad_name line behind name word cut split bad = λ other m n e. bad (subst IsSnakeCase (sym (type_parts line behind name word other m cut split n e).0) n)
+pub type_bad_name : (line after name word : Text) → line ≡ codes "# TYPE " ++ after → (after ≡ name ++ (32 ∷ word)) × LacksSpace name → (IsSnakeCase name → ⊥) → FoundType line None
+type_bad_name line after name word cut split bad = λ other m n e. bad (subst IsSnakeCase (sym (type_parts line after name word other m cut split n e).0) n)
 
-pub type_bad_word : (line behind name word : Text) → line ≡ codes "# TYPE " ++ behind → (behind ≡ name ++ (32 ∷ word)) × LacksSpace name → ((m : MetricType) → word ≢ type_word m) → FoundType line None
-type_bad_word line behind name word cut split bad = λ other m n e. bad m (type_parts line behind name word other m cut split n e).1
+pub type_bad_word : (line after name word : Text) → line ≡ codes "# TYPE " ++ after → (after ≡ name ++ (32 ∷ word)) × LacksSpace name → ((m : MetricType) → word ≢ type_word m) → FoundType line None
+type_bad_word line after name word cut split bad = λ other m n e. bad m (type_parts line after name word other m cut split n e).1
 
-pub type_found : (line behind name word : Text) (m : MetricType) → line ≡ codes "# TYPE " ++ behind → (behind ≡ name ++ (32 ∷ word)) × LacksSpace name → IsSnakeCase name → word ≡ type_word m → FoundType line (Some (name, m))
-type_found line behind name word m cut split n is = (n, cut ∙ ap (λ z. codes "# TYPE " ++ z) (split.0 ∙ ap (λ z. name ++ (32 ∷ z)) is))
+pub type_found : (line after name word : Text) (m : MetricType) → line ≡ codes "# TYPE " ++ after → (after ≡ name ++ (32 ∷ word)) × LacksSpace name → IsSnakeCase name → word ≡ type_word m → FoundType line (Some (name, m))
+type_found line after name word m cut split n is = (n, cut ∙ ap (λ z. codes "# TYPE " ++ z) (split.0 ∙ ap (λ z. name ++ (32 ∷ z)) is))
 
 -- unit lines
 
 pub unit_other : (line name : Text) (m : MetricType) → ((rest : Text) → line ≢ codes "# UNIT " ++ rest) → FoundUnit line name m None
 unit_other line name m none = λ unit e fits allowed. none _ e
 
-unit_behind : (line name behind unit : Text) → line ≡ codes "# UNIT " ++ behind → IsUnitLine line name unit → behind ≡ name ++ (32 ∷ unit)
-unit_behind line name behind unit cut e = append_cancel_left (codes "# UNIT ") behind (name ++ (32 ∷ unit)) (sym cut ∙ e)
+after_unit : (line name after unit : Text) → line ≡ codes "# UNIT " ++ after → IsUnitLine line name unit → after ≡ name ++ (32 ∷ unit)
+after_unit line name after unit cut e = append_cancel_left (codes "# UNIT ") after (name ++ (32 ∷ unit)) (sym cut ∙ e)
 
-pub unit_other_name : (line name behind : Text) (m : MetricType) → line ≡ codes "# UNIT " ++ behind → ((rest : Text) → behind ≢ name ++ rest) → FoundUnit line name m None
-unit_other_name line name behind m cut none = λ unit e fits allowed. none _ (unit_behind line name behind unit cut e)
+pub unit_other_name : (line name after : Text) (m : MetricType) → line ≡ codes "# UNIT " ++ after → ((rest : Text) → after ≢ name ++ rest) → FoundUnit line name m None
+unit_other_name line name after m cut none = λ unit e fits allowed. none _ (after_unit line name after unit cut e)
 
-unit_spaced : (line name behind spaced unit : Text) → line ≡ codes "# UNIT " ++ behind → behind ≡ name ++ spaced → IsUnitLine line name unit → spaced ≡ 32 ∷ unit
-unit_spaced line name behind spaced unit cut named e = append_cancel_left name spaced (32 ∷ unit) (sym named ∙ unit_behind line name behind unit cut e)
+unit_spaced : (line name after spaced unit : Text) → line ≡ codes "# UNIT " ++ after → after ≡ name ++ spaced → IsUnitLine line name unit → spaced ≡ 32 ∷ unit
+unit_spaced line name after spaced unit cut named e = append_cancel_left name spaced (32 ∷ unit) (sym named ∙ after_unit line name after unit cut e)
 
-pub unit_no_space : (line name behind spaced : Text) (m : MetricType) → line ≡ codes "# UNIT " ++ behind → behind ≡ name ++ spaced → ((rest : Text) → spaced ≢ 32 ∷ rest) → FoundUnit line name m None
-unit_no_space line name behind spaced m cut named none = λ unit e fits allowed. none _ (unit_spaced line name behind spaced unit cut named e)
+pub unit_no_space : (line name after spaced : Text) (m : MetricType) → line ≡ codes "# UNIT " ++ after → after ≡ name ++ spaced → ((rest : Text) → spaced ≢ 32 ∷ rest) → FoundUnit line name m None
+unit_no_space line name after spaced m cut named none = λ unit e fits allowed. none _ (unit_spaced line name after spaced unit cut named e)
 
-unit_is : (line name behind spaced text unit : Text) → line ≡ codes "# UNIT " ++ behind → behind ≡ name ++ spaced → spaced ≡ 32 ∷ text → IsUnitLine line name unit → text ≡ unit
-unit_is line name behind spaced text unit cut named space e = let k = sym space ∙ unit_spaced line name behind spaced unit cut named e in cc
+unit_is : (line name after spaced text unit : Text) → line ≡ codes "# UNIT " ++ after → after ≡ name ++ spaced → spaced ≡ 32 ∷ text → IsUnitLine line name unit → text ≡ unit
+unit_is line name after spaced text unit cut named space e = let k = sym space ∙ unit_spaced line name after spaced unit cut named e in cc
 
 unit_allowed : (m : MetricType) (unit : Text) → takes_unit m ≡ true → UnitAllowed m (Some unit)
 unit_allowed Unknown unit e = cc
@@ -83,13 +83,13 @@ no_unit_allowed Info unit e h = cc
 no_unit_allowed _ unit e h = cc
 
 -- if one of the tests says no
-pub unit_refused : (line name behind spaced text : Text) (m : MetricType) → line ≡ codes "# UNIT " ++ behind → behind ≡ name ++ spaced → spaced ≡ 32 ∷ text → (UnitAllowed m (Some text) → IsUnitText text → EndsWithUnit name text → ⊥) → FoundUnit line name m None
-unit_refused line name behind spaced text m cut named space bad = λ unit e fits allowed.
-    let same = unit_is line name behind spaced text unit cut named space e in
+pub unit_refused : (line name after spaced text : Text) (m : MetricType) → line ≡ codes "# UNIT " ++ after → after ≡ name ++ spaced → spaced ≡ 32 ∷ text → (UnitAllowed m (Some text) → IsUnitText text → EndsWithUnit name text → ⊥) → FoundUnit line name m None
+unit_refused line name after spaced text m cut named space bad = λ unit e fits allowed.
+    let same = unit_is line name after spaced text unit cut named space e in
     bad (subst (λ u. UnitAllowed m (Some u)) (sym same) allowed) (subst IsUnitText (sym same) fits.0) (subst (EndsWithUnit name) (sym same) fits.1)
 
-pub unit_found : (line name behind spaced text : Text) (m : MetricType) → line ≡ codes "# UNIT " ++ behind → behind ≡ name ++ spaced → spaced ≡ 32 ∷ text → takes_unit m ≡ true → IsUnitText text → EndsWithUnit name text → FoundUnit line name m (Some text)
-unit_found line name behind spaced text m cut named space takes word ends =
+pub unit_found : (line name after spaced text : Text) (m : MetricType) → line ≡ codes "# UNIT " ++ after → after ≡ name ++ spaced → spaced ≡ 32 ∷ text → takes_unit m ≡ true → IsUnitText text → EndsWithUnit name text → FoundUnit line name m (Some text)
+unit_found line name after spaced text m cut named space takes word ends =
     (cut ∙ ap (λ z. codes "# UNIT " ++ z) (named ∙ ap (λ z. name ++ z) space), (word, ends), unit_allowed m text takes)
 
 -- `strip_suffix` at a text

@@ -43,68 +43,68 @@ pub no_empty : (text rest : Text) → ((rest : Text) → text ≢ 125 ∷ rest) 
 no_empty text rest none e = none rest e
 
 -- what is left where labels were read, each with its comma
-pub left : (read : List Label) (rest : Text) (ls : List Label) (behind : Text) → AreNamed read → AreNamed ls → with_commas read ++ rest ≡ label_list_text ls ++ (125 ∷ behind)
-    → ((read ≡ []) × (ls ≡ [])) ⊎ ((l : Label) × (more : List Label) × AreNamed (l ∷ more) × (ls ≡ read ++ (l ∷ more)) × (rest ≡ label_list_text (l ∷ more) ++ (125 ∷ behind)))
-left [] rest [] behind p q e = inl (refl, refl)
-left [] rest (l ∷ ls) behind p q e = inr (l, ls, q, refl, e)
-left (r ∷ read) rest [] behind p q e = absurd (open_brace_label r (44 ∷ (with_commas read ++ rest)) behind p.0 (sym e ∙ commas_then r read rest))
-left (r ∷ read) rest (l ∷ []) behind p q e =
-    let h = one_label r l (44 ∷ (with_commas read ++ rest)) (125 ∷ behind) p.0 q.0 (sym (commas_then r read rest) ∙ e) in
+pub left : (read : List Label) (rest : Text) (ls : List Label) (after : Text) → AreNamed read → AreNamed ls → with_commas read ++ rest ≡ label_list_text ls ++ (125 ∷ after)
+    → ((read ≡ []) × (ls ≡ [])) ⊎ ((l : Label) × (more : List Label) × AreNamed (l ∷ more) × (ls ≡ read ++ (l ∷ more)) × (rest ≡ label_list_text (l ∷ more) ++ (125 ∷ after)))
+left [] rest [] after p q e = inl (refl, refl)
+left [] rest (l ∷ ls) after p q e = inr (l, ls, q, refl, e)
+left (r ∷ read) rest [] after p q e = absurd (open_brace_label r (44 ∷ (with_commas read ++ rest)) after p.0 (sym e ∙ commas_then r read rest))
+left (r ∷ read) rest (l ∷ []) after p q e =
+    let h = one_label r l (44 ∷ (with_commas read ++ rest)) (125 ∷ after) p.0 q.0 (sym (commas_then r read rest) ∙ e) in
     let k : ◌≡◌ {A = ℕ} 44 125 = let z = h.1 in cc in
     absurd (omega arith)
-left (r ∷ read) rest (l ∷ m ∷ ls) behind p q e =
-    let h = one_label r l (44 ∷ (with_commas read ++ rest)) (44 ∷ (label_list_text (m ∷ ls) ++ (125 ∷ behind))) p.0 q.0 (sym (commas_then r read rest) ∙ e ∙ list_then l m ls (125 ∷ behind)) in
-    let tail : with_commas read ++ rest ≡ label_list_text (m ∷ ls) ++ (125 ∷ behind) = let z = h.1 in cc in
-    by h.0 (left read rest (m ∷ ls) behind p.1 q.1 tail)
+left (r ∷ read) rest (l ∷ m ∷ ls) after p q e =
+    let h = one_label r l (44 ∷ (with_commas read ++ rest)) (44 ∷ (label_list_text (m ∷ ls) ++ (125 ∷ after))) p.0 q.0 (sym (commas_then r read rest) ∙ e ∙ list_then l m ls (125 ∷ after)) in
+    let tail : with_commas read ++ rest ≡ label_list_text (m ∷ ls) ++ (125 ∷ after) = let z = h.1 in cc in
+    by h.0 (left read rest (m ∷ ls) after p.1 q.1 tail)
   where
-    by : r ≡ l → (((read ≡ []) × ((m ∷ ls) ≡ [])) ⊎ ((k : Label) × (more : List Label) × AreNamed (k ∷ more) × ((m ∷ ls) ≡ read ++ (k ∷ more)) × (rest ≡ label_list_text (k ∷ more) ++ (125 ∷ behind))))
-        → (((r ∷ read) ≡ []) × ((l ∷ m ∷ ls) ≡ [])) ⊎ ((k : Label) × (more : List Label) × AreNamed (k ∷ more) × ((l ∷ m ∷ ls) ≡ (r ∷ read) ++ (k ∷ more)) × (rest ≡ label_list_text (k ∷ more) ++ (125 ∷ behind)))
+    by : r ≡ l → (((read ≡ []) × ((m ∷ ls) ≡ [])) ⊎ ((k : Label) × (more : List Label) × AreNamed (k ∷ more) × ((m ∷ ls) ≡ read ++ (k ∷ more)) × (rest ≡ label_list_text (k ∷ more) ++ (125 ∷ after))))
+        → (((r ∷ read) ≡ []) × ((l ∷ m ∷ ls) ≡ [])) ⊎ ((k : Label) × (more : List Label) × AreNamed (k ∷ more) × ((l ∷ m ∷ ls) ≡ (r ∷ read) ++ (k ∷ more)) × (rest ≡ label_list_text (k ∷ more) ++ (125 ∷ after)))
     by same (inl z) = absurd (let q = z.1 in cc)
     by same (inr z) = inr (z.0, z.1, z.2, (let tail = z.3 in cc), z.4)
 
 -- the first label of a list, and the text after it
-first_of_list : (l : Label) (more : List Label) (s : Text) → (after : Text) × (label_list_text (l ∷ more) ++ (125 ∷ s) ≡ label_text l ++ after) × ((after ≡ 125 ∷ s) ⊎ ((t : Text) × (after ≡ 44 ∷ t)))
+first_of_list : (l : Label) (more : List Label) (s : Text) → (closing : Text) × (label_list_text (l ∷ more) ++ (125 ∷ s) ≡ label_text l ++ closing) × ((closing ≡ 125 ∷ s) ⊎ ((t : Text) × (closing ≡ 44 ∷ t)))
 first_of_list l [] s = (125 ∷ s, refl, inl refl)
 first_of_list l (m ∷ more) s = (44 ∷ (label_list_text (m ∷ more) ++ (125 ∷ s)), list_then l m more (125 ∷ s), inr (label_list_text (m ∷ more) ++ (125 ∷ s), refl))
 
 -- if no label is at the start of what is left
 abbrev pub SomeLeft : List Label → Text → List Label → Text → Type 0
-SomeLeft read rest ls behind = (l : Label) × (more : List Label) × AreNamed (l ∷ more) × (ls ≡ read ++ (l ∷ more)) × (rest ≡ label_list_text (l ∷ more) ++ (125 ∷ behind))
+SomeLeft read rest ls after = (l : Label) × (more : List Label) × AreNamed (l ∷ more) × (ls ≡ read ++ (l ∷ more)) × (rest ≡ label_list_text (l ∷ more) ++ (125 ∷ after))
 
-some_left : (text rest : Text) (read ls : List Label) (behind : Text) → AreNamed read → text ≡ with_commas read ++ rest → ((r : Text) → text ≢ 125 ∷ r) → AreNamed ls → text ≡ label_list_text ls ++ (125 ∷ behind) → SomeLeft read rest ls behind
-some_left text rest read ls behind p so_far some q e = ⊎_elim
-    (λ z. absurd (some behind (e ∙ ap (λ k. label_list_text k ++ (125 ∷ behind)) z.1)))
+some_left : (text rest : Text) (read ls : List Label) (after : Text) → AreNamed read → text ≡ with_commas read ++ rest → ((r : Text) → text ≢ 125 ∷ r) → AreNamed ls → text ≡ label_list_text ls ++ (125 ∷ after) → SomeLeft read rest ls after
+some_left text rest read ls after p so_far some q e = ⊎_elim
+    (λ z. absurd (some after (e ∙ ap (λ k. label_list_text k ++ (125 ∷ after)) z.1)))
     (λ z. z)
-    (left read rest ls behind p q (sym so_far ∙ e))
+    (left read rest ls after p q (sym so_far ∙ e))
 
 pub no_label : (text rest : Text) (read : List Label) → AreNamed read → text ≡ with_commas read ++ rest → ((r : Text) → text ≢ 125 ∷ r) → IsLabelFront rest None → IsLabelsFront text None
-no_label text rest read p so_far some none = λ ls behind q e.
-    let z = some_left text rest read ls behind p so_far some q e in
-    let f = first_of_list z.0 z.1 behind in
+no_label text rest read p so_far some none = λ ls after q e.
+    let z = some_left text rest read ls after p so_far some q e in
+    let f = first_of_list z.0 z.1 after in
     none z.0 f.0 z.2.0 (z.4 ∙ f.1)
 
 -- if neither a brace nor a comma comes after a label
-pub no_end : (text rest : Text) (read : List Label) (label : Label) (after : Text) → AreNamed read → text ≡ with_commas read ++ rest → ((r : Text) → text ≢ 125 ∷ r) → IsLabelFront rest (Some (label, after)) → ((r : Text) → after ≢ 125 ∷ r) → ((r : Text) → after ≢ 44 ∷ r) → IsLabelsFront text None
-no_end text rest read label after p so_far some found brace comma = λ ls behind q e.
-    let z = some_left text rest read ls behind p so_far some q e in
-    let f = first_of_list z.0 z.1 behind in
-    let h = one_label label z.0 after f.0 found.0 z.2.0 (sym found.1 ∙ z.4 ∙ f.1) in
-    ⊎_elim (λ k. brace behind (h.1 ∙ k)) (λ k. comma k.0 (h.1 ∙ k.1)) f.2
+pub no_end : (text rest : Text) (read : List Label) (label : Label) (closing : Text) → AreNamed read → text ≡ with_commas read ++ rest → ((r : Text) → text ≢ 125 ∷ r) → IsLabelFront rest (Some (label, closing)) → ((r : Text) → closing ≢ 125 ∷ r) → ((r : Text) → closing ≢ 44 ∷ r) → IsLabelsFront text None
+no_end text rest read label closing p so_far some found brace comma = λ ls after q e.
+    let z = some_left text rest read ls after p so_far some q e in
+    let f = first_of_list z.0 z.1 after in
+    let h = one_label label z.0 closing f.0 found.0 z.2.0 (sym found.1 ∙ z.4 ∙ f.1) in
+    ⊎_elim (λ k. brace after (h.1 ∙ k)) (λ k. comma k.0 (h.1 ∙ k.1)) f.2
 
-pub labels_end : (text rest : Text) (read new : List Label) (label : Label) (after last : Text) → AreNamed read → text ≡ with_commas read ++ rest → IsLabelFront rest (Some (label, after)) → after ≡ 125 ∷ last → new ≡ read ++ (label ∷ []) → IsLabelsFront text (Some (new, last))
-labels_end text rest read new label after last p so_far found brace more =
+pub labels_end : (text rest : Text) (read new : List Label) (label : Label) (closing last : Text) → AreNamed read → text ≡ with_commas read ++ rest → IsLabelFront rest (Some (label, closing)) → closing ≡ 125 ∷ last → new ≡ read ++ (label ∷ []) → IsLabelsFront text (Some (new, last))
+labels_end text rest read new label closing last p so_far found brace more =
     subst (λ ls. IsLabelsFront text (Some (ls, last))) (sym more) (
       all_append IsNamed read (label ∷ []) p (found.0, tt),
       so_far ∙ ap (λ z. with_commas read ++ z) (found.1 ∙ ap (λ z. label_text label ++ z) brace) ∙ sym (list_last read label (125 ∷ last)),
     )
 
-pub labels_named : (rest : Text) (read new : List Label) (label : Label) (after : Text) → AreNamed read → IsLabelFront rest (Some (label, after)) → new ≡ read ++ (label ∷ []) → AreNamed new
-labels_named rest read new label after p found more = subst AreNamed (sym more) (all_append IsNamed read (label ∷ []) p (found.0, tt))
+pub labels_named : (rest : Text) (read new : List Label) (label : Label) (closing : Text) → AreNamed read → IsLabelFront rest (Some (label, closing)) → new ≡ read ++ (label ∷ []) → AreNamed new
+labels_named rest read new label closing p found more = subst AreNamed (sym more) (all_append IsNamed read (label ∷ []) p (found.0, tt))
 
-pub labels_more : (text rest : Text) (read new : List Label) (label : Label) (after behind : Text) → text ≡ with_commas read ++ rest → IsLabelFront rest (Some (label, after)) → after ≡ 44 ∷ behind → new ≡ read ++ (label ∷ []) → text ≡ with_commas new ++ behind
-labels_more text rest read new label after behind so_far found comma more =
-    subst (λ ls. text ≡ with_commas ls ++ behind) (sym more)
-    (so_far ∙ ap (λ z. with_commas read ++ z) (found.1 ∙ ap (λ z. label_text label ++ z) comma) ∙ sym (commas_append read label behind))
+pub labels_more : (text rest : Text) (read new : List Label) (label : Label) (closing after : Text) → text ≡ with_commas read ++ rest → IsLabelFront rest (Some (label, closing)) → closing ≡ 44 ∷ after → new ≡ read ++ (label ∷ []) → text ≡ with_commas new ++ after
+labels_more text rest read new label closing after so_far found comma more =
+    subst (λ ls. text ≡ with_commas ls ++ after) (sym more)
+    (so_far ∙ ap (λ z. with_commas read ++ z) (found.1 ∙ ap (λ z. label_text label ++ z) comma) ∙ sym (commas_append read label after))
 
 pub start_named : (read : List Label) → read ≡ [] → AreNamed read
 start_named read e = subst AreNamed (sym e) tt

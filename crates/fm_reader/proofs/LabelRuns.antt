@@ -100,9 +100,9 @@ is_name text name end is cut some high =
 name_lacks : (name : Text) → IsLabelName name → Lacks 61 name
 name_lacks name named = λ i h e. let is = name_at name named i h in grind arith
 
-pub name_cut : (text name behind : Text) (end : ℕ) → IsNameEnd text end → end < length text → get_or text end 0 ≡ 61 → end ≢ 0 → 58 ≤ get_or text 0 0 → length name ≡ end → name ≡ take end text → behind ≡ drop (end + 1) text
-    → IsLabelName name × ((text ≡ name ++ (61 ∷ behind)) × Lacks 61 name)
-name_cut text name behind end is within equals some high long front back =
+pub name_cut : (text name after : Text) (end : ℕ) → IsNameEnd text end → end < length text → get_or text end 0 ≡ 61 → end ≢ 0 → 58 ≤ get_or text 0 0 → length name ≡ end → name ≡ take end text → after ≡ drop (end + 1) text
+    → IsLabelName name × ((text ≡ name ++ (61 ∷ after)) × Lacks 61 name)
+name_cut text name after end is within equals some high long front back =
     let first : get_or name 0 0 ≡ get_or text 0 0 = ap (λ t. get_or t 0 0) front ∙ take_get text end 0 (omega (arith, some)) in
     let named = is_name text name end is front (omega (arith, long, some)) (omega (arith, first, high)) in
     (named, (cut_at text end 61 within equals ∙ ap₂ (λ a b. a ++ (61 ∷ b)) (sym front) (sym back), name_lacks name named))

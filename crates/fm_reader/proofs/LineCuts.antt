@@ -41,8 +41,8 @@ before_feed text end is within = IsCharBoundary-before_ascii text end within (om
 pub after_feed : (text : Text) (end : ℕ) → IsUtf8 text → IsLineEnd text end → end < length text → IsCharBoundary text (end + 1)
 after_feed text end utf8 is within = IsCharBoundary-after_ascii text end utf8 within (omega (arith, feed_at text end is within))
 
-pub line_cut : (text front behind : Text) (end : ℕ) → IsLineEnd text end → end < length text → length front ≡ end → front ≡ take end text → behind ≡ drop (end + 1) text → (text ≡ front ++ (10 ∷ behind)) × Lacks 10 front
-line_cut text front behind end is within long f b = (
+pub line_cut : (text front after : Text) (end : ℕ) → IsLineEnd text end → end < length text → length front ≡ end → front ≡ take end text → after ≡ drop (end + 1) text → (text ≡ front ++ (10 ∷ after)) × Lacks 10 front
+line_cut text front after end is within long f b = (
   cut_at text end 10 within (feed_at text end is within) ∙ ap₂ (λ x y. x ++ (10 ∷ y)) (sym f) (sym b),
   λ i h e. run_lacks is_feed text end i is (omega (arith, long, h))
       (eq-eqb (get_or text i 0) 10 (sym (take_get text end i (omega (arith, long, h))) ∙ ap (λ t. get_or t i 0) (sym f) ∙ e)),

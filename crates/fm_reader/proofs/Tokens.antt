@@ -114,9 +114,9 @@ ends_spaced text (inr (rest, e)) = subst Spaced (sym e) (λ d. d refl)
 
 no_time : (t : ℕ) (text rest : Text) → AreMillis t → EndsTime text → text ≡ 32 ∷ (millis_text t ++ rest) → ⊥
 no_time t text rest h (inl e) f = let k = sym e ∙ f in cc
-no_time t text rest h (inr (behind, e)) f =
-    let k : 35 ∷ behind ≡ millis_text t ++ rest = let q = sym e ∙ f in cc in
-    let d = first_of_millis t 35 rest behind (omega arith) (sym k) in
+no_time t text rest h (inr (after, e)) f =
+    let k : 35 ∷ after ≡ millis_text t ++ rest = let q = sym e ∙ f in cc in
+    let d = first_of_millis t 35 rest after (omega arith) (sym k) in
     grind arith
 
 -- one timestamp, or none, is at the start
@@ -142,7 +142,7 @@ time_front rest token tail t h f = (f.0, tt, ap (λ z. 32 ∷ z) (h.is ∙ ap (�
 
 pub no_time_front : (rest token : Text) (tail : Option (Bor Text)) → get_or rest 0 0 ≢ 35 → IsToken rest token (tail_text tail) → FoundMillis token None → IsTimeFront (32 ∷ rest) None
 no_time_front rest token tail hash h f None r q (inl e) p = let k = p ∙ e in cc
-no_time_front rest token tail hash h f None r q (inr (behind, e)) p = let k = p ∙ e in let same : rest ≡ 35 ∷ behind = cc in hash (ap (λ t. get_or t 0 0) same)
+no_time_front rest token tail hash h f None r q (inr (after, e)) p = let k = p ∙ e in let same : rest ≡ 35 ∷ after = cc in hash (ap (λ t. get_or t 0 0) same)
 no_time_front rest token tail hash h f (Some u) r q ends p =
     let k : rest ≡ millis_text u ++ r = cc in
     f u q (one_token rest token tail (millis_text u) r h (millis_unspaced u q) (ends_spaced r ends) k).0

@@ -79,10 +79,10 @@ module _ {M : Type 0} where
 
   -- What is done to a borrowed subsystem is done to the registry: if the subsystem grows while it is borrowed, so does
   -- the registry.
-  pub Grows-lent : (s : Tree M) (name : Text) (labels : Labels) (child w t : Tree M) (kept : Text)
+  pub Grows-lent : (s : Tree M) (name : Text) (labels : Labels) (child w t : Tree M) (stored : Text)
       → ((b : History M) → Reads s b → LoanReads (with_subsystem s name labels) name child (after b (Subsystem [] name labels)))
-      → kept ≡ name → t ≡ record (with_subsystem s name labels) { children = with_named (with_subsystem s name labels).children name kept w } → Grows child w → Grows s t
-  Grows-lent s name labels child w t kept loan same ends g =
+      → stored ≡ name → t ≡ record (with_subsystem s name labels) { children = with_named (with_subsystem s name labels).children name stored w } → Grows child w → Grows s t
+  Grows-lent s name labels child w t stored loan same ends g =
       let put : t ≡ with_child (with_subsystem s name labels) name w =
       ends ∙ ap (λ k. record (with_subsystem s name labels) { children = with_named (with_subsystem s name labels).children name k w }) same in
       let asked : History M → List (Call M) = λ b. added (answer b (Subsystem [] name labels)) b (Subsystem [] name labels) in

@@ -54,12 +54,12 @@ module _ {M : Type 0} where
     pub called : (g : RegistryCall M) (call made : Call M) (old new : Tree M) (r : Result (Unit {0}) RegistryError) → IsCall Types g call → made ≡ call
         → ((b : History M) → Reads old b → IsReply (refusal_of r) b made) → OnOk r ((b : History M) → Reads old b → Reads new (after b made)) → OnErr r (new ≡ old)
         → RunsCall Types g old new r
-    called g call made old new r is same said reads kept = record {
+    called g call made old new r is same said reads unchanged = record {
       call = call;
       is = is;
       reply = subst (λ k. (b : History M) → Reads old b → IsReply (refusal_of r) b k) same said;
       ok = subst (λ k. OnOk r ((b : History M) → Reads old b → Reads new (after b k))) same reads;
-      err = kept;
+      err = unchanged;
     }
 
     AreCalls-more : (gs : List (RegistryCall M)) (calls : List (Call M)) (g : RegistryCall M) (call : Call M) → AreCalls Types gs calls → IsCall Types g call → AreCalls Types (gs ++ g ∷ []) (calls ++ call ∷ [])

@@ -6,7 +6,7 @@ mod run;
 mod subsystem_builder;
 mod subsystems;
 
-use crate::labels::kept_labels;
+use crate::labels::labels_of_option;
 use crate::listed::ListedMetric;
 use crate::listing::list_metrics;
 use crate::names::Tailed;
@@ -118,7 +118,7 @@ impl<M> Registry<M> {
         ensures tree { labels_of result.now ≡ self.now.facts.labels }
         ensures history { (b : _) → Shows self.now b → labels_of result.now ≡ labels_at b [] }
     {
-        kept_labels(&self.const_labels)
+        labels_of_option(&self.const_labels)
     }
 
     // Adds the metrics that are registered in this registry.

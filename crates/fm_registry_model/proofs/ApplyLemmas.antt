@@ -10,7 +10,7 @@ use Rattle.fm_registry_model.specs.Answer.{Refusal, NoSuchSubsystem, after, refu
 use Rattle.fm_registry_model.specs.Running.{IsReply}
 use Rattle.fm_registry_model.specs.declared.RegistryError.{RegistryError}
 use Rattle.fm_registry_model.proofs.TreeLemmas.{reads_root, with_named-itself}
-use Rattle.fm_registry_model.proofs.ForestLemmas.{index_in-IsPlace}
+use Rattle.fm_registry_model.proofs.ForestLemmas.{index_in-IsIndex}
 use Rattle.fm_registry_model.proofs.AnswerLemmas.{missing-answer}
 use Rattle.fm_registry_model.proofs.CallLemmas.{down-reads, down-reply}
 
@@ -41,7 +41,7 @@ module _ {M : Type 0} where
 
   module _ (t : Tree M) (n : Text) (i : ℕ) (index : index_in t.children n ≡ Some i) (child now : Tree M) (value : nth_in t.children i ≡ Some child) (shows : now ≡ child) (whole call : Call M) (front : whole ≡ in_front n call) where
     found : find_child t.children n ≡ Some now
-    found = (index_in-IsPlace t.children n i index).found ∙ value ∙ ap Some (sym shows)
+    found = (index_in-IsIndex t.children n i index).found ∙ value ∙ ap Some (sym shows)
 
     pub apply-reply : (got : Option Refusal) → ((b : History M) → Reads now b → IsReply got b call) → (b : History M) → Reads t b → IsReply got b whole
     apply-reply got said b reads = subst (λ c. IsReply got b c) (sym front) (down-reply t now n call got found said b reads)
@@ -49,10 +49,10 @@ module _ {M : Type 0} where
     module _ (m : Text) (name : nth_name t.children i ≡ Some m) (w : Tree M) where
       same_name : m ≡ n
       same_name =
-          let both : Some m ≡ Some n = sym name ∙ (index_in-IsPlace t.children n i index).name in cc
+          let both : Some m ≡ Some n = sym name ∙ (index_in-IsIndex t.children n i index).name in cc
 
       written : record { facts = t.facts; children = with_nth t.children i m w } ≡ with_child t n w
-      written = ap (λ f. record { facts = t.facts; children = f }) ((index_in-IsPlace t.children n i index).replaced m w ∙ ap (λ k. with_named t.children n k w) same_name)
+      written = ap (λ f. record { facts = t.facts; children = f }) ((index_in-IsIndex t.children n i index).replaced m w ∙ ap (λ k. with_named t.children n k w) same_name)
 
       pub apply-ok : (r : Result (Unit {0}) RegistryError) → ((b : History M) → Reads now b → IsReply (refusal_of r) b call) → OnOk r ((b : History M) → Reads now b → Reads w (after b call))
           → OnOk r ((b : History M) → Reads t b → Reads (record { facts = t.facts; children = with_nth t.children i m w }) (after b whole))

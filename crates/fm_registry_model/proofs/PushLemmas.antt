@@ -6,7 +6,7 @@ use Rattle.fm_registry_model.specs.Tree.{Facts, Forest, Leaf, Child, Tree, find_
 use Rattle.fm_registry_model.specs.Steps.{add_child, new_facts, added_unless, with_subsystem}
 use Rattle.fm_registry_model.specs.inside.Forests.{index_from, index_in}
 use Rattle.fm_registry_model.proofs.TextLemmas.{bytes_eq-refl}
-use Rattle.fm_registry_model.proofs.ForestLemmas.{index_in-IsPlace}
+use Rattle.fm_registry_model.proofs.ForestLemmas.{index_in-IsIndex}
 
 module _ {M : Type 0} where
   -- the wanted subsystem exists
@@ -16,7 +16,7 @@ module _ {M : Type 0} where
 
   pub with_subsystem-there : (t : Tree M) (n : Text) (labels : Labels) (i : ℕ) → index_in t.children n ≡ Some i → t ≡ with_subsystem t n labels
   with_subsystem-there t n labels i h =
-      let index = index_in-IsPlace t.children n i h in
+      let index = index_in-IsIndex t.children n i h in
       sym (added_unless-some (find_child t.children n) t n labels (subst (λ o. IsSome o) (sym index.found) index.there))
 
   pub find_child-none : (f : Forest M) (n : Text) (k : ℕ) → index_from k f n ≡ None → find_child f n ≡ None

@@ -124,7 +124,7 @@ impl<H: Wait + Copy + Send + Sync + Drop, X: EncodeMetric> Root<H, X> {
     ) -> Result<(), RegistryError>
         ensures { ((result ≡ Err Memory) × (self.new.at ≡ self.old.at))
             ⊎ AddsClone (T.is_clone metric.now)
-            (λ x own. (kept : X) × T.converts x kept × (own ≡ Own kept))
+            (λ x own. (converted : X) × T.converts x converted × (own ≡ Own converted))
             ⟦<Metric<H, X> as EncodeMetric>⟧.types
             (named_metric name.now help.now unit) self.old.at
             self.new.at
@@ -145,7 +145,7 @@ impl<H: Wait + Copy + Send + Sync + Drop, X: EncodeMetric> Root<H, X> {
         help: &str,
     ) -> Result<T, RegistryError>
         ensures { Makes T.is_default T.is_clone
-            (λ x own. (kept : X) × T.converts x kept × (own ≡ Own kept))
+            (λ x own. (converted : X) × T.converts x converted × (own ≡ Own converted))
             ⟦<Metric<H, X> as EncodeMetric>⟧.types
             (named_metric name.now help.now None) self.old.at
             self.new.at

@@ -84,7 +84,7 @@ impl<K: TallyKey> Protected<K> {
         ensures greater { (result ≡ self.old.book) ⊎ (result ≡ share.old.seen) }
         ensures seen { share.new.seen ≡ result }
         ensures amount { share.new.amount ≡ share.old.amount }
-        ensures kept { self.new.book ≡ self.old.book }
+        ensures same_book { self.new.book ≡ self.old.book }
     {
         self.account.audit(&mut share.token);
         let total = self.book.read().max(share.seen);

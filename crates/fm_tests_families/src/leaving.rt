@@ -55,7 +55,7 @@ fn expect_shards(alloc: Global, shards: Box<dyn EncodeMetric>, want: &str) -> Re
     expect_document(alloc, "f", None, shards, want)
 }
 
-// Fails if these are not the lines of a family alone behind its heading.
+// Fails if these are not the lines of a family alone after its heading.
 fn expect_lines(alloc: Global, shards: Box<dyn EncodeMetric>, want: &str) -> Result<(), Fail> {
     let document = document_alone(alloc, "f", None, shards)?;
     match document

@@ -1,4 +1,4 @@
-//! The labels that a sample has of its own, those of states and of information, behind the member's labels.
+//! The labels that a sample has of its own, those of states and of information, after the member's labels.
 
 use crate::points::{NameOnly, ValueOnly};
 use fastmetrics::encoder::EncodeError;

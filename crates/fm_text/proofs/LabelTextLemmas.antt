@@ -12,10 +12,10 @@ use Rattle.fm_grammar.specs.Exposition.{Text, Label}
 use Rattle.fm_grammar.specs.Spelling.{escaped, label_text, label_list_text}
 use Rattle.fm_exposition.proofs.RowLemmas.{list_joined}
 use Rattle.fm_text.specs.inside.Grown.{Grown}
-use Rattle.fm_text.specs.declared.places.Part.{Part}
-use Rattle.fm_text.specs.declared.places.Place.{Place}
+use Rattle.fm_text.specs.declared.spans.Part.{Part}
+use Rattle.fm_text.specs.declared.spans.LabelSpan.{LabelSpan}
 use Rattle.fm_text.specs.inside.LabelTexts.{list_before}
-use Rattle.fm_text.specs.inside.LabelTexts.{part_in, label_in, labels_in, names_in, IsPart, IsPlace, AreParts, AreWithin, IsListed, AreListed, name_in_list, LabelsState, whole_label, whole_place}
+use Rattle.fm_text.specs.inside.LabelTexts.{part_in, label_in, labels_in, names_in, IsPart, IsSpan, AreParts, AreWithin, IsListed, AreListed, name_in_list, LabelsState, whole_label, whole_span}
 
 -- a part of a text is the same part of a longer one
 same_between : (text more : Text) (i j : ℕ) → j ≤ length text → between i j (text ++ more) ≡ between i j text
@@ -31,25 +31,25 @@ IsPart-grown old new more p grown is = record {
   utf8 = subst IsUtf8 (sym (part_grown old new more p grown is)) is.utf8;
 }
 
-IsPlace-grown : (old new more : Text) (p : Place) → Grown old new more → IsPlace old p → IsPlace new p
-IsPlace-grown old new more p grown is = record {
+IsSpan-grown : (old new more : Text) (p : LabelSpan) → Grown old new more → IsSpan old p → IsSpan new p
+IsSpan-grown old new more p grown is = record {
   name = IsPart-grown old new more p.name grown is.name;
   value = IsPart-grown old new more p.value grown is.value;
 }
 
-pub label_grown : (old new more : Text) (p : Place) → Grown old new more → IsPlace old p → label_in new p ≡ label_in old p
+pub label_grown : (old new more : Text) (p : LabelSpan) → Grown old new more → IsSpan old p → label_in new p ≡ label_in old p
 label_grown old new more p grown is = λ i. record {
   name = part_grown old new more p.name grown is.name i;
   value = part_grown old new more p.value grown is.value i;
 }
 
-pub labels_grown : (old new more : Text) (places : List Place) → Grown old new more → AllByRecursion (IsPlace old) places → labels_in new places ≡ labels_in old places
+pub labels_grown : (old new more : Text) (spans : List LabelSpan) → Grown old new more → AllByRecursion (IsSpan old) spans → labels_in new spans ≡ labels_in old spans
 labels_grown old new more [] grown are = refl
-labels_grown old new more (p ∷ places) grown are = λ i. label_grown old new more p grown are.0 i ∷ labels_grown old new more places grown are.1 i
+labels_grown old new more (p ∷ spans) grown are = λ i. label_grown old new more p grown are.0 i ∷ labels_grown old new more spans grown are.1 i
 
-pub places_grown : (old new more : Text) (places : List Place) → Grown old new more → AllByRecursion (IsPlace old) places → AllByRecursion (IsPlace new) places
-places_grown old new more [] grown are = tt
-places_grown old new more (p ∷ places) grown are = (IsPlace-grown old new more p grown are.0, places_grown old new more places grown are.1)
+pub spans_grown : (old new more : Text) (spans : List LabelSpan) → Grown old new more → AllByRecursion (IsSpan old) spans → AllByRecursion (IsSpan new) spans
+spans_grown old new more [] grown are = tt
+spans_grown old new more (p ∷ spans) grown are = (IsSpan-grown old new more p grown are.0, spans_grown old new more spans grown are.1)
 
 pub option_grown : (old new more : Text) (p : Option Part) → Grown old new more → IfSome p (IsPart old) → option_map (part_in new) p ≡ option_map (part_in old) p
 option_grown old new more None grown is = refl
@@ -59,23 +59,23 @@ pub some_grown : (old new more : Text) (p : Option Part) → Grown old new more 
 some_grown old new more None grown is = tt
 some_grown old new more (Some p) grown is = IsPart-grown old new more p grown is
 
--- one place more, if the current label has both parts
-pub places_pushed : (text : Text) (ps : List Place) (n v : Option Part) → AllByRecursion (IsPlace text) ps → IfSome n (IsPart text) → IfSome v (IsPart text) → AllByRecursion (IsPlace text) (ps ++ whole_place n v)
-places_pushed text [] None v a b c = tt
-places_pushed text [] (Some n) None a b c = tt
-places_pushed text [] (Some n) (Some v) a b c = (record { name = b; value = c }, tt)
-places_pushed text (p ∷ ps) n v a b c = (a.0, places_pushed text ps n v a.1 b c)
+-- one span more, if the current label has both parts
+pub spans_pushed : (text : Text) (ps : List LabelSpan) (n v : Option Part) → AllByRecursion (IsSpan text) ps → IfSome n (IsPart text) → IfSome v (IsPart text) → AllByRecursion (IsSpan text) (ps ++ whole_span n v)
+spans_pushed text [] None v a b c = tt
+spans_pushed text [] (Some n) None a b c = tt
+spans_pushed text [] (Some n) (Some v) a b c = (record { name = b; value = c }, tt)
+spans_pushed text (p ∷ ps) n v a b c = (a.0, spans_pushed text ps n v a.1 b c)
 
-pub places_whole : (text : Text) (places : List Place) (name value : Option Part) → AreParts text places name value → AllByRecursion (IsPlace text) (places ++ whole_place name value)
-places_whole text places name value are = places_pushed text places name value are.places are.name are.value
+pub spans_whole : (text : Text) (spans : List LabelSpan) (name value : Option Part) → AreParts text spans name value → AllByRecursion (IsSpan text) (spans ++ whole_span name value)
+spans_whole text spans name value are = spans_pushed text spans name value are.spans are.name are.value
 
-whole_in : (text : Text) (name value : Option Part) → labels_in text (whole_place name value) ≡ whole_label (option_map (part_in text) name) (option_map (part_in text) value)
+whole_in : (text : Text) (name value : Option Part) → labels_in text (whole_span name value) ≡ whole_label (option_map (part_in text) name) (option_map (part_in text) value)
 whole_in text None value = refl
 whole_in text (Some n) None = refl
 whole_in text (Some n) (Some v) = refl
 
-pub labels_whole : (text : Text) (places : List Place) (name value : Option Part) → labels_in text (places ++ whole_place name value) ≡ labels_in text places ++ whole_label (option_map (part_in text) name) (option_map (part_in text) value)
-labels_whole text places name value = map-append (label_in text) places (whole_place name value) ∙ ap (λ (ls : List Label). labels_in text places ++ ls) (whole_in text name value)
+pub labels_whole : (text : Text) (spans : List LabelSpan) (name value : Option Part) → labels_in text (spans ++ whole_span name value) ≡ labels_in text spans ++ whole_label (option_map (part_in text) name) (option_map (part_in text) value)
+labels_whole text spans name value = map-append (label_in text) spans (whole_span name value) ∙ ap (λ (ls : List Label). labels_in text spans ++ ls) (whole_in text name value)
 
 -- a part in the middle of what is appended
 between_pieces : (a b c d : Text) → between (length a + length b) (length a + length b + length c) (a ++ (b ++ (c ++ d))) ≡ c
@@ -112,7 +112,7 @@ all_from P xs zero all = all
 all_from P [] (suc i) all = tt
 all_from P (x ∷ xs) (suc i) all = all_from P xs i all.1
 
-pub names_push : (text : Text) (ps : List Place) (p : Place) → names_in text (ps ++ p ∷ []) ≡ names_in text ps ++ (label_in text p).name ∷ []
+pub names_push : (text : Text) (ps : List LabelSpan) (p : LabelSpan) → names_in text (ps ++ p ∷ []) ≡ names_in text ps ++ (label_in text p).name ∷ []
 names_push text [] p = refl
 names_push text (q ∷ ps) p = ap (λ (ns : List Text). (label_in text q).name ∷ ns) (names_push text ps p)
 
@@ -121,54 +121,54 @@ Contains-one x y (zero, within, is) = is
 Contains-one x y (suc i, within, is) = absurd (omega arith)
 
 -- a label of the list has the name
-pub name_there : (text : Text) (ps : List Place) (i : ℕ) (d : Place) (name : Text) → i < length ps → (label_in text (get_or ps i d)).name ≡ name → Contains (names_in text ps) name
+pub name_there : (text : Text) (ps : List LabelSpan) (i : ℕ) (d : LabelSpan) (name : Text) → i < length ps → (label_in text (get_or ps i d)).name ≡ name → Contains (names_in text ps) name
 name_there text [] i d name within named = absurd (omega arith)
 name_there text (q ∷ ps) zero d name within named = (0, omega arith, named)
 name_there text (q ∷ ps) (suc i) d name within named =
     (let there = name_there text ps i d name (omega arith) named in (suc there.0, omega (arith, there.1), there.2))
 
 -- one label more, with another name
-pub name_absent : (text : Text) (ps : List Place) (i : ℕ) (d : Place) (name : Text) → i < length ps → ¬ ((label_in text (get_or ps i d)).name ≡ name) → ¬ (Contains (names_in text (take i ps)) name) → ¬ (Contains (names_in text (take (i + 1) ps)) name)
+pub name_absent : (text : Text) (ps : List LabelSpan) (i : ℕ) (d : LabelSpan) (name : Text) → i < length ps → ¬ ((label_in text (get_or ps i d)).name ≡ name) → ¬ (Contains (names_in text (take i ps)) name) → ¬ (Contains (names_in text (take (i + 1) ps)) name)
 name_absent text ps i d name within other before there =
     let split : Contains (names_in text (take i ps) ++ (label_in text (get_or ps i d)).name ∷ []) name =
     subst (λ (ns : List Text). Contains ns name) (ap (names_in text) (take_more ps i d within) ∙ names_push text (take i ps) (get_or ps i d)) there in
     elim (Contains-append_cases _ _ name split) [ inl h ↦ before h | inr h ↦ other (Contains-one name _ h) ]
 
 -- one name or value more, of the current label
-pub parts_named : (old new more : Text) (ps : List Place) (n v : Option Part) (p : Part) → Grown old new more → AreParts old ps n v → IsPart new p → AreParts new ps (Some p) v
+pub parts_named : (old new more : Text) (ps : List LabelSpan) (n v : Option Part) (p : Part) → Grown old new more → AreParts old ps n v → IsPart new p → AreParts new ps (Some p) v
 parts_named old new more ps n v p grown are is = record {
-  places = places_grown old new more ps grown are.places;
+  spans = spans_grown old new more ps grown are.spans;
   name = is;
   value = some_grown old new more v grown are.value;
 }
 
-pub parts_valued : (old new more : Text) (ps : List Place) (n v : Option Part) (p : Part) → Grown old new more → AreParts old ps n v → IsPart new p → AreParts new ps n (Some p)
+pub parts_valued : (old new more : Text) (ps : List LabelSpan) (n v : Option Part) (p : Part) → Grown old new more → AreParts old ps n v → IsPart new p → AreParts new ps n (Some p)
 parts_valued old new more ps n v p grown are is = record {
-  places = places_grown old new more ps grown are.places;
+  spans = spans_grown old new more ps grown are.spans;
   name = some_grown old new more n grown are.name;
   value = is;
 }
 
 -- what contracts see of labels in a text
-abbrev pub shown : Text → List Place → Option Part → Option Part → LabelsState
+abbrev pub shown : Text → List LabelSpan → Option Part → Option Part → LabelsState
 shown text ps n v = record { labels = labels_in text ps; name = option_map (part_in text) n; value = option_map (part_in text) v }
 
-pub shown_named : (old new more : Text) (ps : List Place) (n v : Option Part) (p : Part) (name : Text) → Grown old new more → AreParts old ps n v → part_in new p ≡ name → shown new ps (Some p) v ≡ record (shown old ps n v) { name = Some name }
+pub shown_named : (old new more : Text) (ps : List LabelSpan) (n v : Option Part) (p : Part) (name : Text) → Grown old new more → AreParts old ps n v → part_in new p ≡ name → shown new ps (Some p) v ≡ record (shown old ps n v) { name = Some name }
 shown_named old new more ps n v p name grown are is = λ i. record {
-  labels = labels_grown old new more ps grown are.places i;
+  labels = labels_grown old new more ps grown are.spans i;
   name = Some (is i);
   value = option_grown old new more v grown are.value i;
 }
 
-pub shown_valued : (old new more : Text) (ps : List Place) (n v : Option Part) (p : Part) (value : Text) → Grown old new more → AreParts old ps n v → part_in new p ≡ value → shown new ps n (Some p) ≡ record (shown old ps n v) { value = Some value }
+pub shown_valued : (old new more : Text) (ps : List LabelSpan) (n v : Option Part) (p : Part) (value : Text) → Grown old new more → AreParts old ps n v → part_in new p ≡ value → shown new ps n (Some p) ≡ record (shown old ps n v) { value = Some value }
 shown_valued old new more ps n v p value grown are is = λ i. record {
-  labels = labels_grown old new more ps grown are.places i;
+  labels = labels_grown old new more ps grown are.spans i;
   name = option_grown old new more n grown are.name i;
   value = Some (is i);
 }
 
 -- the labels from an index on
-pub labels_from : (text : Text) (ps : List Place) (from : ℕ) → labels_in text (take (length ps - from) (drop from ps)) ≡ drop from (labels_in text ps)
+pub labels_from : (text : Text) (ps : List LabelSpan) (from : ℕ) → labels_in text (take (length ps - from) (drop from ps)) ≡ drop from (labels_in text ps)
 labels_from text ps from =
     ap (labels_in text) (take_all (length ps - from) (drop from ps) (let rest : length (drop from ps) ≡ length ps - from = length-drop from ps in omega arith)) ∙ sym (drop-map (label_in text) from ps)
 
@@ -209,59 +209,59 @@ end_listed text n v (l ∷ ls) is =
     ∙ sym (list_joined (l ∷ ls) (last ∷ []) (omega arith))
 
 -- one name more, of the current label
-named_listed : (listed next : Bool) (old new name : Text) (ps : List Place) (n v : Option Part) (p : Part) (is_first : Bool) → (IsTrue next → (listed ≡ true) × (n ≡ None) × (v ≡ None)) → is_first ≡ (length ps == 0)
+named_listed : (listed next : Bool) (old new name : Text) (ps : List LabelSpan) (n v : Option Part) (p : Part) (is_first : Bool) → (IsTrue next → (listed ≡ true) × (n ≡ None) × (v ≡ None)) → is_first ≡ (length ps == 0)
     → Grown old new (name_in_list is_first name) → part_in new p ≡ name → AreWithin listed old ps n v → AreListed next (Some (part_in new p)) (option_map (part_in new) v) new (labels_in new ps)
-named_listed listed false old new name ps n v p is_first may e grown is kept = tt
-named_listed true true old new name ps None None p is_first may e grown is kept =
-    let base = name_listed old new name (labels_in old ps) is_first (e ∙ ap (λ (k : ℕ). k == 0) (sym (length-map ps (label_in old)))) grown.bytes kept.listed in
-    let same = labels_grown old new (name_in_list is_first name) ps grown kept.parts.places in
+named_listed listed false old new name ps n v p is_first may e grown is held = tt
+named_listed true true old new name ps None None p is_first may e grown is held =
+    let base = name_listed old new name (labels_in old ps) is_first (e ∙ ap (λ (k : ℕ). k == 0) (sym (length-map ps (label_in old)))) grown.bytes held.listed in
+    let same = labels_grown old new (name_in_list is_first name) ps grown held.parts.spans in
     subst (λ (x : Text). IsListed (Some x) None new (labels_in new ps)) (sym is) (subst (λ (ls : List Label). IsListed (Some name) None new ls) (sym same) base)
-named_listed true true old new name ps (Some m) v p is_first may e grown is kept = (let never : Some m ≡ None = (may refl).1 in absurd cc)
-named_listed true true old new name ps None (Some m) p is_first may e grown is kept = (let never : Some m ≡ None = (may refl).2 in absurd cc)
-named_listed false true old new name ps n v p is_first may e grown is kept = (let never : false ≡ true = (may refl).0 in absurd cc)
+named_listed true true old new name ps (Some m) v p is_first may e grown is held = (let never : Some m ≡ None = (may refl).1 in absurd cc)
+named_listed true true old new name ps None (Some m) p is_first may e grown is held = (let never : Some m ≡ None = (may refl).2 in absurd cc)
+named_listed false true old new name ps n v p is_first may e grown is held = (let never : false ≡ true = (may refl).0 in absurd cc)
 
-pub kept_named : (listed next : Bool) (old new name : Text) (ps : List Place) (n v : Option Part) (p : Part) (is_first : Bool) → (IsTrue next → (listed ≡ true) × (n ≡ None) × (v ≡ None)) → is_first ≡ (length ps == 0)
+pub held_named : (listed next : Bool) (old new name : Text) (ps : List LabelSpan) (n v : Option Part) (p : Part) (is_first : Bool) → (IsTrue next → (listed ≡ true) × (n ≡ None) × (v ≡ None)) → is_first ≡ (length ps == 0)
     → Grown old new (name_in_list is_first name) → IsPart new p → part_in new p ≡ name → AreWithin listed old ps n v → AreWithin next new ps (Some p) v
-kept_named listed next old new name ps n v p is_first may e grown within is kept = record {
-  parts = parts_named old new (name_in_list is_first name) ps n v p grown kept.parts within;
-  listed = named_listed listed next old new name ps n v p is_first may e grown is kept;
+held_named listed next old new name ps n v p is_first may e grown within is held = record {
+  parts = parts_named old new (name_in_list is_first name) ps n v p grown held.parts within;
+  listed = named_listed listed next old new name ps n v p is_first may e grown is held;
 }
 
 -- one value more
-valued_listed : (listed next : Bool) (old new value : Text) (ps : List Place) (n v : Option Part) (p : Part) → (IsTrue next → (listed ≡ true) × IsSome n × (v ≡ None) × (escaped value ≡ value))
+valued_listed : (listed next : Bool) (old new value : Text) (ps : List LabelSpan) (n v : Option Part) (p : Part) → (IsTrue next → (listed ≡ true) × IsSome n × (v ≡ None) × (escaped value ≡ value))
     → Grown old new value → part_in new p ≡ value → AreWithin listed old ps n v → AreListed next (option_map (part_in new) n) (Some (part_in new p)) new (labels_in new ps)
-valued_listed listed false old new value ps n v p may grown is kept = tt
-valued_listed true true old new value ps (Some m) None p may grown is kept =
-    let base = value_listed old new (part_in old m) value (labels_in old ps) grown.bytes (may refl).3 kept.listed in
-    let same = labels_grown old new value ps grown kept.parts.places in
-    let name = part_grown old new value m grown kept.parts.name in
+valued_listed listed false old new value ps n v p may grown is held = tt
+valued_listed true true old new value ps (Some m) None p may grown is held =
+    let base = value_listed old new (part_in old m) value (labels_in old ps) grown.bytes (may refl).3 held.listed in
+    let same = labels_grown old new value ps grown held.parts.spans in
+    let name = part_grown old new value m grown held.parts.name in
     subst (λ (x : Text). IsListed (Some (part_in new m)) (Some x) new (labels_in new ps)) (sym is)
     (subst (λ (x : Text). IsListed (Some x) (Some value) new (labels_in new ps)) (sym name) (subst (λ (ls : List Label). IsListed (Some (part_in old m)) (Some value) new ls) (sym same) base))
-valued_listed true true old new value ps None v p may grown is kept = (let never : IsSome {T = Part} None = (may refl).1 in absurd cc)
-valued_listed true true old new value ps (Some m) (Some w) p may grown is kept = (let never : Some w ≡ None = (may refl).2 in absurd cc)
-valued_listed false true old new value ps n v p may grown is kept = (let never : false ≡ true = (may refl).0 in absurd cc)
+valued_listed true true old new value ps None v p may grown is held = (let never : IsSome {T = Part} None = (may refl).1 in absurd cc)
+valued_listed true true old new value ps (Some m) (Some w) p may grown is held = (let never : Some w ≡ None = (may refl).2 in absurd cc)
+valued_listed false true old new value ps n v p may grown is held = (let never : false ≡ true = (may refl).0 in absurd cc)
 
-pub kept_valued : (listed next : Bool) (old new value : Text) (ps : List Place) (n v : Option Part) (p : Part) → (IsTrue next → (listed ≡ true) × IsSome n × (v ≡ None) × (escaped value ≡ value))
+pub held_valued : (listed next : Bool) (old new value : Text) (ps : List LabelSpan) (n v : Option Part) (p : Part) → (IsTrue next → (listed ≡ true) × IsSome n × (v ≡ None) × (escaped value ≡ value))
     → Grown old new value → IsPart new p → part_in new p ≡ value → AreWithin listed old ps n v → AreWithin next new ps n (Some p)
-kept_valued listed next old new value ps n v p may grown within is kept = record {
-  parts = parts_valued old new value ps n v p grown kept.parts within;
-  listed = valued_listed listed next old new value ps n v p may grown is kept;
+held_valued listed next old new value ps n v p may grown within is held = record {
+  parts = parts_valued old new value ps n v p grown held.parts within;
+  listed = valued_listed listed next old new value ps n v p may grown is held;
 }
 
 -- the end of a label
-ended_listed : (listed next : Bool) (text : Text) (ps : List Place) (n v : Option Part) → (IsTrue next → (listed ≡ true) × (is_some n ≡ is_some v)) → AreWithin listed text ps n v → AreListed next None None text (labels_in text (ps ++ whole_place n v))
-ended_listed listed false text ps n v may kept = tt
-ended_listed true true text ps None None may kept = subst (λ (qs : List Place). IsListed None None text (labels_in text qs)) (sym (append-nil ps)) kept.listed
-ended_listed true true text ps (Some n) (Some v) may kept =
-    subst (λ (ls : List Label). IsListed None None text ls) (sym (labels_whole text ps (Some n) (Some v))) (end_listed text (part_in text n) (part_in text v) (labels_in text ps) kept.listed)
-ended_listed true true text ps None (Some v) may kept = (let never : false ≡ true = (may refl).1 in absurd cc)
-ended_listed true true text ps (Some n) None may kept = (let never : true ≡ false = (may refl).1 in absurd cc)
-ended_listed false true text ps n v may kept = (let never : false ≡ true = (may refl).0 in absurd cc)
+ended_listed : (listed next : Bool) (text : Text) (ps : List LabelSpan) (n v : Option Part) → (IsTrue next → (listed ≡ true) × (is_some n ≡ is_some v)) → AreWithin listed text ps n v → AreListed next None None text (labels_in text (ps ++ whole_span n v))
+ended_listed listed false text ps n v may held = tt
+ended_listed true true text ps None None may held = subst (λ (qs : List LabelSpan). IsListed None None text (labels_in text qs)) (sym (append-nil ps)) held.listed
+ended_listed true true text ps (Some n) (Some v) may held =
+    subst (λ (ls : List Label). IsListed None None text ls) (sym (labels_whole text ps (Some n) (Some v))) (end_listed text (part_in text n) (part_in text v) (labels_in text ps) held.listed)
+ended_listed true true text ps None (Some v) may held = (let never : false ≡ true = (may refl).1 in absurd cc)
+ended_listed true true text ps (Some n) None may held = (let never : true ≡ false = (may refl).1 in absurd cc)
+ended_listed false true text ps n v may held = (let never : false ≡ true = (may refl).0 in absurd cc)
 
-pub kept_ended : (listed next : Bool) (text : Text) (ps : List Place) (n v : Option Part) → (IsTrue next → (listed ≡ true) × (is_some n ≡ is_some v)) → AreWithin listed text ps n v → AreWithin next text (ps ++ whole_place n v) None None
-kept_ended listed next text ps n v may kept = record {
-  parts = record { places = places_whole text ps n v kept.parts; name = tt; value = tt };
-  listed = ended_listed listed next text ps n v may kept;
+pub held_ended : (listed next : Bool) (text : Text) (ps : List LabelSpan) (n v : Option Part) → (IsTrue next → (listed ≡ true) × (is_some n ≡ is_some v)) → AreWithin listed text ps n v → AreWithin next text (ps ++ whole_span n v) None None
+held_ended listed next text ps n v may held = record {
+  parts = record { spans = spans_whole text ps n v held.parts; name = tt; value = tt };
+  listed = ended_listed listed next text ps n v may held;
 }
 
 -- a part is in order

@@ -16,7 +16,7 @@ const MOST_ROOM: usize = 4096;
 #[cold]
 fn lengthen(bytes: &mut Vec<u8>, at_least: usize) -> Result<(), AllocError>
     requires { length bytes.old.items ≤ at_least }
-    ensures kept { take (length bytes.old.items) bytes.new.items ≡ bytes.old.items }
+    ensures beginning { take (length bytes.old.items) bytes.new.items ≡ bytes.old.items }
     ensures longer { length bytes.old.items ≤ length bytes.new.items }
     ensures enough { OnOk result (at_least ≤ length bytes.new.items) }
 {

@@ -4,12 +4,12 @@ ghost use Rattle.std.specs.List.{Any};
 ghost use Rattle.fm_grammar.specs.Spelling.{label_list_text, escaped};
 ghost use Rattle.fm_exposition.specs.Samples.{labels_of, shown_label};
 ghost use Rattle.fm_text.specs.inside.Grown.{Grown};
-ghost use Rattle.fm_text.specs.inside.LabelTexts.{part_in, labels_in, IsPart, name_in_list, further_list, whole_label, whole_place};
+ghost use Rattle.fm_text.specs.inside.LabelTexts.{part_in, labels_in, IsPart, name_in_list, further_list, whole_label, whole_span};
 
 use crate::growing::GrowingText;
-use crate::labels::{LabelSource, append_placed_list};
+use crate::labels::{LabelSource, append_labels_at};
 use crate::output::Output;
-use crate::places::{Part, Place, are_labels, has_name, has_name_of, pairs_at, push_after};
+use crate::spans::{Part, LabelSpan, are_labels, has_name, has_name_of, pairs_at, push_after};
 use crate::plain::is_plain;
 use std::alloc::{AllocError, Global};
 use std::marker::Model;
@@ -71,15 +71,15 @@ fn append_further_list(
     Ok(text.as_slice().len() - list.len())
 }
 
-// Adds the place of a label that has a name and a value.
-fn push_place(
-    places: &mut Vec<Place>,
+// Adds the span of a label that has a name and a value.
+fn push_span(
+    spans: &mut Vec<LabelSpan>,
     name: Option<Part>,
     value: Option<Part>,
 ) -> Result<(), AllocError>
     requires { IfSome value (λ part. part.start ≤ part.end) }
-    ensures pushed { OnOk result (places.new.items ≡ places.old.items ++ whole_place name value) }
-    ensures kept { OnErr result (places.new.items ≡ places.old.items) }
+    ensures pushed { OnOk result (spans.new.items ≡ spans.old.items ++ whole_span name value) }
+    ensures kept { OnErr result (spans.new.items ≡ spans.old.items) }
 {
     match (name, value) {
         (Some(name), Some(value)) => {
@@ -88,7 +88,7 @@ fn push_place(
                 start: value.start,
                 end: value.end.max(value.start),
             };
-            places.push(Place { name, value })?;
+            spans.push(LabelSpan { name, value })?;
             Ok(())
         }
         _ => Ok(()),
@@ -123,7 +123,7 @@ fn may_end(is_listed: bool, name: Option<Part>, value: Option<Part>) -> bool
 pub struct LabelText {
     // The names and values, each where it is in the labels' list.
     text: GrowingText,
-    places: Vec<Place>,
+    spans: Vec<LabelSpan>,
     // The name and the value of the current label.
     name: Option<Part>,
     value: Option<Part>,
@@ -138,12 +138,12 @@ impl Model for LabelText {
     ghost Value = { LabelsState };
 
     ghost view = { λ l. record {
-      labels = labels_in l.text l.places.items;
+      labels = labels_in l.text l.spans.items;
       name = option_map (part_in l.text) l.name;
       value = option_map (part_in l.text) l.value;
     } };
 
-    ghost invariant = { λ l. AreWithin l.is_listed l.text l.places.items l.name l.value };
+    ghost invariant = { λ l. AreWithin l.is_listed l.text l.spans.items l.name l.value };
 }
 
 impl LabelText {
@@ -153,7 +153,7 @@ impl LabelText {
     {
         LabelText {
             text: GrowingText::new(alloc),
-            places: Vec::new(alloc),
+            spans: Vec::new(alloc),
             name: None,
             value: None,
             is_listed: true,
@@ -164,7 +164,7 @@ impl LabelText {
     pub fn len(&self) -> usize
         ensures { result ≡ length self.now.labels }
     {
-        self.places.len()
+        self.spans.len()
     }
 
     /// Whether the current label has a name.
@@ -185,7 +185,7 @@ impl LabelText {
     pub fn has_name(&self, name: &str) -> bool
         ensures { IsTrue result ↔ Contains (map (λ label. label.name) self.now.labels) name.now }
     {
-        has_name(self.text.as_slice(), &self.places, name.as_bytes())
+        has_name(self.text.as_slice(), &self.spans, name.as_bytes())
     }
 
     /// Whether one of its labels has the name of one of these.
@@ -194,14 +194,14 @@ impl LabelText {
             ↔ Any (Contains (map (λ label. label.name) self.now.labels)) (map (λ label. label.name) labels.now.labels) }
     {
         let others = labels.text.as_slice();
-        has_name_of(self.text.as_slice(), &self.places, others, &labels.places)
+        has_name_of(self.text.as_slice(), &self.spans, others, &labels.spans)
     }
 
     /// Whether its labels are these, in this order.
     pub fn are(&self, labels: &[(String, String)]) -> bool
         ensures { IsTrue result → self.now.labels ≡ labels_of labels.now }
     {
-        are_labels(self.text.as_slice(), &self.places, labels)
+        are_labels(self.text.as_slice(), &self.spans, labels)
     }
 
     /// Removes all labels, and keeps the memory for later ones.
@@ -209,7 +209,7 @@ impl LabelText {
         ensures { self.new ≡ record { labels = []; name = None; value = None } }
     {
         self.text.clear();
-        self.places.clear();
+        self.spans.clear();
         self.name = None;
         self.value = None;
         self.is_listed = true;
@@ -224,15 +224,15 @@ impl LabelText {
         self.is_listed = false;
         self.name = None;
         self.value = None;
-        let places = &mut self.places;
-        places.clear();
+        let spans = &mut self.spans;
+        spans.clear();
         self.text.assign(&labels.text)?;
-        places.extend_from_slice(&labels.places)?;
+        spans.extend_from_slice(&labels.spans)?;
         self.is_listed = labels.is_listed && labels.name.is_none() && labels.value.is_none();
         Ok(())
     }
 
-    /// Adds copies of these labels behind its own, and drops the current label. Fails if memory runs out; then nothing is known
+    /// Adds copies of these labels after its own, and drops the current label. Fails if memory runs out; then nothing is known
     /// of its labels.
     pub fn append(&mut self, labels: &LabelText) -> Result<(), AllocError>
         ensures appended { OnOk result (self.new ≡ record {
@@ -245,15 +245,15 @@ impl LabelText {
         self.is_listed = may_take_name(self.is_listed, self.name, self.value);
         self.name = None;
         self.value = None;
-        if labels.places.as_slice().is_empty() {
+        if labels.spans.as_slice().is_empty() {
             return Ok(());
         }
         let are_listed = self.is_listed
             && may_take_name(labels.is_listed, labels.name, labels.value);
         self.is_listed = false;
-        let is_first = self.places.as_slice().is_empty();
+        let is_first = self.spans.as_slice().is_empty();
         let by = append_further_list(&mut self.text, is_first, labels.text.as_slice())?;
-        push_after(&mut self.places, self.text.as_slice(), by, &labels.places)?;
+        push_after(&mut self.spans, self.text.as_slice(), by, &labels.spans)?;
         self.is_listed = are_listed;
         Ok(())
     }
@@ -263,7 +263,7 @@ impl LabelText {
         ensures set { OnOk result (self.new ≡ record self.old { name = Some name.now }) }
         ensures kept { OnErr result (self.new ≡ self.old) }
     {
-        let part = append_name(&mut self.text, self.places.as_slice().is_empty(), name)?;
+        let part = append_name(&mut self.text, self.spans.as_slice().is_empty(), name)?;
         self.is_listed = may_take_name(self.is_listed, self.name, self.value);
         self.name = Some(part);
         Ok(())
@@ -290,7 +290,7 @@ impl LabelText {
         }) }
         ensures kept { OnErr result (self.new ≡ self.old) }
     {
-        push_place(&mut self.places, self.name, self.value)?;
+        push_span(&mut self.spans, self.name, self.value)?;
         self.is_listed = may_end(self.is_listed, self.name, self.value);
         self.name = None;
         self.value = None;
@@ -319,7 +319,7 @@ impl LabelText {
         requires { from ≤ length self.now.labels }
         ensures { IfOk result (λ pairs. map shown_label pairs.items ≡ drop from self.now.labels) }
     {
-        pairs_at(alloc, self.text.as_slice(), &self.places[from..])
+        pairs_at(alloc, self.text.as_slice(), &self.spans[from..])
     }
 }
 
@@ -333,10 +333,10 @@ impl<O: Output> LabelSource<O> for LabelText {
     #[tactic(auto, using(crate::proofs::GrownLemmas::grown))]
     fn append_before(&self, text: &mut O, after: &[u8]) -> Result<(), AllocError> {
         if !self.is_listed || self.name.is_some() || self.value.is_some() {
-            append_placed_list(text, self.text.as_slice(), &self.places)?;
+            append_labels_at(text, self.text.as_slice(), &self.spans)?;
             return text.put(after);
         }
-        if self.places.as_slice().is_empty() {
+        if self.spans.as_slice().is_empty() {
             text.put_three(self.text.as_slice(), b"", after)
         } else {
             text.put_three(self.text.as_slice(), b"\"", after)

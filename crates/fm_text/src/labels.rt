@@ -5,11 +5,11 @@ ghost use Rattle.fm_grammar.specs.Exposition.{Label};
 ghost use Rattle.fm_grammar.specs.Spelling.{escaped, label_text, label_list_text, in_braces};
 ghost use Rattle.fm_exposition.specs.Samples.{labels_of};
 ghost use Rattle.fm_text.specs.inside.Grown.{Grows};
-ghost use Rattle.fm_text.specs.inside.LabelTexts.{labels_in, IsPlace};
+ghost use Rattle.fm_text.specs.inside.LabelTexts.{labels_in, IsSpan};
 
 use crate::escaping::append_escaped;
 use crate::output::Output;
-use crate::places::{Place, part_at};
+use crate::spans::{LabelSpan, part_at};
 use crate::plain::is_plain;
 use std::alloc::AllocError;
 
@@ -120,18 +120,18 @@ fn append_label_list<O: Output>(text: &mut O, labels: &[(String, String)]) -> Re
 }
 
 /// Appends labels that are kept in another text, with commas between them.
-pub fn append_placed_list<O: Output>(
+pub fn append_labels_at<O: Output>(
     text: &mut O,
     raw: &[u8],
-    places: &[Place],
+    spans: &[LabelSpan],
 ) -> Result<(), AllocError>
-    requires { AllByRecursion (IsPlace raw.now) places.now }
+    requires { AllByRecursion (IsSpan raw.now) spans.now }
     ensures { OnOk result (Grows (O.stands_for text.old) (O.stands_for text.new)
-        (label_list_text (labels_in raw.now places.now))) }
+        (label_list_text (labels_in raw.now spans.now))) }
 {
-    for i in 0..places.len() {
-        let name = part_at(raw, places[i].name);
-        append_separated(text, separator(i), name, part_at(raw, places[i].value))?;
+    for i in 0..spans.len() {
+        let name = part_at(raw, spans[i].name);
+        append_separated(text, separator(i), name, part_at(raw, spans[i].value))?;
     }
     Ok(())
 }

@@ -1,4 +1,4 @@
--- The front of a line, and a line that is appended behind it.
+-- The front of a line, and a line that is appended after it.
 use Rattle.std.proofs.Common.{◌≡◌, ◌<◌, List, [], ◌∷◌, ◌++◌, length, codes, append_assoc, append-nil, arith, ap, sym, refl, ◌∙◌}
 use Rattle.fm_grammar.specs.Exposition.{Text, Label, Sample}
 use Rattle.fm_grammar.specs.declared.SampleKind.{SampleKind}
@@ -15,7 +15,7 @@ use Rattle.fm_writer.proofs.RowLemmas.{after_value}
 after_is : (name suffix front list value time exemplar : Text) → ((name ++ (suffix ++ (codes "{" ++ front))) ++ (list ++ codes "} ")) ++ (value ++ (time ++ (exemplar ++ codes "\n"))) ≡ (name ++ (suffix ++ ((codes "{" ++ ((front ++ list) ++ codes "}")) ++ (codes " " ++ (value ++ (time ++ exemplar)))))) ++ codes "\n"
 after_is name suffix front list value time exemplar = simp append_assoc
 
--- what comes behind the front of a sample's line, if the sample has labels of its own
+-- what comes after the front of a sample's line, if the sample has labels of its own
 row_after : (name : Text) (common own : List Label) (s : Sample) → s.labels ≡ common ++ own → 0 < length own → (line_front name s.kind common ++ (label_list_text own ++ codes "} ")) ++ (value_text s.value ++ after_value s) ≡ sample_row name s
 unfolding sample_line in_braces line_front
 row_after name common own s is more =
@@ -38,7 +38,7 @@ front_listed name kind (label ∷ labels) begun new more start list =
     ∙ append_assoc name (suffix_of kind ++ codes "{") after
     ∙ ap (λ (t : Text). name ++ t) (append_assoc (suffix_of kind) (codes "{") after)
 
--- a line that was appended behind its front is the line of a sample
+-- a line that was appended after its front is the line of a sample
 pub row_pushed : (old new front name : Text) (common own : List Label) (s : Sample) → s.labels ≡ common ++ own → 0 < length own → front ≡ line_front name s.kind common → Grown old new ((front ++ (label_list_text own ++ codes "} ")) ++ (value_text s.value ++ after_value s)) → OutputText new ≡ appended name (OutputText old) (s ∷ [])
 row_pushed old new front name common own s is more front_is grown =
     let row : (front ++ (label_list_text own ++ codes "} ")) ++ (value_text s.value ++ after_value s) ≡ sample_row name s =

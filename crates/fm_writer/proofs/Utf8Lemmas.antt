@@ -24,8 +24,8 @@ use Rattle.fm_grammar.proofs.Words.{IsWordByte, suffix_bytes, type_word_bytes}
 use Rattle.fm_exposition.specs.Rows.{sample_rows, unit_row, head_rows}
 use Rattle.fm_exposition.specs.inside.DocumentRows.{family_rows, families_rows, document_rows}
 use Rattle.fm_exposition.specs.Samples.{labels_of, exemplar_of, common_labels, own_labels, samples_of}
-use Rattle.fm_exposition.specs.declared.exposition.Exemplar.{Exemplar as KeptExemplar}
-use Rattle.fm_exposition.specs.declared.exposition.Sample.{Sample as KeptSample}
+use Rattle.fm_exposition.specs.declared.exposition.Exemplar.{Exemplar as StoredExemplar}
+use Rattle.fm_exposition.specs.declared.exposition.Sample.{Sample as StoredSample}
 use Rattle.fm_writer.specs.inside.Utf8.{AreUtf8Labels, IsUtf8Sample, IsUtf8Family}
 use Rattle.fm_writer.proofs.Utf8Escapes.{utf8_ascii, utf8_bytes, utf8_escaped}
 
@@ -131,18 +131,18 @@ labels_utf8 : (pairs : List (String Global × String Global)) → AreUtf8Labels 
 labels_utf8 [] = tt
 labels_utf8 (pair ∷ pairs) = (IsUtf8-string_bytes pair.1, labels_utf8 pairs)
 
-exemplar_kept : (x : Option KeptExemplar) → IfSome (option_map exemplar_of x) (λ exemplar. AreUtf8Labels exemplar.labels)
-exemplar_kept None = tt
-exemplar_kept (Some x) = labels_utf8 x.labels.items
+stored_exemplar : (x : Option StoredExemplar) → IfSome (option_map exemplar_of x) (λ exemplar. AreUtf8Labels exemplar.labels)
+stored_exemplar None = tt
+stored_exemplar (Some x) = labels_utf8 x.labels.items
 
-pub samples_kept : (samples : List KeptSample) → AllByRecursion IsUtf8Sample (samples_of samples)
-samples_kept [] = tt
-samples_kept (s ∷ samples) = (
+pub stored_samples : (samples : List StoredSample) → AllByRecursion IsUtf8Sample (samples_of samples)
+stored_samples [] = tt
+stored_samples (s ∷ samples) = (
   record {
     labels = all_append (λ label. IsUtf8 label.value) (common_labels s) (own_labels s) (labels_utf8 (arc_value s.common).items) (labels_utf8 s.own.items);
-    exemplar = exemplar_kept s.exemplar;
+    exemplar = stored_exemplar s.exemplar;
   },
-  samples_kept samples,
+  stored_samples samples,
 )
 
 -- within a loop: the items so far, and all of them

@@ -38,7 +38,7 @@ fn shared(alloc: Global, labels: &LabelText) -> Result<CommonLabels, AllocError>
 fn keep(alloc: Global, store: &mut SampleStore, sample: NewSample<'_>) -> Result<(), AllocError>
     requires { store.old.common ≡ sample.common.now.labels }
     ensures common { store.new.common ≡ store.old.common }
-    ensures kept { OnOk result
+    ensures samples { OnOk result
         (store.new.samples ≡ store.old.samples ++ new_sample sample.entry ∷ []) }
 {
     let own = sample.own.to_owned(alloc)?;
@@ -72,7 +72,7 @@ fn append_row_in_blocks(
     blocks.settle()
 }
 
-// Appends the line of a sample, or only what comes behind its front, if that was rendered before.
+// Appends the line of a sample, or only what comes after its front, if that was rendered before.
 fn append_row(
     text: &mut GrowingText,
     name: &str,

@@ -63,20 +63,20 @@ impl BoundLabel {
 
 // The label of a point's bucket at this index. If the label that is kept there has another bound, a new one
 // takes its place, and those after it are dropped. Fails if memory runs out.
-pub(crate) fn kept_label<'a>(
+pub(crate) fn label_of_bucket<'a>(
     alloc: Global,
-    kept: &'a mut Vec<BoundLabel>,
+    labels: &'a mut Vec<BoundLabel>,
     index: usize,
     bucket: &Bucket,
 ) -> Result<&'a LabelText, AllocError>
     ensures { IfOk result (λ text. text.now.labels ≡ bound_label bucket.now.upper_bound ∷ []) }
 {
-    let at = index.min(kept.len());
-    if at < kept.len() && kept[at].is_of(bucket) {
-        return Ok(kept[at].text());
+    let at = index.min(labels.len());
+    if at < labels.len() && labels[at].is_of(bucket) {
+        return Ok(labels[at].text());
     }
     let label = BoundLabel::new(alloc, bucket)?;
-    kept.truncate(at);
-    kept.push(label)?;
-    Ok(kept[at].text())
+    labels.truncate(at);
+    labels.push(label)?;
+    Ok(labels[at].text())
 }

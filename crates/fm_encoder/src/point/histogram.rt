@@ -17,7 +17,7 @@ ghost use Rattle.fm_encoder.specs.inside.BucketSteps.{HasBuckets, BeginsBuckets,
 
 use crate::exemplar::{EncodeExemplar, exemplar_given};
 use crate::point::PointEncoder;
-use crate::point::bound_label::kept_label;
+use crate::point::bound_label::label_of_bucket;
 use crate::point::totals::count_value;
 use fm_encode_error::EncodeError;
 use fm_exposition::Exemplar;
@@ -97,7 +97,7 @@ impl PointEncoder {
     fn bucket_front(&mut self) -> Result<GrowingText, EncodeError>
         ensures rendered { IfOk result
             (λ front. front ≡ line_front self.old.setting.name BucketKind self.old.common) }
-        ensures kept { OnOk result (self.new ≡ self.old) }
+        ensures same { OnOk result (self.new ≡ self.old) }
         ensures refused { IfErr result
             (λ e. (e ≡ EncodeError.Memory) × (self.new ≡ record self.old { refused = Some e })) }
     {
@@ -186,7 +186,7 @@ impl PointEncoder {
             { exemplar = option_map exemplar_of exemplar })
             self.old self.new) self.new.refused result }
     {
-        let Ok(own) = kept_label(self.alloc, &mut self.bounds, index, bucket) else {
+        let Ok(own) = label_of_bucket(self.alloc, &mut self.bounds, index, bucket) else {
             return self.refused.refuse(EncodeError::Memory);
         };
         let sample = NewSample {

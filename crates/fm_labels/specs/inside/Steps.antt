@@ -11,7 +11,7 @@ use Rattle.fm_labels.specs.Refusals.{own_refusal}
 -- The end of a label, after its source returned `visited`: a whole label is written, an own error is
 -- refused, and so is a malformed label.
 pub record EndsLabel (visited : Result (Unit {0}) EncodeError) (old new : GatheredPieces) : Type 0 where
-  pub type_kept : new.metric_type ≡ old.metric_type
+  pub same_type : new.metric_type ≡ old.metric_type
   pub kept : (k : EncodeError) → old.refused ≡ Some k → new ≡ old
   pub visited_ok : old.refused ≡ None → new.refused ≡ None → visited ≡ Ok tt
   pub pieces : old.refused ≡ None → new.refused ≡ None → new.pieces ≡ []

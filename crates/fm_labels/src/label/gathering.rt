@@ -39,7 +39,7 @@ impl LabelSetEncoder {
 
     /// Replaces its labels by copies of these, as if nothing had been refused. If memory runs out, nothing is known of its labels.
     pub fn restart(&mut self, before: &LabelText) -> Result<(), AllocError>
-        ensures type_kept { self.new.metric_type ≡ self.old.metric_type }
+        ensures same_type { self.new.metric_type ≡ self.old.metric_type }
         ensures restarted { OnOk result
             (self.new ≡ record self.old { labels = before.now.labels; refused = None }) }
     {
@@ -58,7 +58,7 @@ impl LabelSetEncoder {
 
     /// Adds copies of these labels without a test. If memory runs out, nothing is known of its labels.
     pub fn append(&mut self, labels: &LabelText) -> Result<(), AllocError>
-        ensures type_kept { self.new.metric_type ≡ self.old.metric_type }
+        ensures same_type { self.new.metric_type ≡ self.old.metric_type }
         ensures appended { OnOk result
             (self.new ≡ record self.old { labels = self.old.labels ++ labels.now.labels }) }
     {

@@ -15,9 +15,9 @@ Lacks byte text = (i : ℕ) → i < length text → get_or text i 0 ≢ byte
 -- the first line and the text after its line feed, or that there is no line feed
 abbrev pub IsLineCut : Text → Option (Bor Text × Bor Text) → Type 0
 IsLineCut text None = Lacks 10 text
-IsLineCut text (Some (front, behind)) = (text ≡ front.now ++ (10 ∷ behind.now)) × Lacks 10 front.now
+IsLineCut text (Some (front, after)) = (text ≡ front.now ++ (10 ∷ after.now)) × Lacks 10 front.now
 
 -- a label's name and the text after its equals sign, or that the text begins with no label
 abbrev pub IsNameCut : Text → Option (Bor Text × Bor Text) → Type 0
 IsNameCut text None = (label : Label) (rest : Text) → IsLabelName label.name → text ≢ label_text label ++ rest
-IsNameCut text (Some (name, behind)) = IsLabelName name.now × ((text ≡ name.now ++ (61 ∷ behind.now)) × Lacks 61 name.now)
+IsNameCut text (Some (name, after)) = IsLabelName name.now × ((text ≡ name.now ++ (61 ∷ after.now)) × Lacks 61 name.now)

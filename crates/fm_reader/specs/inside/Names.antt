@@ -33,8 +33,8 @@ HasNames set names = (name : Text) → (has set name ≡ false → IsFresh name 
 
 -- the set contains this name and those before, and the name was new or not
 abbrev pub IsNoted : BTreeSet (Bor Text) → Text → Bool → BTreeSet (Bor Text) → Type 0
-IsNoted before name true after = (names : List Text) → HasNames before names → IsFresh name names × HasNames after (names ++ (name ∷ []))
-IsNoted before name false after = (names : List Text) → HasNames before names → (IsFresh name names → ⊥) × HasNames after names
+IsNoted before name true closing = (names : List Text) → HasNames before names → IsFresh name names × HasNames closing (names ++ (name ∷ []))
+IsNoted before name false closing = (names : List Text) → HasNames before names → (IsFresh name names → ⊥) × HasNames closing names
 
 -- the names with the one that was found
 abbrev pub with_found : List Text → Option (Text × MetricType) → List Text
@@ -43,4 +43,4 @@ with_found names (Some (name, metric_type)) = names ++ (name ∷ [])
 
 -- if the set has the families' names: a new name and its type were found, and the name was added
 abbrev pub FoundNoted : BTreeSet (Bor Text) → Text → Option (Text × MetricType) → BTreeSet (Bor Text) → Type 0
-FoundNoted before line found after = (families : List Family) → HasNames before (names_of families) → FoundNewType families line found × HasNames after (with_found (names_of families) found)
+FoundNoted before line found closing = (families : List Family) → HasNames before (names_of families) → FoundNewType families line found × HasNames closing (with_found (names_of families) found)

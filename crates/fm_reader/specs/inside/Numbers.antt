@@ -18,11 +18,11 @@ FoundFixed text None = (z : ℤ) → IsBetween (2 ^ 127) (2 ^ 127) z → text �
 FoundFixed text (Some z) = IsBetween (2 ^ 127) (2 ^ 127) z × (text ≡ fixed_text z)
 
 -- the value of the digit at an index, and zero if it is missing
-abbrev pub place : Text → ℕ → ℕ
-place text i = get_or text i 48 - 48
+abbrev pub digit_at : Text → ℕ → ℕ
+digit_at text i = get_or text i 48 - 48
 
 abbrev pub places_3 : Text → ℕ
-places_3 text = place text 0 * 100 + place text 1 * 10 + place text 2
+places_3 text = digit_at text 0 * 100 + digit_at text 1 * 10 + digit_at text 2
 
 abbrev pub places_6 : Text → ℕ
-places_6 text = place text 0 * 100000 + place text 1 * 10000 + place text 2 * 1000 + place text 3 * 100 + place text 4 * 10 + place text 5
+places_6 text = digit_at text 0 * 100000 + digit_at text 1 * 10000 + digit_at text 2 * 1000 + digit_at text 3 * 100 + digit_at text 4 * 10 + digit_at text 5

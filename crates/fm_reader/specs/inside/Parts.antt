@@ -21,9 +21,9 @@ abbrev pub IsKindFront : MetricType → Text → Option (SampleKind × Text) →
 IsKindFront metric_type text None = (kind : SampleKind) (rest : Text) → Contains (kinds_of metric_type) kind → EndsName rest → text ≢ suffix_of kind ++ rest
 IsKindFront metric_type text (Some (kind, rest)) = Contains (kinds_of metric_type) kind × EndsName rest × (text ≡ suffix_of kind ++ rest)
 
-abbrev pub IsBehindSuffix : SampleKind → Text → Option Text → Type 0
-IsBehindSuffix kind text None = (rest : Text) → EndsName rest → text ≢ suffix_of kind ++ rest
-IsBehindSuffix kind text (Some rest) = EndsName rest × (text ≡ suffix_of kind ++ rest)
+abbrev pub IsAfterSuffix : SampleKind → Text → Option Text → Type 0
+IsAfterSuffix kind text None = (rest : Text) → EndsName rest → text ≢ suffix_of kind ++ rest
+IsAfterSuffix kind text (Some rest) = EndsName rest × (text ≡ suffix_of kind ++ rest)
 
 abbrev pub seen_kind : Option (SampleKind × Bor Text) → Option (SampleKind × Text)
 seen_kind None = None

@@ -51,10 +51,10 @@ fn read_body(alloc: Global, text: &str) -> Result<Option<Exemplar>, AllocError>
     let Some(value) = read_small(token) else {
         return Ok(None);
     };
-    let Some((time, behind)) = read_time(tail) else {
+    let Some((time, after)) = read_time(tail) else {
         return Ok(None);
     };
-    if behind.is_some() {
+    if after.is_some() {
         return Ok(None);
     }
     Ok(Some(make::exemplar(labels, value, time)))

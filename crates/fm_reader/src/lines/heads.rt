@@ -13,10 +13,10 @@ use std::alloc::{AllocError, Global};
 pub(crate) fn read_type(line: &str) -> Option<(&str, MetricType)>
     ensures { FoundType line.now (option_map shown_type result) }
 {
-    let Some(behind) = line.strip_prefix("# TYPE ") else {
+    let Some(after) = line.strip_prefix("# TYPE ") else {
         return None;
     };
-    let Some((name, word)) = behind.split_once(' ') else {
+    let Some((name, word)) = after.split_once(' ') else {
         return None;
     };
     if !is_snake_case(name) {
@@ -34,10 +34,10 @@ pub(crate) fn read_type(line: &str) -> Option<(&str, MetricType)>
 pub(crate) fn read_help(alloc: Global, name: &str, line: &str) -> Result<Option<String>, AllocError>
     ensures { IfOk result (λ found. FoundHelp line.now name.now (option_map string_bytes found)) }
 {
-    let Some(behind) = line.strip_prefix("# HELP ") else {
+    let Some(after) = line.strip_prefix("# HELP ") else {
         return Ok(None);
     };
-    let Some(spaced) = behind.strip_prefix(name) else {
+    let Some(spaced) = after.strip_prefix(name) else {
         return Ok(None);
     };
     let Some(text) = spaced.strip_prefix(' ') else {
@@ -56,10 +56,10 @@ pub(crate) fn read_help(alloc: Global, name: &str, line: &str) -> Result<Option<
 pub(crate) fn read_unit<'a>(name: &str, metric_type: MetricType, line: &'a str) -> Option<&'a str>
     ensures { FoundUnit line.now name.now metric_type (option_copied result) }
 {
-    let Some(behind) = line.strip_prefix("# UNIT ") else {
+    let Some(after) = line.strip_prefix("# UNIT ") else {
         return None;
     };
-    let Some(spaced) = behind.strip_prefix(name) else {
+    let Some(spaced) = after.strip_prefix(name) else {
         return None;
     };
     let Some(unit) = spaced.strip_prefix(' ') else {

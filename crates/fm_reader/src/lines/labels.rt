@@ -43,13 +43,13 @@ pub(crate) fn read_braces(
 ) -> Result<Option<(Vec<(String, String)>, &str)>, AllocError>
     ensures { IfOk result (λ found. IsBracesFront text.now (front_labels found)) }
 {
-    let Some((labels, behind)) = read_labels(alloc, text)? else {
+    let Some((labels, after)) = read_labels(alloc, text)? else {
         return Ok(None);
     };
     if !are_different(alloc, &labels)? {
         return Ok(None);
     }
-    let Some(rest) = behind.strip_prefix(' ') else {
+    let Some(rest) = after.strip_prefix(' ') else {
         return Ok(None);
     };
     Ok(Some((labels, rest)))
@@ -78,11 +78,11 @@ fn few_are_different(labels: &[(String, String)]) -> bool
     ensures { IsTrue result ↔ AllDifferent (map (λ label. label.name) (labels_of labels.now)) }
 {
     let mut rest = labels;
-    while let Some((label, behind)) = rest.split_first() {
-        if has_name(behind, label.0.as_str()) {
+    while let Some((label, after)) = rest.split_first() {
+        if has_name(after, label.0.as_str()) {
             return false;
         }
-        rest = behind;
+        rest = after;
     }
     true
 }

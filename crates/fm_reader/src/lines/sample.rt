@@ -2,7 +2,7 @@
 ghost use Rattle.std.specs.Prelude.{◌≡◌, ◌↔◌, IsTrue, IfOk};
 ghost use Rattle.std.specs.Option.{option_map, option_copied};
 ghost use Rattle.fm_reader.specs.inside.Lines.{FoundSample};
-ghost use Rattle.fm_reader.specs.inside.Parts.{EndsName, IsBehindSuffix, IsKindFront, seen_kind};
+ghost use Rattle.fm_reader.specs.inside.Parts.{EndsName, IsAfterSuffix, IsKindFront, seen_kind};
 ghost use Rattle.fm_reader.specs.inside.Samples.{read_sample_of};
 
 use crate::lines::labels::read_block;
@@ -38,10 +38,10 @@ pub(crate) fn read_sample(
     ensures { IfOk result
         (λ found. FoundSample line.now name.now metric_type (option_map read_sample_of found)) }
 {
-    let Some(behind) = line.strip_prefix(name) else {
+    let Some(after) = line.strip_prefix(name) else {
         return Ok(None);
     };
-    let Some((kind, block)) = read_kind(metric_type, behind) else {
+    let Some((kind, block)) = read_kind(metric_type, after) else {
         return Ok(None);
     };
     let Some((labels, text)) = read_block(alloc, block)? else {
@@ -64,7 +64,7 @@ fn read_kind(metric_type: MetricType, text: &str) -> Option<(SampleKind, &str)>
     ensures { IsKindFront metric_type text.now (seen_kind result) }
 {
     for kind in metric_type.kinds() {
-        if let Some(rest) = behind_suffix(*kind, text) {
+        if let Some(rest) = after_suffix(*kind, text) {
             return Some((*kind, rest));
         }
     }
@@ -72,8 +72,8 @@ fn read_kind(metric_type: MetricType, text: &str) -> Option<(SampleKind, &str)>
 }
 
 // The text after the suffix of a kind.
-fn behind_suffix(kind: SampleKind, text: &str) -> Option<&str>
-    ensures { IsBehindSuffix kind text.now (option_copied result) }
+fn after_suffix(kind: SampleKind, text: &str) -> Option<&str>
+    ensures { IsAfterSuffix kind text.now (option_copied result) }
 {
     let Some(rest) = text.strip_prefix(kind.suffix()) else {
         return None;

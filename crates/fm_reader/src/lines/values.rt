@@ -96,9 +96,9 @@ pub(crate) fn read_time(tail: Option<&str>) -> Option<(Option<u128>, Option<&str
     if rest.starts_with('#') {
         return Some((None, Some(rest)));
     }
-    let (token, behind) = split_token(rest);
+    let (token, after) = split_token(rest);
     let Some(millis) = read_millis(token) else {
         return None;
     };
-    Some((Some(millis), behind))
+    Some((Some(millis), after))
 }

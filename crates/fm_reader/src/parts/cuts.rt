@@ -55,6 +55,6 @@ pub(crate) fn split_line(text: &str) -> Option<(&str, &str)>
         return None;
     }
     let (front, _) = text.split_at(end);
-    let (_, behind) = text.split_at(end + 1);
-    Some((front, behind))
+    let (_, after) = text.split_at(end + 1);
+    Some((front, after))
 }

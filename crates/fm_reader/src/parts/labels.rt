@@ -11,9 +11,9 @@ use std::alloc::{AllocError, Global};
 pub(crate) fn read_escaped(alloc: Global, text: &str) -> Result<Option<(String, &str)>, AllocError>
     ensures { IfOk result (λ found. IsEscapedFront text.now (seen found)) }
 {
-    let (plain, behind) = text.split_at(plain_end(text.as_bytes()));
+    let (plain, after) = text.split_at(plain_end(text.as_bytes()));
     let mut value = String::from_str(alloc, plain)?;
-    let mut rest = behind;
+    let mut rest = after;
     loop {
         let mut chars = rest.chars();
         let Some(c) = chars.next() else {
@@ -47,16 +47,16 @@ pub(crate) fn read_label(
 ) -> Result<Option<((String, String), &str)>, AllocError>
     ensures { IfOk result (λ found. IsLabelFront text.now (seen_label found)) }
 {
-    let Some((name, behind)) = split_name(text) else {
+    let Some((name, after)) = split_name(text) else {
         return Ok(None);
     };
-    let Some(quoted) = behind.strip_prefix('"') else {
+    let Some(quoted) = after.strip_prefix('"') else {
         return Ok(None);
     };
-    let Some((value, after)) = read_escaped(alloc, quoted)? else {
+    let Some((value, closing)) = read_escaped(alloc, quoted)? else {
         return Ok(None);
     };
-    let Some(rest) = after.strip_prefix('"') else {
+    let Some(rest) = closing.strip_prefix('"') else {
         return Ok(None);
     };
     let name = String::from_str(alloc, name)?;
@@ -76,14 +76,14 @@ pub(crate) fn read_labels(
     }
     let mut rest = text;
     loop {
-        let Some((label, behind)) = read_label(alloc, rest)? else {
+        let Some((label, after)) = read_label(alloc, rest)? else {
             return Ok(None);
         };
         labels.push(label)?;
-        if let Some(last) = behind.strip_prefix('}') {
+        if let Some(last) = after.strip_prefix('}') {
             return Ok(Some((labels, last)));
         }
-        let Some(more) = behind.strip_prefix(',') else {
+        let Some(more) = after.strip_prefix(',') else {
             return Ok(None);
         };
         rest = more;

@@ -40,6 +40,6 @@ pub(crate) fn split_name(text: &str) -> Option<(&str, &str)>
         return None;
     }
     let (name, _) = text.split_at(end);
-    let (_, behind) = text.split_at(end + 1);
-    Some((name, behind))
+    let (_, after) = text.split_at(end + 1);
+    Some((name, after))
 }

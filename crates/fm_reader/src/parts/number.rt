@@ -135,11 +135,11 @@ fn magnitude_in(text: &str) -> Option<u128>
 }
 
 // The digit at an index after the point, and zero if it is missing.
-fn digit_at(decimals: &[u8], place: usize) -> u32
-    ensures digit { result ≡ get_or decimals.now place 48 - 48 }
+fn digit_at(decimals: &[u8], index: usize) -> u32
+    ensures digit { result ≡ get_or decimals.now index 48 - 48 }
     ensures small { result ≤ 207 }
 {
-    match decimals.get(place) {
+    match decimals.get(index) {
         Some(byte) => u32::from(byte.saturating_sub(b'0')),
         None => 0,
     }

@@ -5,22 +5,22 @@ use Rattle.std.specs.Str.{IsUtf8}
 use Rattle.std.specs.Option.{option_map}
 use Rattle.fm_grammar.specs.Exposition.{Text, Label}
 use Rattle.fm_grammar.specs.Spelling.{escaped, label_list_text}
-use Rattle.fm_text.specs.declared.places.Part.{Part}
-use Rattle.fm_text.specs.declared.places.Place.{Place}
+use Rattle.fm_text.specs.declared.spans.Part.{Part}
+use Rattle.fm_text.specs.declared.spans.LabelSpan.{LabelSpan}
 
--- the name or value at this place
+-- the name or value in this part
 abbrev pub part_in : Text → Part → Text
 part_in text part = between part.start part.end text
 
--- the label at this place
-abbrev pub label_in : Text → Place → Label
-label_in text place = record { name = part_in text place.name; value = part_in text place.value }
+-- the label at this span
+abbrev pub label_in : Text → LabelSpan → Label
+label_in text span = record { name = part_in text span.name; value = part_in text span.value }
 
-abbrev pub labels_in : Text → List Place → List Label
-labels_in text places = map (label_in text) places
+abbrev pub labels_in : Text → List LabelSpan → List Label
+labels_in text spans = map (label_in text) spans
 
-abbrev pub names_in : Text → List Place → List Text
-names_in text places = map (λ label. label.name) (labels_in text places)
+abbrev pub names_in : Text → List LabelSpan → List Text
+names_in text spans = map (λ label. label.name) (labels_in text spans)
 
 -- a part of the text that is text itself
 pub record IsPart (text : Text) (part : Part) : Type 0 where
@@ -28,13 +28,13 @@ pub record IsPart (text : Text) (part : Part) : Type 0 where
   pub within : part.end ≤ length text
   pub utf8 : IsUtf8 (part_in text part)
 
-pub record IsPlace (text : Text) (place : Place) : Type 0 where
-  pub name : IsPart text place.name
-  pub value : IsPart text place.value
+pub record IsSpan (text : Text) (span : LabelSpan) : Type 0 where
+  pub name : IsPart text span.name
+  pub value : IsPart text span.value
 
--- all places are within the text, those of the current label too
-pub record AreParts (text : Text) (ps : List Place) (n v : Option Part) : Type 0 where
-  pub places : AllByRecursion (IsPlace text) ps
+-- all spans are within the text, those of the current label too
+pub record AreParts (text : Text) (ps : List LabelSpan) (n v : Option Part) : Type 0 where
+  pub spans : AllByRecursion (IsSpan text) ps
   pub name : IfSome n (IsPart text)
   pub value : IfSome v (IsPart text)
 
@@ -48,7 +48,7 @@ abbrev pub name_in_list : Bool → Text → Text
 name_in_list true n = [] ++ (n ++ codes "=\"")
 name_in_list false n = codes "\"," ++ (n ++ codes "=\"")
 
--- what comes behind such a list for a further one to follow: if a label precedes it, the quote that ends that one, and a comma
+-- what comes after such a list for a further one to follow: if a label precedes it, the quote that ends that one, and a comma
 abbrev pub further_list : Bool → Text → Text
 further_list true list = list
 further_list false list = codes "\"" ++ (codes "," ++ list)
@@ -66,7 +66,7 @@ AreListed true n v text labels = IsListed n v text labels
 AreListed false n v text labels = Unit {0}
 
 -- all parts are within the text, which may be the list of the labels
-pub record AreWithin (is_listed : Bool) (text : Text) (ps : List Place) (n v : Option Part) : Type 0 where
+pub record AreWithin (is_listed : Bool) (text : Text) (ps : List LabelSpan) (n v : Option Part) : Type 0 where
   pub parts : AreParts text ps n v
   pub listed : AreListed is_listed (option_map (part_in text) n) (option_map (part_in text) v) text (labels_in text ps)
 
@@ -81,6 +81,6 @@ abbrev pub whole_label : Option Text → Option Text → List Label
 whole_label (Some n) (Some v) = record { name = n; value = v } ∷ []
 whole_label _ _ = []
 
-abbrev pub whole_place : Option Part → Option Part → List Place
-whole_place (Some n) (Some v) = record { name = n; value = v } ∷ []
-whole_place _ _ = []
+abbrev pub whole_span : Option Part → Option Part → List LabelSpan
+whole_span (Some n) (Some v) = record { name = n; value = v } ∷ []
+whole_span _ _ = []

@@ -13,7 +13,7 @@ invariant_of-self g c =
     record {
       name = c.self.invariant.name;
       labels = subst AreLabels (sym read.gathered.1) (AreLabels-written type _ read.gathered.0);
-      free = subst (λ (t : MetricType). AreFree t labels) (sym read.type_kept) (subst (AreFree type) (sym read.gathered.1) (AreFree-written type [] _ read.gathered.0));
+      free = subst (λ (t : MetricType). AreFree t labels) (sym read.same_type) (subst (AreFree type) (sym read.gathered.1) (AreFree-written type [] _ read.gathered.0));
       shared = rw c.unshare.ensures tt;
       time = c.self.invariant.time;
       none = c.self.invariant.none;

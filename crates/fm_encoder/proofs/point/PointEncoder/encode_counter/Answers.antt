@@ -39,6 +39,6 @@ returns-in-Err-exemplar_given g c =
     let begun = none_from_answer _ c.begin_point.ensures.returned c.in_ok-begin_point.was in
     let point = CounterPoint numbers exemplars (option_map millis c.args.created) in
     rw (refuses.returned) (record {
-      emitted = EmitsPoints-refused point _ c.args.self.now c.begin_point.new.self _ error c.begin_point.ensures.emitted begun (λ i. record (c.self.view_is i) { refused = refuses.kept i }) either;
-      returned = rw (refuses.kept) refl;
+      emitted = EmitsPoints-refused point _ c.args.self.now c.begin_point.new.self _ error c.begin_point.ensures.emitted begun (λ i. record (c.self.view_is i) { refused = refuses.error i }) either;
+      returned = rw (refuses.error) refl;
     })

@@ -2,22 +2,22 @@ use Rattle.std.proofs.Common.{◌<◌, ◌+◌, sym, length, arith}
 use Rattle.std.proofs.lemmas.Result.{err_from_is_err_and}
 use Rattle.fm_labels.specs.WrittenLabels.{AreWritten}
 use Rattle.fm_encoder.proofs.MemberLemmas.{EmitsMembers-weaker}
-use Rattle.fm_family.proofs.KeptLemmas.{kept_count, kept_at, lent_if}
+use Rattle.fm_family.proofs.WrittenLemmas.{written_count, written_at, lent_if}
 use Rattle.fm_family.proofs.MemberLemmas.{accepted, offers_member}
 use Rattle.fm_family.proofs.member_map.MemberMap.encode_members.Goals as goal
 
 pub index-requires : goal.index-requires
 index-requires g c =
     let inside = c.self.inside in
-    let counted = kept_count g.LS.EncodeLabelSet.labels inside.members.entries inside.labels.items c.self.invariant in
+    let counted = written_count g.LS.EncodeLabelSet.labels inside.members.entries inside.labels.items c.self.invariant in
     let within : c.loop-index.index < length inside.members.entries = omega arith in
     omega arith
 
 pub encode_member-requires : goal.encode_member-requires
 encode_member-requires g c =
     let inside = c.self.inside in let labels = g.LS.EncodeLabelSet.labels in
-    let kept = kept_at labels inside.members.entries inside.labels.items c.loop-index.index (c.in-Some.labels.now, c.in-Some.metric.now) c.index.result.now c.self.invariant c.in-Some.ensures.entry c.index.ensures in
-    record { written = lent_if (AreWritten (labels c.in-Some.labels.now)) c.as_ref.result c.index.result.now c.as_ref.ensures.value kept }
+    let written = written_at labels inside.members.entries inside.labels.items c.loop-index.index (c.in-Some.labels.now, c.in-Some.metric.now) c.index.result.now c.self.invariant c.in-Some.ensures.entry c.index.ensures in
+    record { written = lent_if (AreWritten (labels c.in-Some.labels.now)) c.as_ref.result c.index.result.now c.as_ref.ensures.value written }
 
 pub loop-index-preserved : goal.loop-index-preserved
 loop-index-preserved g c =

@@ -1,6 +1,6 @@
 use Rattle.std.proofs.Common.{ap, sym, arith, swap, ◌∙◌, length}
-use Rattle.fm_family.proofs.KeptLemmas.{kept_count}
-use Rattle.fm_family.proofs.LeavingLemmas.{kept_swap, swap_same}
+use Rattle.fm_family.proofs.WrittenLemmas.{written_count}
+use Rattle.fm_family.proofs.LeavingLemmas.{written_swap, swap_same}
 use Rattle.fm_family.proofs.member_map.MemberMap.exchange.Goals as goal
 
 pub returns-then-first-second : goal.returns-then-first-second
@@ -11,11 +11,11 @@ returns-then-first-second g c =
 pub swap-requires : goal.swap-requires
 swap-requires g c =
     let inside = c.self.inside in
-    let counted = kept_count g.LS.EncodeLabelSet.labels inside.members.entries inside.labels.items c.self.invariant in
+    let counted = written_count g.LS.EncodeLabelSet.labels inside.members.entries inside.labels.items c.self.invariant in
     let seen = ap (λ m. length m.entries) c.self.view_is in
     record { i_in_bounds = omega arith; j_in_bounds = omega arith }
 
 pub invariant_of-self : goal.invariant_of-self
 invariant_of-self g c =
     let inside = c.self.inside in
-    rw (c.swap_indices.ensures.entries, c.swap.ensures.items) (kept_swap g.LS.EncodeLabelSet.labels c.args.first c.args.second inside.members.entries inside.labels.items c.self.invariant)
+    rw (c.swap_indices.ensures.entries, c.swap.ensures.items) (written_swap g.LS.EncodeLabelSet.labels c.args.first c.args.second inside.members.entries inside.labels.items c.self.invariant)

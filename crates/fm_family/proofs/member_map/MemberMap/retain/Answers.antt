@@ -1,7 +1,7 @@
 use Rattle.std.proofs.Common.{◌≡◌, ◌<◌, Bool, Some, length, slice_get, refl, sym, subst, arith, of_calls}
 use Rattle.std.specs.Fn.{Called}
 use Rattle.fm_family.specs.Members.{CalledAtMember}
-use Rattle.fm_family.proofs.RetainLemmas.{kept_none, kept_not, kept_one}
+use Rattle.fm_family.proofs.RetainLemmas.{retained_none, retained_not, retained_one}
 use Rattle.fm_family.proofs.member_map.MemberMap.retain.Goals as goal
 use Rattle.fm_family.proofs.member_map.MemberMap.retain.Goals.{then-keep, else-keep}
 
@@ -9,7 +9,7 @@ pub loop-index-init : goal.loop-index-init
 loop-index-init g c =
     record {
       callable = c.requires;
-      so_far = kept_none (CalledAtMember g.F.FnMut) c.args.keep c.args.self.now.entries;
+      so_far = retained_none (CalledAtMember g.F.FnMut) c.args.keep c.args.self.now.entries;
     }
 
 pub loop-index-preserved : goal.loop-index-preserved
@@ -17,7 +17,7 @@ loop-index-preserved g c =
     let R = CalledAtMember g.F.FnMut in
     let before = c.loop-index.keep in let after = c.keep.new.self in
     let old = c.args.self.now.entries in let now = c.loop-index.self.entries in
-    let n = c.loop-index.kept in let i = c.loop-index.index in
+    let n = c.loop-index.retained in let i = c.loop-index.index in
     let so_far = c.loop-index.invariant.so_far in
     let pair : g.row.LS.Denot × g.row.M.Denot = (c.in-Some.labels.now, c.in-Some.metric.now) in
     let read : slice_get now i ≡ Some pair = rw (← c.self-in-loop-index.view_is) (sym c.in-Some.ensures.entry) in
@@ -27,7 +27,7 @@ loop-index-preserved g c =
     record {
       callable = search of_calls;
       so_far = elim c.if-keep.branch [
-        | then-keep w ↦ rw (w.self-is, w.kept-is) (kept_one R c.args.keep before after old now n i pair so_far within read w.exchange.new.self.entries w.exchange.ensures (returned _ w.if-keep.true))
-        | else-keep w ↦ rw (w.self-is, w.kept-is) (kept_not R c.args.keep before after old now n i pair so_far within read (returned _ w.if-keep.false))
+        | then-keep w ↦ rw (w.self-is, w.retained-is) (retained_one R c.args.keep before after old now n i pair so_far within read w.exchange.new.self.entries w.exchange.ensures (returned _ w.if-keep.true))
+        | else-keep w ↦ rw (w.self-is, w.retained-is) (retained_not R c.args.keep before after old now n i pair so_far within read (returned _ w.if-keep.false))
       ];
     }

@@ -8,5 +8,5 @@ returns-in-true-true c =
     let w = rw (← c.self.view_is) at c.write_label.ensures in
     let named = sym (c.in-true-true.ensures {u = tt}) in
     let valued = sym (c.in-true-true.ensures' {u = tt}) in
-    let whole = EndsLabel-both _ labels.name labels.value _ _ c.in_default.is c.in_ok-check.ensures named valued c.self.invariant refl w.type_kept w.pieces w.labels w.refused in
+    let whole = EndsLabel-both _ labels.name labels.value _ _ c.in_default.is c.in_ok-check.ensures named valued c.self.invariant refl w.same_type w.pieces w.labels w.refused in
     record { emitted = rw (← c.self.view_is) whole; returned = w.returned }

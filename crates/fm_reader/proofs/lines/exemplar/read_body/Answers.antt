@@ -19,5 +19,5 @@ returns-in_default-read_time c =
 
 pub returns-then-is_some : goal.returns-then-is_some
 returns-then-is_some c =
-    body_more _ (labels_of c.in-Some.labels.items) c.in-Some.rest.now c.split_token.result.0.now c.split_token.result.1 c.in-Some-read_time.behind c.in-Some-read_time.time (rw c.in-Some.is at c.in_ok-labels.ensures) c.split_token.ensures c.in-Some-read_time.ensures
-    (tail_some c.in-Some-read_time.behind c.if-is_some.ensures)
+    body_more _ (labels_of c.in-Some.labels.items) c.in-Some.rest.now c.split_token.result.0.now c.split_token.result.1 c.in-Some-read_time.after c.in-Some-read_time.time (rw c.in-Some.is at c.in_ok-labels.ensures) c.split_token.ensures c.in-Some-read_time.ensures
+    (tail_some c.in-Some-read_time.after c.if-is_some.ensures)

@@ -4,13 +4,13 @@ use Rattle.fm_registry_model.specs.inside.Forests.{index_in}
 use Rattle.fm_registry_model.specs.Answer.{refusal_of}
 use Rattle.fm_registry_model.specs.inside.Paths.{path_of}
 use Rattle.fm_registry.specs.inside.Request.{call_at}
-use Rattle.fm_registry_model.proofs.ForestLemmas.{index_in-IsPlace}
+use Rattle.fm_registry_model.proofs.ForestLemmas.{index_in-IsIndex}
 use Rattle.fm_registry_model.proofs.ApplyLemmas.{apply-reply, apply-ok, apply-err}
 use Rattle.fm_registry.proofs.RequestLemmas.{call_at-pop, request-missing}
 use Rattle.fm_registry.proofs.registry.Registry.+apply.Goals as goal
 
 pub subsystem_at-requires : goal.subsystem_at-requires
-subsystem_at-requires g t c = (index_in-IsPlace _ _ _ (sym c.index_of.ensures ∙ c.in-Some-index_of.is)).there
+subsystem_at-requires g t c = (index_in-IsIndex _ _ _ (sym c.index_of.ensures ∙ c.in-Some-index_of.is)).there
 
 pub returns-in-None-index_of-clause-reply : goal.returns-in-None-index_of-clause-reply
 returns-in-None-index_of-clause-reply g t c =

@@ -29,8 +29,8 @@ returns-clause-sound g c = Grows-sound _ _ (returns-clause-grows g c)
 
 pub returns-in_err-metadata-clause-answer : goal.returns-in_err-metadata-clause-answer
 returns-in_err-metadata-clause-answer g c =
-    let kept = err_from_is_err_and c.from_residual.result c.from_residual.ensures.1 in
-    rw (kept.1, kept.2)
+    let refused = err_from_is_err_and c.from_residual.result c.from_residual.ensures.1 in
+    rw (refused.1, refused.2)
     (asked-returned c.args.self.now (asked_metric c.args.name c.args.help c.args.unit c.args.metric c.args.metric_type) (Some (seen_error c.in_err-metadata.field-0.0))
     (asked-refused c.args.self.now c.args.name c.args.help c.args.metric_type c.args.unit c.args.metric (seen_error c.in_err-metadata.field-0.0) c.in_err-metadata.ensures.answer))
 

@@ -4,7 +4,7 @@ use Rattle.fm_registry_model.specs.Tree.{find_child}
 use Rattle.fm_registry_model.proofs.CallLemmas.{subsystem-loan}
 use Rattle.std.specs.String.{string_bytes}
 use Rattle.fm_registry_model.specs.Steps.{with_named}
-use Rattle.fm_registry_model.proofs.ForestLemmas.{index_in-IsPlace}
+use Rattle.fm_registry_model.proofs.ForestLemmas.{index_in-IsIndex}
 use Rattle.fm_registry.proofs.SoundLemmas.{LoanReads-sound}
 use Rattle.fm_registry.proofs.registry.Registry.labelled_subsystem.Goals as goal
 
@@ -12,11 +12,11 @@ some_same : (x y : List ℕ) → Some x ≡ Some y → x ≡ y
 some_same x y e = cc
 
 pub subsystem_at-requires : goal.subsystem_at-requires
-subsystem_at-requires g c = (index_in-IsPlace _ _ _ c.in_ok-index.ensures.index).there
+subsystem_at-requires g c = (index_in-IsIndex _ _ _ c.in_ok-index.ensures.index).there
 
 pub returns : goal.returns
 returns g c =
-    let index = index_in-IsPlace c.add_subsystem.new.self.children (string_bytes c.args.name) c.in_ok-index.index c.in_ok-index.ensures.index in
+    let index = index_in-IsIndex c.add_subsystem.new.self.children (string_bytes c.args.name) c.in_ok-index.index c.in_ok-index.ensures.index in
     let reads = subsystem-loan c.args.self.now c.subsystem_at.result.now.registry (string_bytes c.args.name) (labels_of c.args.labels.items) c.in_ok-index.ensures.answer
     (ap (λ t. find_child t.children (string_bytes c.args.name)) (sym c.in_ok-index.ensures.ok) ∙ index.found ∙ c.subsystem_at.ensures.value) in (
       λ i. inl (

@@ -1,6 +1,6 @@
 use Rattle.std.proofs.Common.{ap, ◌∙◌, Some}
 use Rattle.fm_text.specs.inside.LabelTexts.{LabelsState}
-use Rattle.fm_text.proofs.LabelTextLemmas.{kept_named, shown_named}
+use Rattle.fm_text.proofs.LabelTextLemmas.{held_named, shown_named}
 use Rattle.fm_text.proofs.label_text.LabelText.set_name.Goals as goal
 
 pub invariant_of-self-2 : goal.invariant_of-self-2
@@ -8,7 +8,7 @@ invariant_of-self-2 c =
     let inside = c.self.inside in
     let e = c.in_ok-part.ensures in
     let next = c.may_take_name-self-inside in
-    kept_named inside.is_listed next.result inside.text _ _ inside.places.items inside.name inside.value c.in_ok-part.part c.is_empty.result next.ensures (rw c.as_slice.ensures.value at c.is_empty.ensures) e.grown e.part.0 e.part.1 c.self.invariant
+    held_named inside.is_listed next.result inside.text _ _ inside.spans.items inside.name inside.value c.in_ok-part.part c.is_empty.result next.ensures (rw c.as_slice.ensures.value at c.is_empty.ensures) e.grown e.part.0 e.part.1 c.self.invariant
 
 pub returns-clause-set : goal.returns-clause-set
 returns-clause-set c =

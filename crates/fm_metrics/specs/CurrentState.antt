@@ -4,5 +4,5 @@ use Rattle.fm_metrics.specs.declared.state_set.StateSetValue.{Ghosts as StateGho
 use Rattle.fm_metrics.specs.declared.state_set.ConstStateSet.{ConstStateSet}
 
 -- the state that a constant state set was made with
-abbrev pub kept_state : {T : Type 0} {states : StateGhosts T} {eq : EqGhosts T} → ConstStateSet T states eq → T
-kept_state metric = metric.state
+abbrev pub current_state : {T : Type 0} {states : StateGhosts T} {eq : EqGhosts T} → ConstStateSet T states eq → T
+current_state metric = metric.state
