@@ -4,13 +4,14 @@
     scripts/tested_bodies.py [CRATE..]        those of all crates, or of these
 
 A crate lists them in must-fail/tested_bodies.md, as its wrong bodies are listed (scripts/wrong_bodies.py), each with a line `tests: CRATE TEST..`, a
-crate of tests and those of its tests that fail with this body alone. It is planted in a copy of the crates, and the tests of that crate are compiled
-with run-time checks and run by `rt try --test`, which proves nothing: one of these tests has to fail. Bodies of which none names a test of another are
-planted together; if no test of one of them fails, each is tried alone, up to three times. With a line `tests: CRATE` a body is tried alone, and some
-test has to fail. A body with which a test never ends has a line `seconds: N`, after which a test has failed. A test `cases::NAME` of a program is a case
-of its cases.toml (scripts/cases.py), and `requests::N` that it asks for memory fewer than N times on the input beside it; `requests::N::TEST` says so of
-a test. With `tests: replay NAME..` scripts of bench/replay stand for tests, and one of them has to differ from its answer (scripts/replay.sh). Prints a
-line for each body, and then 'N refused, M not refused'; the status is 0 if M is 0.
+crate of tests and those of its tests that fail with this body alone; with `tests: CRATE` some test has to fail. All that name one crate of tests are
+planted in one copy of the crates, each as another branch of its functions, and the tests are compiled once, with run-time checks and no proof (`rt try
+--test`); each test runs once for each body that names it, and must pass with none (scripts/planted.c). Of a body that lies outside a function, or that
+no test refused so, the crates are compiled with it in place of what is right, up to three times. A body with which a test never ends has a line
+`seconds: N`, after which a test has failed. A test `cases::NAME` of a program is a case of its cases.toml (scripts/cases.py), and `requests::N` that it
+asks for memory fewer than N times on the input beside it; `requests::N::TEST` says so of a test. With `tests: replay NAME..` scripts of bench/replay
+stand for tests, and one of them has to differ from its answer (scripts/replay.sh). Prints a line for each body, and then 'N refused, M not refused';
+the status is 0 if M is 0.
 """
 import glob
 import os
@@ -23,10 +24,11 @@ from concurrent.futures import ThreadPoolExecutor
 
 import cases
 import kept
-from wrong_bodies import KIT, TOP, Crate, crates_of, listed
+from branches import MOST_RUN, stand_beside, tests_of
+from wrong_bodies import KIT, TOP, Crate, crates_of, listed, text_of
 
-# What one test may take beside other work, in seconds, and all with their compilation.
-MOST_RUN, MOST = "600", 3000
+# What all tests may take beside other work, with their compilation, in seconds.
+MOST = 3000
 
 
 def copied_to(folder):
@@ -38,12 +40,6 @@ def copied_to(folder):
         for part in ("src", "specs", "proofs"):
             if os.path.isdir(f"{TOP}/crates/{crate}/{part}"):
                 shutil.copytree(f"{TOP}/crates/{crate}/{part}", f"{folder}/crates/{crate}/{part}")
-
-
-def tests_of(body):
-    """The crate of tests that a body names, and the tests that fail with it alone, if it names them."""
-    crate, *tests = body.tests.split()
-    return crate, set(tests)
 
 
 def are_cases(body):
@@ -59,6 +55,30 @@ def are_scripts(body):
 def request_of(body):
     """The request for memory that a program or a test must not make, if it has to refuse a body."""
     return body.tests.partition(" requests::")[2]
+
+
+def failing_beside(bodies):
+    """For each body of one crate of tests that can stand beside the others, the tests that fail with it."""
+    with tempfile.TemporaryDirectory(prefix="tested-bodies-") as folder:
+        copied_to(folder)
+        outside, placed = stand_beside(bodies, folder, f"{folder}/results")
+        if not outside and not placed:
+            return {}
+        how = {"stdin": subprocess.DEVNULL, "stdout": subprocess.PIPE, "stderr": subprocess.STDOUT, "errors": "replace"}
+        how["env"] = {**os.environ, "RT_ALLOW_C": "planted"}
+        words = ["rt", "try", "--test", "--seconds", str(MOST)]
+        said = subprocess.run(words, cwd=f"{folder}/crates/{tests_of(bodies[0])[0]}", timeout=2 * MOST, **how).stdout
+        always = set(re.findall(r"^test (\S+) \.\.\. (?!ok$)", said, re.M))
+        if not re.search(r"^test result: ", said, re.M) or always - {test for body in outside for test in tests_of(body)[1]}:
+            last = " / ".join(said.strip().split("\n")[-3:])[:400]
+            print(f"{tests_of(bodies[0])[0]}: its bodies can't stand beside each other: {sorted(always)[:3]} {last}", flush=True)
+            return {}
+        failed = {body: always & tests_of(body)[1] for body in outside}
+        for line in text_of(f"{folder}/results").split("\n") if placed else []:
+            number, test, end = line.split() or ("", "", "")
+            if end == "failed" and test not in always:
+                failed.setdefault(placed[int(number)], set()).add(test)
+        return failed
 
 
 def fit_together(one, other):
@@ -127,10 +147,22 @@ def tried(bodies, turns=3):
     return tried(bodies, turns - 1) if turns > 1 else answers
 
 
+def is_one_of_tests(body):
+    """Whether tests have to refuse a body, and no cases, scripts or requests for memory."""
+    return not (are_cases(body) or are_scripts(body) or request_of(body))
+
+
+def tried_beside(bodies):
+    """Each of the bodies that name one crate of tests, as `tried` says."""
+    failed = failing_beside(bodies)
+    left = [body for body in bodies if not failed.get(body)]
+    return [(body, sorted(failed[body]), "") for body in bodies if failed.get(body)] + [it for batch in batches(left) for it in tried(batch)]
+
+
 def tried_or_kept(bodies, crates):
     """The same, or what was refused before on this machine (scripts/kept.py)."""
     crate = crates[tests_of(bodies[0])[0]]
-    scripts = [f"{TOP}/scripts/{name}.py" for name in ("tested_bodies", "wrong_bodies", "cases")]
+    scripts = [f"{TOP}/scripts/{name}" for name in ("tested_bodies.py", "branches.py", "planted.c", "wrong_bodies.py", "cases.py")]
     if are_scripts(bodies[0]):
         scripts += sorted(glob.glob(f"{TOP}/scripts/*.sh") + glob.glob(f"{TOP}/bench/replay/**/*.*", recursive=True))
     scripts += [f"{crate.folder}/cases.toml"] * are_cases(bodies[0]) + [f"{crate.folder}/stdin"] * request_of(bodies[0]).isdigit()
@@ -138,7 +170,7 @@ def tried_or_kept(bodies, crates):
     found = kept.given(key)
     if found:
         return [(body, failed, "") for body, failed in zip(bodies, found)]
-    answers = tried(bodies)
+    answers = (tried_beside if is_one_of_tests(bodies[0]) else tried)(bodies)
     if all(failed for _, failed, _ in answers):
         kept.keep(key, [failed for _, failed, _ in sorted(answers, key=lambda it: bodies.index(it[0]))])
     return answers
@@ -149,9 +181,13 @@ def main():
     # The program of bench/replay, which is no crate here.
     crates["replay"] = Crate("replay", crates["fastmetrics"].libraries + ["fastmetrics"])
     bodies = [it for name, crate in crates.items() if not sys.argv[1:] or name in sys.argv[1:] for it in listed(crate, "tested_bodies")]
+    beside = {}
+    for body in filter(is_one_of_tests, bodies):
+        beside.setdefault(tests_of(body)[0], []).append(body)
+    jobs = sorted(beside.values(), key=len, reverse=True) + batches([it for it in bodies if not is_one_of_tests(it)])
     with ThreadPoolExecutor(len(os.sched_getaffinity(0))) as pool:
         counts = {True: 0, False: 0}
-        for answers in pool.map(lambda it: tried_or_kept(it, crates), batches(bodies)):
+        for answers in pool.map(lambda it: tried_or_kept(it, crates), jobs):
             for body, failed, said in answers:
                 counts[bool(failed)] += 1
                 how = f"refused by {tests_of(body)[0]} {' '.join(failed[:3])}" if failed else "NOT REFUSED: " + " / ".join(said.strip().split("\n")[-3:])[:400]
