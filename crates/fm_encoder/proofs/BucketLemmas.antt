@@ -18,7 +18,8 @@ use Rattle.fm_writer.proofs.OutputLemmas.{appended-append}
 use Rattle.fm_labels.specs.Labels.{IsReserved}
 use Rattle.fm_grammar.proofs.Runs.{all_append}
 use Rattle.fm_encode_error.specs.declared.EncodeError.{EncodeError}
-use Rattle.fm_encoder.specs.Points.{PartsFault, EmittedExemplar, Setting, Point, ExemplarValid, values_in, BucketsValid, BucketsFault, PartsValid, type_of, point_samples, bucket_line, bucket_sample, bucket_samples}
+use Rattle.fm_encoder.specs.Points.{PartsFault, EmittedExemplar, Setting, Point, ExemplarValid, values_in, BucketsValid, BucketsFault, PartsValid, type_of, point_samples, bucket_sample, bucket_samples}
+use Rattle.fm_encoder.specs.inside.Samples.{bucket_line}
 use Rattle.fm_encoder.specs.Gathered.{GatheredPoints}
 use Rattle.fm_labels.specs.Refusals.{OwnRefusal, result_of}
 use Rattle.fm_encoder.specs.Emits.{SameContext, EmitsPoints, points_samples}

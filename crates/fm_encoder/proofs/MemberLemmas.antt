@@ -11,7 +11,8 @@ use Rattle.fm_grammar.proofs.Runs.{all_append}
 use Rattle.fm_writer.specs.Output.{appended}
 use Rattle.fm_writer.proofs.OutputLemmas.{appended-append, appended-none}
 use Rattle.fm_labels.specs.Labels.{EmittedLabel, LabelsValid, LabelsFault, all_written, emitted_again}
-use Rattle.fm_encoder.specs.Points.{Point, Member, Setting, Context, PointValid, PartsFault, point_samples, MembersValid, MembersFault, member_samples, members_samples}
+use Rattle.fm_encoder.specs.Points.{Point, Member, Setting, Context, PointValid, PartsFault, point_samples, MembersValid, MembersFault, members_samples}
+use Rattle.fm_encoder.specs.inside.Samples.{member_samples}
 use Rattle.fm_encoder.specs.Gathered.{GatheredPoints, GatheredMembers}
 use Rattle.fm_labels.specs.Refusals.{OwnRefusal, own_refusal, result_of}
 use Rattle.fm_encoder.specs.Emits.{EmitsPoints, EmitsMembers, PointsValid, PointsFault, points_samples, MembersOf, members_of, Joined, OffersOf}

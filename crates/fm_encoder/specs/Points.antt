@@ -1,5 +1,5 @@
 -- Points and members as they are emitted, when they are valid, which faults they can have, and their samples.
-use Rattle.std.specs.Prelude.{◌≡◌, ◌≤◌, ◌<◌, ◌/◌, ◌^◌, ℕ, ℤ, pos, Bool, List, [], ◌∷◌, ◌++◌, map, length, sum_by, Contains, Option, Some, None, ◌⊎◌, if◌then◌else◌, codes}
+use Rattle.std.specs.Prelude.{◌≡◌, ◌≢◌, ◌≤◌, ◌<◌, ◌/◌, ◌^◌, ℕ, ℤ, pos, Bool, List, [], ◌∷◌, ◌++◌, map, length, sum_by, Contains, Option, Some, None, ◌⊎◌, if◌then◌else◌, codes}
 use Rattle.std.specs.List.{AllByRecursion, flat_map}
 use Rattle.std.specs.Option.{option_to_list}
 use Rattle.std.specs.Duration.{as_nanos}
@@ -89,9 +89,7 @@ ExemplarPartsFault k exemplar = LabelsFault k Unknown [] exemplar.labels ⊎ ((k
 
 -- the source of an exemplar wrote nothing, or one valid exemplar
 abbrev pub ExemplarValid : List EmittedExemplar → Type 0
-ExemplarValid exemplars =
-    (exemplars ≡ []) ⊎ ((exemplar : EmittedExemplar) × (exemplars ≡ exemplar ∷ []) × LabelsValid Unknown [] exemplar.labels
-    × (label_code_points (all_written exemplar.labels) ≤ 128))
+ExemplarValid exemplars = (exemplars ≡ []) ⊎ ((exemplar : EmittedExemplar) × (exemplars ≡ exemplar ∷ []) × ExemplarPartsValid exemplar)
 
 abbrev pub ExemplarFault : EncodeError → List EmittedExemplar → Type 0
 ExemplarFault k exemplars =
@@ -141,8 +139,7 @@ PartsFault k setting common (SummaryPoint quantiles sum count created) = ⊥
 
 -- the fault is in the point, whatever its labels are: in its type, or in the number of its slots
 abbrev pub HeadFault : EncodeError → Setting → Point → Type 0
-HeadFault k setting point =
-    ((k ≡ KindMismatch) × (¬ (type_of point ≡ setting.metric_type))) ⊎ ((k ≡ ExemplarCountMismatch) × SlotsDiffer point)
+HeadFault k setting point = ((k ≡ KindMismatch) × (type_of point ≢ setting.metric_type)) ⊎ ((k ≡ ExemplarCountMismatch) × SlotsDiffer point)
 
 -- the fault is in the point
 abbrev pub PointFault : EncodeError → Setting → List Label → Point → Type 0
@@ -171,22 +168,11 @@ module _ (setting : Setting) (common : List Label) where
   abbrev pub created_samples : Option ℕ → List Sample
   created_samples created = map (λ t. plain_sample Created [] (Millis t)) (option_to_list created)
 
-  abbrev pub total_sample : List EmittedExemplar → Value → Sample
-  total_sample exemplars number = record (plain_sample Total [] number) { exemplar = written_exemplar exemplars }
-
-  -- 1 for a state that is on, else 0
-  abbrev pub state_sample : Text × Bool → Sample
-  state_sample state =
-      plain_sample Plain (record { name = setting.name; value = state.0 } ∷ []) (Whole (pos (if state.1 then 1 else 0)))
-
-  -- a sample that shows this number of values up to the bound
-  abbrev pub bucket_line : Bound → ℕ → List EmittedExemplar → Sample
-  bucket_line bound values exemplars =
-      record (plain_sample BucketKind (bound_label bound ∷ []) (Whole (pos values))) { exemplar = written_exemplar exemplars }
-
   -- the sample of a bucket after others: it shows how many values these and the bucket have together
   abbrev pub bucket_sample : List Bucket → Bucket → List EmittedExemplar → Sample
-  bucket_sample before bucket exemplars = bucket_line bucket.upper_bound (values_in (before ++ bucket ∷ [])) exemplars
+  bucket_sample before bucket exemplars =
+      record (plain_sample BucketKind (bound_label bucket.upper_bound ∷ []) (Whole (pos (values_in (before ++ bucket ∷ [])))))
+      { exemplar = written_exemplar exemplars }
 
   -- a sample for each bucket and its slot
   abbrev pub bucket_samples : List Bucket → List Bucket → List (List EmittedExemplar) → List Sample
@@ -199,25 +185,22 @@ module _ (setting : Setting) (common : List Label) where
   total_samples of_count of_sum count sum =
       plain_sample of_count [] (Whole (pos count)) ∷ plain_sample of_sum [] (Fixed sum) ∷ []
 
-  -- the sample of a quantile has it as a label, and shows its value
-  abbrev pub quantile_sample : Quantile → Sample
-  quantile_sample q =
-      plain_sample Plain (record { name = codes "quantile"; value = fixed_text q.quantile } ∷ []) (Fixed q.value)
-
-  -- the samples of a valid point, in order
+  -- The samples of a valid point, in order. That of a state has 1 if the state is on, else 0.
   abbrev pub point_samples : Point → List Sample
   point_samples (UnknownPoint numbers) = map (plain_sample Plain []) numbers
   point_samples (GaugePoint numbers) = map (plain_sample Plain []) numbers
   point_samples (CounterPoint numbers exemplars created) =
-      map (total_sample exemplars) numbers ++ created_samples created
-  point_samples (StateSetPoint states) = map state_sample states
+      map (λ number. record (plain_sample Total [] number) { exemplar = written_exemplar exemplars }) numbers ++ created_samples created
+  point_samples (StateSetPoint states) =
+      map (λ state. plain_sample Plain (record { name = setting.name; value = state.0 } ∷ []) (Whole (pos (if state.1 then 1 else 0)))) states
   point_samples (InfoPoint labels) = plain_sample Info (all_written labels) (Whole (pos 1)) ∷ []
   point_samples (HistogramPoint buckets slots count sum time) =
       bucket_samples [] buckets slots ++ (total_samples Count Sum count sum ++ created_samples time)
   point_samples (GaugeHistogramPoint buckets slots count sum) =
       bucket_samples [] buckets slots ++ total_samples GCount GSum count sum
   point_samples (SummaryPoint quantiles sum count created) =
-      map quantile_sample quantiles ++ (total_samples Count Sum count sum ++ created_samples created)
+      map (λ q. plain_sample Plain (record { name = codes "quantile"; value = fixed_text q.quantile } ∷ []) (Fixed q.value)) quantiles
+      ++ (total_samples Count Sum count sum ++ created_samples created)
 
 -- the point has its family's type, its parts are valid, and its samples are well formed
 pub record PointValid (setting : Setting) (common : List Label) (point : Point) : Type 0 where
@@ -251,9 +234,6 @@ abbrev pub MembersFault : EncodeError → Context → List Member → Type 0
 MembersFault k context [] = ⊥
 MembersFault k context (member ∷ members) = MemberFault k context member ⊎ MembersFault k context members
 
-abbrev pub member_samples : Context → Member → List Sample
-member_samples context member = point_samples context.setting (common_written context member) member.point
-
 -- the samples of a valid offer, member by member
 abbrev pub members_samples : Context → List Member → List Sample
-members_samples context = flat_map (member_samples context)
+members_samples context = flat_map (λ member. point_samples context.setting (common_written context member) member.point)

@@ -3,3 +3,4 @@ pub mod Steps
 pub mod Gathering
 pub mod Constants
 pub mod BucketSteps
+pub mod Samples

@@ -5,7 +5,8 @@ use Rattle.std.proofs.lemmas.List.{drop_at}
 use Rattle.std.proofs.lemmas.List.Elements.{Contains-append_right}
 use Rattle.fm_grammar.specs.declared.MetricType.{MetricType}
 use Rattle.fm_grammar.specs.Exposition.{Text, Label}
-use Rattle.fm_grammar.specs.Names.{IsLowerLetter, IsDigit, IsWord, BeginsWithLetter, further_words, IsSnakeCase, IsLabelByte, IsLabelName, AllDifferent}
+use Rattle.fm_grammar.specs.Names.{IsLowerLetter, IsDigit, IsWord, BeginsWithLetter, IsSnakeCase, IsLabelName, AllDifferent}
+use Rattle.fm_grammar.specs.inside.Words.{further_words, IsLabelByte}
 use Rattle.fm_grammar.specs.WellFormed.{AreLabels}
 use Rattle.fm_exposition.specs.Samples.{labels_of}
 use Rattle.fm_labels.specs.Labels.{EmittedLabel, NamePiece, ValuePiece, IsReserved, label_names, NameFits, LabelValid, LabelsValid, written, all_written, emitted_again}

@@ -15,7 +15,8 @@ use Rattle.fm_raw.specs.declared.bucket.bound.Bucket.{Bucket}
 use Rattle.fm_raw.specs.declared.quantile.Quantile.{Quantile}
 use Rattle.fm_labels.specs.Labels.{EmittedLabel, IsReserved, LabelsValid, label_names, all_written}
 use Rattle.fm_labels.specs.inside.FreeLabels.{AreFree}
-use Rattle.fm_encoder.specs.Points.{EmittedExemplar, Point, UnknownPoint, GaugePoint, CounterPoint, StateSetPoint, InfoPoint, HistogramPoint, GaugeHistogramPoint, SummaryPoint, Member, Setting, Context, ExemplarValid, BucketsValid, PartsValid, type_of, common_emitted, common_written, values_in, plain_sample, written_exemplar, created_samples, total_sample, state_sample, bound_label, bucket_samples, total_samples, quantile_sample, point_samples}
+use Rattle.fm_encoder.specs.Points.{EmittedExemplar, Point, UnknownPoint, GaugePoint, CounterPoint, StateSetPoint, InfoPoint, HistogramPoint, GaugeHistogramPoint, SummaryPoint, Member, Setting, Context, ExemplarValid, BucketsValid, PartsValid, type_of, common_emitted, common_written, values_in, plain_sample, written_exemplar, created_samples, bound_label, bucket_samples, total_samples, point_samples}
+use Rattle.fm_encoder.specs.inside.Samples.{total_sample, state_sample, quantile_sample}
 use Rattle.fm_encoder.specs.inside.Steps.{IsNumber}
 use Rattle.fm_labels.proofs.NameLemmas.{AreLabels-written, AreLabels-joined, AreLabels-named, AreLabels-own, AreFree-written}
 use Rattle.fm_encoder.proofs.BucketLemmas.{le_is_label_name, quantile_is_label_name}

@@ -2,7 +2,8 @@
 use Rattle.std.proofs.Common.{◌≡◌, ◌≢◌, ℕ, ◌<◌, inr, ◌∷◌, ◌++◌, length, get_or, refl, sym, ap, subst, ◌∙◌, arith, Some}
 use Rattle.std.specs.List.{AllByRecursion}
 use Rattle.fm_grammar.specs.Exposition.{Text, Label}
-use Rattle.fm_grammar.specs.Names.{IsLabelName, IsLabelByte}
+use Rattle.fm_grammar.specs.Names.{IsLabelName}
+use Rattle.fm_grammar.specs.inside.Words.{IsLabelByte}
 use Rattle.fm_grammar.specs.Spelling.{escaped, label_text}
 use Rattle.fm_grammar.proofs.Runs.{one_run, all_weaker}
 use Rattle.fm_grammar.proofs.Labels.{label_then, name_bytes}

@@ -8,7 +8,8 @@ use Rattle.std.proofs.lemmas.Bool.Decides.{Decides-and, Decides-or, Decides-eqb,
 use Rattle.std.proofs.lemmas.List.{take-append-drop}
 use Rattle.std.proofs.lemmas.Str.{IsCharBoundary-after_ascii}
 use Rattle.fm_grammar.specs.Exposition.{Text, Label}
-use Rattle.fm_grammar.specs.Names.{IsLabelStart, IsLabelByte, IsLabelName}
+use Rattle.fm_grammar.specs.Names.{IsLabelStart, IsLabelName}
+use Rattle.fm_grammar.specs.inside.Words.{IsLabelByte}
 use Rattle.fm_grammar.specs.NameTests.{is_lower_letter, is_upper_letter, is_digit, is_label_start, is_label_byte}
 use Rattle.fm_grammar.specs.Spelling.{escaped, label_text}
 use Rattle.fm_grammar.proofs.Runs.{Stops, one_run}

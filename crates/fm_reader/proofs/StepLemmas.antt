@@ -4,7 +4,8 @@ use Rattle.fm_grammar.specs.declared.MetricType.{MetricType}
 use Rattle.fm_grammar.specs.Exposition.{Text, Sample, Family}
 use Rattle.fm_grammar.specs.Names.{IsSnakeCase}
 use Rattle.fm_grammar.specs.WellFormed.{UnitFits, UnitAllowed, IsSample}
-use Rattle.fm_grammar.specs.Document.{IsTypeLine, IsHelpLine, IsUnitLine, IsSampleLine, IsLastLine}
+use Rattle.fm_grammar.specs.Document.{IsTypeLine, IsHelpLine, IsUnitLine, IsSampleLine}
+use Rattle.fm_grammar.specs.inside.Words.{IsLastLine}
 use Rattle.fm_grammar.specs.Reading.{IsNewName}
 use Rattle.fm_grammar.specs.inside.Lines.{State, Open, Headed, Ended, closed, with_unit, with_sample, Follows, type_line, help_line, unit_line, sample_line, last_line}
 use Rattle.fm_grammar.proofs.Runs.{one_run}

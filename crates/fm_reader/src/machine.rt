@@ -1,7 +1,7 @@
 //! The state of a reader after each line of a document.
 ghost use Rattle.std.specs.Prelude.{◌≡◌, ◌↔◌, IsTrue, IfOk, IfErr, IfSome, OnOk, None, [], string_bytes};
 ghost use Rattle.std.specs.Option.{option_map};
-ghost use Rattle.fm_grammar.specs.Document.{IsLastLine};
+ghost use Rattle.fm_grammar.specs.inside.Words.{IsLastLine};
 ghost use Rattle.fm_reader.specs.inside.Lines.{shown_type};
 ghost use Rattle.fm_reader.specs.inside.Samples.{read_sample_of};
 ghost use Rattle.fm_grammar.specs.inside.Lines.{closed, with_unit, with_sample, Open as OpenState, Headed as HeadedState};

@@ -10,7 +10,8 @@ use Rattle.std.specs.declared.string.String.{String}
 use Rattle.fm_grammar.specs.declared.MetricType.{MetricType}
 use Rattle.fm_grammar.specs.Kinds.{suffix_of, type_word}
 use Rattle.fm_grammar.specs.Exposition.{Text, Label, Exemplar, Sample, Family, Exposition}
-use Rattle.fm_grammar.specs.Names.{IsSnakeCase, IsLabelByte}
+use Rattle.fm_grammar.specs.Names.{IsSnakeCase}
+use Rattle.fm_grammar.specs.inside.Words.{IsLabelByte}
 use Rattle.fm_grammar.specs.Numbers.{fixed_text, millis_text}
 use Rattle.fm_grammar.specs.Spelling.{escaped, label_text, label_list_text, in_braces, label_block_text, value_text, time_text, exemplar_text, type_line, help_line, unit_line, sample_line}
 use Rattle.fm_grammar.specs.WellFormed.{IsSample, IsExemplar, IsFamily, IsWellFormed, AreMillis, UnitFits}

@@ -10,7 +10,8 @@ use Rattle.fm_encode_error.specs.declared.EncodeError.{EncodeError}
 use Rattle.fm_encode_error.specs.declared.EncodeError.TheVariants.{KindMismatch, ExemplarCountMismatch, BucketOverflow}
 use Rattle.fm_raw.specs.declared.bucket.bound.Bucket.{Bucket}
 use Rattle.fm_writer.specs.Output.{appended}
-use Rattle.fm_encoder.specs.Points.{EmittedExemplar, ExemplarValid, ExemplarFault, values_in, BucketsFault, bucket_line, bucket_samples}
+use Rattle.fm_encoder.specs.Points.{EmittedExemplar, ExemplarValid, ExemplarFault, values_in, BucketsFault, bucket_samples}
+use Rattle.fm_encoder.specs.inside.Samples.{bucket_line}
 use Rattle.fm_encoder.specs.Gathered.{GatheredPoints}
 use Rattle.fm_labels.specs.Refusals.{OwnRefusal}
 use Rattle.fm_encoder.specs.Emits.{SameContext}

@@ -1,7 +1,8 @@
 //! The points of state sets and infos.
 ghost use Rattle.std.specs.Prelude.{◌≡◌, ◌⊎◌, [], ◌∷◌, None, Contains, map};
 ghost use Rattle.fm_grammar.specs.declared.MetricType.{MetricType};
-ghost use Rattle.fm_encoder.specs.Points.{StateSetPoint, InfoPoint, state_sample};
+ghost use Rattle.fm_encoder.specs.Points.{StateSetPoint, InfoPoint};
+ghost use Rattle.fm_encoder.specs.inside.Samples.{state_sample};
 ghost use Rattle.fm_labels.specs.Labels.{label_names};
 ghost use Rattle.fm_encoder.specs.States.{state_of};
 ghost use Rattle.fm_labels.specs.Refusals.{Takes, NoFault};

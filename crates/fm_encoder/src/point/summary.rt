@@ -2,7 +2,8 @@
 ghost use Rattle.std.specs.Prelude.{◌≡◌, [], ◌∷◌, None, map};
 ghost use Rattle.std.specs.Option.{option_map};
 ghost use Rattle.fm_grammar.specs.declared.MetricType.{MetricType};
-ghost use Rattle.fm_encoder.specs.Points.{SummaryPoint, millis, quantile_sample};
+ghost use Rattle.fm_encoder.specs.Points.{SummaryPoint, millis};
+ghost use Rattle.fm_encoder.specs.inside.Samples.{quantile_sample};
 ghost use Rattle.fm_labels.specs.Refusals.{Takes, NoFault};
 ghost use Rattle.fm_encoder.specs.Takes.{TakesPoints};
 ghost use Rattle.fm_encoder.specs.inside.Steps.{PushesSample, PushesSamples};

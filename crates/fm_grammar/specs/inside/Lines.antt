@@ -4,7 +4,8 @@ use Rattle.fm_grammar.specs.declared.MetricType.{MetricType}
 use Rattle.fm_grammar.specs.Exposition.{Text, Sample, Family}
 use Rattle.fm_grammar.specs.Names.{IsSnakeCase}
 use Rattle.fm_grammar.specs.WellFormed.{UnitFits, UnitAllowed, IsSample}
-use Rattle.fm_grammar.specs.Document.{IsTypeLine, IsHelpLine, IsUnitLine, IsSampleLine, IsLastLine}
+use Rattle.fm_grammar.specs.Document.{IsTypeLine, IsHelpLine, IsUnitLine, IsSampleLine}
+use Rattle.fm_grammar.specs.inside.Words.{IsLastLine}
 use Rattle.fm_grammar.specs.Reading.{IsNewName}
 
 -- The state of a reader after some lines: after a family's type and help lines and maybe more (after none at the

@@ -1,5 +1,5 @@
 use Rattle.std.proofs.Common.{◌≡◌, ◌≤◌, count_by, take}
-use Rattle.fm_grammar.specs.WellFormed.{begins_character}
+use Rattle.fm_grammar.specs.inside.Words.{begins_character}
 use Rattle.fm_exposition.proofs.code_points.code_points.Given as goal
 
 abbrev pub invariant-loop-byte : goal.invariant-loop-byte

@@ -2,7 +2,8 @@ use Rattle.std.proofs.Common.{◌++◌, List, map, refl}
 use Rattle.std.specs.Option.{option_map}
 use Rattle.fm_grammar.specs.Exposition.{Label}
 use Rattle.fm_grammar.specs.declared.SampleKind.TheVariants.{Count, Sum}
-use Rattle.fm_encoder.specs.Points.{Setting, SummaryPoint, millis, quantile_sample, created_samples, total_samples}
+use Rattle.fm_encoder.specs.Points.{Setting, SummaryPoint, millis, created_samples, total_samples}
+use Rattle.fm_encoder.specs.inside.Samples.{quantile_sample}
 use Rattle.fm_labels.proofs.Cases.{none_from_answer}
 use Rattle.fm_encoder.proofs.BucketLemmas.{PushesSamples-then, EmitsPoints-made}
 use Rattle.fm_encoder.proofs.point.PointEncoder.encode_summary.Goals as goal

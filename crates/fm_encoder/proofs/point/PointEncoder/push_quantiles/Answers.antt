@@ -1,4 +1,4 @@
-use Rattle.fm_encoder.specs.Points.{quantile_sample}
+use Rattle.fm_encoder.specs.inside.Samples.{quantile_sample}
 use Rattle.fm_labels.proofs.Cases.{none_from_answer}
 use Rattle.fm_encoder.proofs.BucketLemmas.{PushesSamples-more}
 use Rattle.fm_encoder.proofs.point.PointEncoder.push_quantiles.Goals as goal

@@ -1,5 +1,5 @@
 use Rattle.std.proofs.Common.{◌≡◌, take, map, None}
-use Rattle.fm_encoder.specs.Points.{quantile_sample}
+use Rattle.fm_encoder.specs.inside.Samples.{quantile_sample}
 use Rattle.fm_encoder.specs.inside.Steps.{PushesSamples}
 use Rattle.fm_encoder.proofs.point.PointEncoder.push_quantiles.Given as goal
 

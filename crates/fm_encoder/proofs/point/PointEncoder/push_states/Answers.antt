@@ -1,4 +1,4 @@
-use Rattle.fm_encoder.specs.Points.{state_sample}
+use Rattle.fm_encoder.specs.inside.Samples.{state_sample}
 use Rattle.fm_encoder.specs.States.{state_of}
 use Rattle.fm_labels.proofs.Cases.{none_from_answer}
 use Rattle.fm_encoder.proofs.BucketLemmas.{PushesSamples-seen}

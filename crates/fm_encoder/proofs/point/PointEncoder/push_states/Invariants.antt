@@ -1,5 +1,5 @@
 use Rattle.std.proofs.Common.{◌≡◌, take, map, None}
-use Rattle.fm_encoder.specs.Points.{state_sample}
+use Rattle.fm_encoder.specs.inside.Samples.{state_sample}
 use Rattle.fm_encoder.specs.States.{state_of}
 use Rattle.fm_encoder.specs.inside.Steps.{PushesSamples}
 use Rattle.fm_encoder.proofs.point.PointEncoder.push_states.Given as goal
