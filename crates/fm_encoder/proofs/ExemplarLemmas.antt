@@ -23,7 +23,7 @@ pub exemplars_valid : (slot : Option Exemplar) (exemplars : List EmittedExemplar
 exemplars_valid None [] is valid = (inl refl, refl)
 exemplars_valid None (x ∷ exemplars) is valid = absurd cc
 exemplars_valid (Some e) [] is valid = absurd cc
-exemplars_valid (Some e) (x ∷ []) is valid = (inr (x, refl, valid.0.0, valid.0.1), cc)
+exemplars_valid (Some e) (x ∷ []) is valid = (inr (x, refl, valid.0), cc)
 exemplars_valid (Some e) (x ∷ y ∷ exemplars) is valid = absurd cc
 
 pub exemplars_fault : (k : EncodeError) (exemplars : List EmittedExemplar) → ((k ≡ ExemplarTwice) × (2 ≤ length (map written_as exemplars))) ⊎ ((exemplar : EmittedExemplar) × Contains exemplars exemplar × ExemplarPartsFault k exemplar) → ExemplarFault k exemplars
