@@ -3,6 +3,7 @@ ghost use Rattle.std.specs.Prelude.{◌≡◌, ◌+◌, ◌≤◌, ◌++◌, [],
 ghost use Rattle.fm_text.specs.inside.Grown.{Grown};
 
 use crate::output::Output;
+use fm_grammar::write_at;
 use std::alloc::{AllocError, Global};
 use std::marker::Model;
 
@@ -22,18 +23,6 @@ fn lengthen(bytes: &mut Vec<u8>, at_least: usize) -> Result<(), AllocError>
 {
     let room = bytes.len().max(FIRST_ROOM).min(MOST_ROOM);
     bytes.resize(bytes.len().saturating_add(room).max(at_least), 0)
-}
-
-// Writes a piece after the first `at` bytes, and returns where it ends.
-#[inline(always)]
-fn write_piece(bytes: &mut [u8], at: usize, piece: &[u8]) -> usize
-    requires { at + length piece.now ≤ length bytes.old }
-    ensures end { result ≡ at + length piece.now }
-    ensures written { take result bytes.new ≡ take at bytes.old ++ piece.now }
-{
-    let end = at + piece.len();
-    bytes[at..end].copy_from_slice(piece);
-    end
 }
 
 /// A text that grows at its end.
@@ -152,9 +141,9 @@ impl Output for GrowingText {
         if end > self.bytes.len() {
             lengthen(&mut self.bytes, end)?;
         }
-        let at = write_piece(&mut self.bytes, self.end, first);
-        let at = write_piece(&mut self.bytes, at, second);
-        self.end = write_piece(&mut self.bytes, at, third);
+        let at = write_at(&mut self.bytes, self.end, first);
+        let at = write_at(&mut self.bytes, at, second);
+        self.end = write_at(&mut self.bytes, at, third);
         Ok(())
     }
 
