@@ -94,7 +94,7 @@ exemplar_or_fault (exemplar ∷ other ∷ exemplars) = inr (ExemplarTwice, inl (
 exemplar_or_fault (exemplar ∷ []) = elim (labels_or_fault Unknown [] exemplar.labels) [
   | inr (k, fault) ↦ inr (k, inr (exemplar, (0, omega arith, refl), inl fault))
   | inl valid ↦ (elim (at_most_or_more (label_code_points (all_written exemplar.labels)) 128) [
-    | inl short ↦ inl (inr (exemplar, refl, valid, short))
+    | inl short ↦ inl (inr (exemplar, refl, (valid, short)))
     | inr long ↦ inr (ExemplarTooLong, inr (exemplar, (0, omega arith, refl), inr (refl, long)))
   ])
 ]

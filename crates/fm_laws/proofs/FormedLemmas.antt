@@ -44,7 +44,7 @@ state_fits false = omega arith
 
 exemplar_formed : (exemplars : List EmittedExemplar) → AllByRecursion ExemplarNumbersFit exemplars → ExemplarValid exemplars → IfSome (written_exemplar exemplars) IsExemplar
 exemplar_formed exemplars fits (inl none) = subst (λ (es : List EmittedExemplar). IfSome (written_exemplar es) IsExemplar) (sym none) tt
-exemplar_formed exemplars fits (inr (exemplar, one, valid, short)) =
+exemplar_formed exemplars fits (inr (exemplar, one, (valid, short))) =
     let numbers = (subst (AllByRecursion ExemplarNumbersFit) one fits).0 in
     subst (λ (es : List EmittedExemplar). IfSome (written_exemplar es) IsExemplar) (sym one) (record {
       labels = AreLabels-written Unknown exemplar.labels valid;

@@ -72,7 +72,7 @@ exemplar_valid k exemplars (inl none) fault = by (subst (ExemplarFault k) none f
     by : ¬ (ExemplarFault k [])
     by (inl (is, twice)) = let h : 2 ≤ 0 = twice in omega (arith, h)
     by (inr (exemplar, there, fault)) = contains_none _ there
-exemplar_valid k exemplars (inr (exemplar, one, valid, short)) fault = by (subst (ExemplarFault k) one fault)
+exemplar_valid k exemplars (inr (exemplar, one, (valid, short))) fault = by (subst (ExemplarFault k) one fault)
   where
     labels_of_it : (other : EmittedExemplar) → exemplar ≡ other → ¬ (LabelsFault k Unknown [] other.labels)
     labels_of_it other same fault = labels_valid k Unknown [] exemplar.labels valid (let P : EmittedExemplar → Type 0 = λ e. LabelsFault k Unknown [] e.labels in subst P (sym same) fault)

@@ -7,4 +7,4 @@ pub returns : goal.returns
 returns c =
     let exemplar = c.in_ok-exemplar.exemplar.now in
     let taken = c.are_taken.ensures exemplar.value (option_map millis exemplar.timestamp) in
-    inr (_, refl, taken.0, taken.1)
+    inr (_, refl, (taken.0, taken.1))
