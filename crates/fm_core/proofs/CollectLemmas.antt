@@ -1,5 +1,5 @@
 -- One metric more in a collection.
-use Rattle.std.proofs.Common.{◌≡◌, ◌≢◌, ℕ, ◌<◌, ◌+◌, zero, suc, List, [], ◌∷◌, ◌++◌, map, Option, None, Some, Result, IfErr, ◌⊎◌, length, get_or, take, inl, inr, refl, sym, ap, subst, ◌∙◌, arith}
+use Rattle.std.proofs.Common.{◌≡◌, ◌≢◌, ℕ, ◌<◌, ◌+◌, zero, suc, List, [], ◌∷◌, ◌++◌, map, Option, None, Some, Result, Ok, Err, MatchResult, IfOk, IfErr, ◌⊎◌, length, get_or, take, inl, inr, refl, sym, ap, subst, ◌∙◌, arith}
 use Rattle.std.specs.List.{AllByRecursion}
 use Rattle.std.proofs.lemmas.List.{take_more, map-append}
 use Rattle.fm_grammar.specs.Names.{AllDifferent}
@@ -104,3 +104,8 @@ pub refusal-not_writing : {M : Type 0} (k : EncodeError) (Offers : M → Option 
 refusal-not_writing k Offers Stamps MayFault l (inl memory) writing = subst IsWritersFault memory writing
 refusal-not_writing k Offers Stamps MayFault l (inr fault) writing =
     MetricHasFault-not_writing k (Offers l.registration.metric) (Stamps l.registration.metric) (MayFault l.registration.metric) (listed_name l) l.registration.metric_type l.labels fault writing
+
+-- what holds of the families holds of what a collection ends in
+pub if_ended : {A : Type 0} (r : Result A EncodeError) (families : A) (refused : Option EncodeError) (P : A → Type 0) → MatchResult r (λ e. (refused ≡ None) × (e ≡ families)) (λ k. refused ≡ Some k) → P families → IfOk r P
+if_ended (Ok e) families refused P h holds = subst P (sym h.1) holds
+if_ended (Err k) families refused P h holds = tt

@@ -17,16 +17,13 @@ use Rattle.fm_encode_error.specs.declared.EncodeError.{EncodeError}
 use Rattle.fm_encode_error.specs.declared.EncodeError.TheVariants.{Memory}
 use Rattle.fm_writer.specs.Output.{Output, OutputText, appended, with_lines}
 use Rattle.fm_encoder.specs.Points.{Member}
-use Rattle.fm_encoder.specs.Offers.{context_at}
 use Rattle.fm_encoder.specs.Gathered.{GatheredMembers}
-use Rattle.fm_labels.specs.Refusals.{own_refusal}
-use Rattle.fm_encoder.specs.Emits.{EmitsMembers}
 use Rattle.fm_registry.specs.Seen.{seen_list, seen_listed}
 use Rattle.fm_registry.specs.declared.listed.ListedMetric.{ListedMetric}
 use Rattle.fm_core.specs.Families.{Heading, FaultUnder}
 use Rattle.fm_core.specs.inside.Offered.{Offered}
 use Rattle.fm_core.specs.inside.Documents.{heading_rows, text_so_far, HasLines, AddsRows, AddsNextRows, IsTextOf}
-use Rattle.fm_core.proofs.OfferedLemmas.{Ends, Makes, offered_made}
+use Rattle.fm_core.proofs.OfferedLemmas.{Makes}
 use Rattle.fm_core.proofs.CollectLemmas.{Admits-next, next_new}
 
 -- a name in the exposition is the tail after the namespace
@@ -58,33 +55,18 @@ still_text name old new text samples was is =
     let now : new ≡ OutputText (text ++ sample_rows name samples) = is ∙ ap (λ (o : Output). appended name o samples) was in
     now ∙ ap OutputText (sym (ap text_so_far now))
 
--- what an encoder makes of a metric whose family it has begun
-pub family_added : (Offers : Option ℕ → List Member → Type 0) (Stamps : Option ℕ → Type 0) (MayBeEmpty MayFault : Type 0) (heading : Heading) (stamp : Option ℕ) (old begun new : GatheredMembers) (visited made : Result (Unit {0}) EncodeError)
-    → IsListable heading → HasLines old → Stamps stamp
-    → begun ≡ record { context = context_at (listed_name heading) heading.registration.metric_type heading.labels stamp; output = with_lines old.output (heading_rows heading); refused = None }
-    → EmitsMembers (Offers begun.context.setting.time) MayFault begun new visited
-    → MatchResult made (λ _. (new.refused ≡ None) × (visited ≡ Ok tt)) (λ k. (new.refused ≡ Some k) ⊎ ((e : EncodeError) × (new.refused ≡ None) × (visited ≡ Err e) × (k ≡ own_refusal e)))
+-- what an encoder of lines makes of a metric
+pub family_added : (Offers : Option ℕ → List Member → Type 0) (Stamps : Option ℕ → Type 0) (MayBeEmpty MayFault : Type 0) (heading : Heading) (old new : GatheredMembers) (made : Result (Unit {0}) EncodeError)
+    → IsListable heading → HasLines old
+    → Makes Offers Stamps MayFault (listed_name heading) heading.registration.metric_type heading.labels (with_lines old.output (heading_rows heading)) new made
     → MatchResult made (λ _. HasLines new × AddsRows Offers Stamps MayBeEmpty heading (text_so_far old.output) (text_so_far new.output)) (λ k. (k ≡ Memory) ⊎ FaultUnder Offers Stamps k MayFault heading)
-family_added Offers Stamps MayBeEmpty MayFault heading stamp old begun new visited made heads lines stamped is emits ends =
+family_added Offers Stamps MayBeEmpty MayFault heading old new (Ok x) heads lines h =
     let text = text_so_far old.output in
     let headed = OutputText (text ++ heading_rows heading) in
-    let same : begun ≡ record { context = context_at (listed_name heading) heading.registration.metric_type heading.labels stamp; output = headed; refused = None } =
-    is ∙ (λ i. record { context = context_at (listed_name heading) heading.registration.metric_type heading.labels stamp; output = with_lines (lines.text i) (heading_rows heading); refused = None }) in
-    added made ends (offered_made Offers Stamps MayFault (listed_name heading) heading.registration.metric_type heading.labels stamp headed (λ _. new.context.setting.name) (λ _. new.output) begun new visited made same stamped emits (ended made ends))
-  where
-    headed_output : Output
-    headed_output = OutputText (text_so_far old.output ++ heading_rows heading)
-
-    ended : (r : Result (Unit {0}) EncodeError) → MatchResult r (λ _. (new.refused ≡ None) × (visited ≡ Ok tt)) (λ k. (new.refused ≡ Some k) ⊎ ((e : EncodeError) × (new.refused ≡ None) × (visited ≡ Err e) × (k ≡ own_refusal e)))
-        → Ends Offers Stamps MayFault (listed_name heading) heading.registration.metric_type heading.labels stamp headed_output (λ _. new.context.setting.name) (λ _. new.output) new visited r
-    ended (Ok x) h = (h.0, h.1, refl, refl)
-    ended (Err k) h = h
-
-    added : (r : Result (Unit {0}) EncodeError) → MatchResult r (λ _. (new.refused ≡ None) × (visited ≡ Ok tt)) (λ k. (new.refused ≡ Some k) ⊎ ((e : EncodeError) × (new.refused ≡ None) × (visited ≡ Err e) × (k ≡ own_refusal e)))
-        → Makes Offers Stamps MayFault (listed_name heading) heading.registration.metric_type heading.labels stamp headed_output (λ _. new.context.setting.name) (λ _. new.output) r
-        → MatchResult r (λ _. HasLines new × AddsRows Offers Stamps MayBeEmpty heading (text_so_far old.output) (text_so_far new.output)) (λ k. (k ≡ Memory) ⊎ FaultUnder Offers Stamps k MayFault heading)
-    added (Ok x) h m = (record { text = still_text (listed_name heading) headed_output new.output _ m.1.samples refl m.1.is; accepting = h.0 }, AddsRows-family Offers Stamps MayBeEmpty heading (text_so_far old.output) new.output heads m.1)
-    added (Err k) h m = m
+    let offered : Offered Offers Stamps (listed_name heading) heading.registration.metric_type heading.labels headed new.output =
+    subst (λ (o : Output). Offered Offers Stamps (listed_name heading) heading.registration.metric_type heading.labels (with_lines o (heading_rows heading)) new.output) lines.text h.1 in
+    (record { text = still_text (listed_name heading) headed new.output _ offered.samples refl offered.is; accepting = h.0 }, AddsRows-family Offers Stamps MayBeEmpty heading text new.output heads offered)
+family_added Offers Stamps MayBeEmpty MayFault heading old new (Err k) heads lines h = h
 
 module _ {M : Type 0} (Offers : M → Option ℕ → List Member → Type 0) (Stamps : M → Option ℕ → Type 0) (Empty : M → Type 0) where
   pub IsTextOf-none : IsTextOf Offers Stamps Empty [] []

@@ -1,9 +1,8 @@
 // The text of a registry's document, which is rendered while its metrics are visited.
-ghost use Rattle.std.specs.Prelude.{◌≡◌, ◌⊎◌, ◌++◌, None, codes, MatchResult, IfOk, IfErr, IfSome, OnOk};
+ghost use Rattle.std.specs.Prelude.{◌≡◌, ◌⊎◌, ◌++◌, None, codes, MatchResult, IfOk, IfErr, OnOk};
 ghost use Rattle.std.specs.String.{string_bytes};
 ghost use Rattle.fm_grammar.specs.Exposition.{Exposition};
 ghost use Rattle.fm_grammar.specs.Reading.{IsExposition};
-ghost use Rattle.fm_grammar.specs.WellFormed.{AreMillis};
 ghost use Rattle.fm_encode_error.specs.declared.EncodeError.{EncodeError};
 ghost use Rattle.fm_exposition.specs.inside.DocumentRows.{document_rows};
 ghost use Rattle.fm_exposition.specs.Written.{AppendsDocument, AppendsBeginningOfDocument, IsWritersFault};
@@ -11,16 +10,15 @@ ghost use Rattle.fm_registry_model.specs.Listing.{listed_name, order, IsListable
 ghost use Rattle.fm_registry_model.specs.Tree.{Shows};
 ghost use Rattle.fm_registry.specs.Seen.{seen_listed};
 ghost use Rattle.fm_registry.specs.HasHistory.{HasHistory};
-ghost use Rattle.fm_writer.specs.Output.{with_lines};
-ghost use Rattle.fm_encoder.specs.Offers.{context_at};
 ghost use Rattle.fm_core.specs.Admits.{AdmittedBy, FaultOf, Fault};
-ghost use Rattle.fm_core.specs.inside.Documents.{heading_of, heading_rows, text_so_far, HasLines, AddsNextRows};
+ghost use Rattle.fm_core.specs.inside.Documents.{text_so_far, HasLines, AddsNextRows};
 
-use crate::family::{join_name, text_of};
+use crate::family::join_name;
+use crate::taking::take_family;
 use fm_encode_error::EncodeError;
-use fm_encoder::{EncodeMetric, MetricEncoder, collector, whole_millis};
+use fm_encoder::{EncodeMetric, MetricEncoder, collector};
 use fm_registry::{ListedMetric, Registry};
-use fm_writer::{FamilyHead, TextBlocks};
+use fm_writer::TextBlocks;
 use std::alloc::{AllocError, Global};
 use std::io::Write;
 
@@ -29,35 +27,6 @@ fn print_name<M>(text: &mut String, listed: &ListedMetric<'_, M>) -> Result<(), 
     ensures { OnOk result (string_bytes text.new ≡ listed_name (seen_listed listed.now)) }
 {
     join_name(text, listed.namespace, listed.tail, None)
-}
-
-// Goes on to the family of a listed metric, and appends the lines that come before its samples.
-fn begin_family<M>(
-    alloc: Global,
-    encoder: &mut MetricEncoder,
-    name: &mut String,
-    listed: &ListedMetric<'_, M>,
-    time: Option<u128>,
-) -> Result<(), EncodeError>
-    requires listable { IsListable (seen_listed listed.now) }
-    requires time { IfSome time AreMillis }
-    requires accepting { encoder.old.refused ≡ None }
-    ensures begun { let heading = heading_of (seen_listed listed.now) in
-        OnOk result (encoder.new ≡ record {
-          context = context_at (listed_name heading)
-              heading.registration.metric_type heading.labels time;
-          output = with_lines encoder.old.output (heading_rows heading);
-          refused = None;
-        }) }
-    ensures memory { IfErr result (λ k. k ≡ EncodeError.Memory) }
-{
-    print_name(name, listed)?;
-    let head = FamilyHead {
-        metric_type: listed.metadata.metric_type(),
-        help: listed.metadata.help(),
-        unit: text_of(listed.metadata.unit()),
-    };
-    collector::begin_family(encoder, alloc, name, head, listed.const_labels, time)
 }
 
 // Appends the lines of a listed metric's family, unless the metric is empty, or returns the first refusal.
@@ -81,10 +50,15 @@ fn add_listed<M: EncodeMetric>(
     if metric.is_empty() {
         return Ok(());
     }
-    let time = whole_millis(metric.timestamp());
-    begin_family(alloc, encoder, name, listed, time)?;
-    let visited = metric.encode(encoder);
-    collector::outcome(encoder, visited)
+    print_name(name, listed)?;
+    take_family(
+        encoder,
+        alloc,
+        name,
+        listed.metadata,
+        listed.const_labels,
+        metric,
+    )
 }
 
 // The lines of an encoder, with the last one of a document.
@@ -92,8 +66,7 @@ fn ended_lines(encoder: MetricEncoder) -> Result<TextBlocks, AllocError>
     requires { HasLines encoder }
     ensures { IfOk result (λ lines. lines ≡ text_so_far encoder.output ++ codes "# EOF\n") }
 {
-    let (_, sink) = collector::into_parts(encoder);
-    match sink.into_text() {
+    match collector::into_sink(encoder).into_text() {
         Some(mut lines) => {
             lines.append(b"# EOF\n")?;
             Ok(lines)
@@ -119,7 +92,7 @@ pub(crate) fn document_lines<M: EncodeMetric>(
     let Ok(list) = registry.listing(alloc) else {
         return Err(EncodeError::Memory);
     };
-    let mut encoder = collector::for_lines(alloc)?;
+    let mut encoder = collector::for_lines(alloc);
     let mut name = String::new(alloc);
     for listed in &list {
         add_listed(alloc, &mut encoder, &mut name, listed)?;

@@ -8,21 +8,21 @@ ghost use Rattle.fm_grammar.specs.WellFormed.{IsSample, IsFamily};
 ghost use Rattle.fm_raw.specs.Units.{unit_text};
 ghost use Rattle.fm_encode_error.specs.declared.EncodeError.{EncodeError};
 ghost use Rattle.fm_exposition.specs.Samples.{labels_of};
-ghost use Rattle.fm_writer.specs.Output.{AreShared};
 ghost use Rattle.fm_registry_model.specs.Texts.{printed_name};
 ghost use Rattle.fm_registry_model.specs.Registration.{printed_unit};
 ghost use Rattle.fm_registry_model.specs.Listing.{listed_name, IsListable};
 ghost use Rattle.fm_labels.specs.Refusals.{Takes};
 ghost use Rattle.fm_encoder.specs.Offers.{AdmitsSamples, MetricHasFault};
 ghost use Rattle.fm_core.specs.Families.{next_heading, FaultUnder, EncodesFamily};
-ghost use Rattle.fm_core.specs.inside.Offered.{IsFamilyUnder, Offered};
+ghost use Rattle.fm_core.specs.inside.Documents.{heading_within};
+ghost use Rattle.fm_core.specs.inside.Offered.{IsReady, IsFamilyUnder};
 
 use crate::scope::Scope;
+use crate::taking::take_family;
 use fm_encode_error::EncodeError;
-use fm_encoder::{EncodeMetric, FirstRefusal, collector, whole_millis};
+use fm_encoder::{EncodeMetric, FirstRefusal, MetricEncoder, collector};
 use fm_exposition::{Exposition, FamilySamples, SampleStore, make};
-use fm_raw::{Metadata, MetricType, Unit};
-use fm_writer::Sink;
+use fm_raw::{Metadata, Unit};
 use std::alloc::{AllocError, Global};
 use std::marker::Model;
 
@@ -96,64 +96,74 @@ pub(crate) fn text_of(unit: Option<&Unit>) -> Option<&str>
     }
 }
 
-// Puts what a metric offers under its printed name, type and constant labels into a sink, or returns the first refusal. The name
-// comes back with the sink.
-fn offered_by<M: EncodeMetric>(
+// The printed name of a metric with this metadata in a registry, its help, and its unit's text.
+fn heads_of(
     alloc: Global,
-    name: String,
-    metric_type: MetricType,
-    constants: &[(String, String)],
-    metric: &M,
-    sink: Sink,
-) -> Result<(String, Sink), EncodeError>
-    requires name { IsSnakeCase (string_bytes name) }
-    requires shared { AreShared [] sink.shared }
-    ensures { MatchResult result
-        (λ made. (string_bytes made.0 ≡ string_bytes name)
-        × Offered (M.offers metric.now) (M.stamps metric.now)
-        (string_bytes name) metric_type (labels_of constants.now)
-        sink.output made.1.output)
-        (λ k. (k ≡ EncodeError.Memory)
-        ⊎ MetricHasFault k (M.offers metric.now) (M.stamps metric.now) (M.may_fault metric.now)
-        (string_bytes name)
-        metric_type (labels_of constants.now)) }
+    scope: Scope<'_>,
+    metadata: &Metadata,
+) -> Result<(String, String, Option<String>), AllocError>
+    ensures { let heading = heading_within scope.entry metadata.now in
+        IfOk result (λ heads. (string_bytes heads.0 ≡ listed_name heading)
+        × (string_bytes heads.1 ≡ heading.registration.help)
+        × (option_map string_bytes heads.2 ≡ printed_unit heading.registration.unit)) }
 {
-    let time = whole_millis(metric.timestamp());
-    let mut encoder = collector::for_family(alloc, name, metric_type, constants, time, sink)?;
-    let visited = metric.encode(&mut encoder);
-    match collector::outcome(&encoder, visited) {
-        Ok(()) => Ok(collector::into_parts(encoder)),
-        Err(error) => Err(error),
-    }
+    let unit = text_of(metadata.unit());
+    let name = joined_name(alloc, scope.namespace, metadata.name(), unit)?;
+    let help = String::from_str(alloc, metadata.help())?;
+    let unit = cloned_text(alloc, unit)?;
+    Ok((name, help, unit))
 }
 
-// What a metric offers under its printed name, type and constant labels, as samples, or the first refusal. The name comes
-// back with them.
+// What a metric offers under this printed name, its type and these constant labels, as samples, or the first refusal. The name is
+// swapped with that of the family before.
 fn samples_of_metric<M: EncodeMetric>(
+    encoder: &mut MetricEncoder,
     alloc: Global,
-    name: String,
-    metric_type: MetricType,
+    name: &mut String,
+    metadata: &Metadata,
     constants: &[(String, String)],
     metric: &M,
-) -> Result<(String, SampleStore), EncodeError>
-    requires { IsSnakeCase (string_bytes name) }
-    ensures { MatchResult result
-        (λ made. (string_bytes made.0 ≡ string_bytes name)
-        × AdmitsSamples (M.offers metric.now) (M.stamps metric.now)
-        (string_bytes name) metric_type (labels_of constants.now)
-        made.1.samples
-        × AllByRecursion (IsSample metric_type) made.1.samples)
+) -> Result<SampleStore, EncodeError>
+    requires name { IsSnakeCase (string_bytes name.old) }
+    requires ready { IsReady encoder.old }
+    ensures ready { OnOk result (IsReady encoder.new) }
+    ensures samples { MatchResult result
+        (λ made. AdmitsSamples (M.offers metric.now) (M.stamps metric.now)
+        (string_bytes name.old) metadata.now.metric_type (labels_of constants.now)
+        made.samples
+        × AllByRecursion (IsSample metadata.now.metric_type) made.samples)
         (λ k. (k ≡ EncodeError.Memory)
         ⊎ MetricHasFault k (M.offers metric.now) (M.stamps metric.now) (M.may_fault metric.now)
-        (string_bytes name)
-        metric_type (labels_of constants.now)) }
+        (string_bytes name.old)
+        metadata.now.metric_type (labels_of constants.now)) }
 {
-    let sink = Sink::samples(alloc)?;
-    let (name, sink) = offered_by(alloc, name, metric_type, constants, metric, sink)?;
-    match sink.into_samples() {
-        Some(samples) => Ok((name, samples)),
-        None => unreachable!(),
-    }
+    take_family(encoder, alloc, name, metadata, constants, metric)?;
+    Ok(collector::take_samples(encoder)?)
+}
+
+// The family of a metric with this metadata in a registry, or the first refusal. The encoder's own name is written over.
+fn family_of<M: EncodeMetric>(
+    encoder: &mut MetricEncoder,
+    alloc: Global,
+    own_name: &mut String,
+    scope: Scope<'_>,
+    metadata: &Metadata,
+    metric: &M,
+) -> Result<FamilySamples, EncodeError>
+    requires heading { IsListable (heading_within scope metadata.now) }
+    requires ready { IsReady encoder.old }
+    ensures ready { OnOk result (IsReady encoder.new) }
+    ensures family { let heading = heading_within scope.entry metadata.now in MatchResult result
+        (λ family. IsFamilyUnder (M.offers metric.now) (M.stamps metric.now) heading family
+        × IsFamily family)
+        (λ k. (k ≡ EncodeError.Memory)
+        ⊎ FaultUnder (M.offers metric.now) (M.stamps metric.now) k (M.may_fault metric.now) heading) }
+{
+    let (name, help, unit) = heads_of(alloc, scope, metadata)?;
+    own_name.clear();
+    own_name.push_str(name.as_str())?;
+    let samples = samples_of_metric(encoder, alloc, own_name, metadata, scope.constants, metric)?;
+    Ok(make::family(name, metadata.metric_type(), help, unit, samples))
 }
 
 /// Gathers the families of a registry and all below it, one after the other. `collect` alone makes it.
@@ -163,13 +173,17 @@ pub struct MetricFamilyEncoder<'a> {
     scope: Scope<'a>,
     families: Vec<FamilySamples>,
     refused: FirstRefusal,
+    // Keeps the samples of one family after the other.
+    encoder: MetricEncoder,
+    // The next name that the encoder swaps for its own.
+    name: String,
 }
 
 impl<'a> Model for MetricFamilyEncoder<'a> {
     ghost use Rattle.std.specs.Option.{option_copied};
-    ghost use Rattle.fm_grammar.specs.Reading.{IsExposition};
     ghost use Rattle.fm_exposition.specs.Samples.{labels_of};
     ghost use Rattle.fm_core.specs.Families.{GatheredFamilies};
+    ghost use Rattle.fm_core.specs.inside.Collecting.{IsCollecting};
 
     ghost Value = { GatheredFamilies };
 
@@ -180,15 +194,16 @@ impl<'a> Model for MetricFamilyEncoder<'a> {
       refused = e.refused.error;
     } };
 
-    ghost invariant = { λ e. IsExposition e.families.items };
+    ghost invariant = { IsCollecting };
 }
 
 impl<'a> MetricFamilyEncoder<'a> {
-    // An encoder without families, in a registry with no namespace and no labels.
-    pub(crate) fn new(alloc: Global) -> MetricFamilyEncoder<'a>
-        ensures { result ≡ record { namespace = None; labels = []; families = []; refused = None } }
+    // An encoder without families, in a registry with no namespace and no labels. Fails if memory runs out.
+    pub(crate) fn new(alloc: Global) -> Result<MetricFamilyEncoder<'a>, AllocError>
+        ensures { IfOk result (λ encoder. encoder
+            ≡ record { namespace = None; labels = []; families = []; refused = None }) }
     {
-        MetricFamilyEncoder {
+        Ok(MetricFamilyEncoder {
             alloc,
             scope: Scope {
                 namespace: None,
@@ -196,7 +211,9 @@ impl<'a> MetricFamilyEncoder<'a> {
             },
             families: Vec::new(alloc),
             refused: FirstRefusal { error: None },
-        }
+            encoder: collector::for_samples(alloc)?,
+            name: String::new(alloc),
+        })
     }
 
     // Goes on to a registry with this namespace and these constant labels.
@@ -207,49 +224,6 @@ impl<'a> MetricFamilyEncoder<'a> {
         } }
     {
         self.scope = scope;
-    }
-
-    // The printed name of a metric with this metadata, its help, and its unit's text.
-    fn heads_of(&self, metadata: &Metadata) -> Result<(String, String, Option<String>), AllocError>
-        ensures { IfOk result (λ heads.
-            (string_bytes heads.0 ≡ listed_name (next_heading self.now metadata.now))
-            × (string_bytes heads.1 ≡ (next_heading self.now metadata.now).registration.help)
-            × (option_map string_bytes heads.2
-            ≡ printed_unit (next_heading self.now metadata.now).registration.unit)) }
-    {
-        let alloc = self.alloc;
-        let unit = text_of(metadata.unit());
-        let name = joined_name(alloc, self.scope.namespace, metadata.name(), unit)?;
-        let help = String::from_str(alloc, metadata.help())?;
-        let unit = cloned_text(alloc, unit)?;
-        Ok((name, help, unit))
-    }
-
-    // The family of a metric with this metadata, or the first refusal.
-    fn family_of<M: EncodeMetric>(
-        &self,
-        metadata: &Metadata,
-        metric: &M,
-    ) -> Result<FamilySamples, EncodeError>
-        requires { IsListable (next_heading self.now metadata.now) }
-        ensures { MatchResult result
-            (λ family. IsFamilyUnder (M.offers metric.now) (M.stamps metric.now)
-            (next_heading self.now metadata.now) family
-            × IsFamily family)
-            (λ k. (k ≡ EncodeError.Memory)
-            ⊎ FaultUnder (M.offers metric.now) (M.stamps metric.now) k (M.may_fault metric.now)
-            (next_heading self.now metadata.now)) }
-    {
-        let (name, help, unit) = self.heads_of(metadata)?;
-        let metric_type = metadata.metric_type();
-        let (name, samples) = samples_of_metric(
-            self.alloc,
-            name,
-            metric_type,
-            self.scope.constants,
-            metric,
-        )?;
-        Ok(make::family(name, metric_type, help, unit, samples))
     }
 
     /// Takes the next metric: adds its family with this metadata, unless the metric is empty. The metadata is that of a metric of
@@ -271,7 +245,14 @@ impl<'a> MetricFamilyEncoder<'a> {
         if metric.is_empty() {
             return Ok(());
         }
-        match self.family_of(metadata, metric) {
+        match family_of(
+            &mut self.encoder,
+            self.alloc,
+            &mut self.name,
+            self.scope,
+            metadata,
+            metric,
+        ) {
             Ok(family) => match self.families.push(family) {
                 Ok(()) => Ok(()),
                 Err(_) => self.refused.refuse(EncodeError::Memory),

@@ -5,6 +5,7 @@ ghost use Rattle.fm_exposition.specs.Samples.{labels_of};
 ghost use Rattle.fm_labels.specs.Labels.{LabelsValid, LabelsFault, all_written, emitted_again};
 ghost use Rattle.fm_labels.specs.Refusals.{OwnRefusal, NoFault};
 ghost use Rattle.fm_labels.specs.WrittenLabels.{AreWritten};
+ghost use Rattle.fm_encoder.specs.inside.Constants.{AreTested};
 
 use fm_encode_error::EncodeError;
 use fm_grammar::MetricType;
@@ -13,7 +14,7 @@ use fm_labels::label::LabelSetEncoder;
 use fm_labels::label_set::{EncodeLabelSet, encode_written};
 use fm_labels::written_labels::WrittenLabels;
 use fm_text::LabelText;
-use std::alloc::{AllocError, Global};
+use std::alloc::Global;
 use std::marker::Model;
 
 // Copies of the labels, if each of them is allowed in a family of this type.
@@ -57,47 +58,51 @@ fn add_labels<LS: EncodeLabelSet>(
     read_labels(encoder, labels)
 }
 
-// The constant labels of a family, which are tested once.
+// The constant labels of a family, which are tested once for its type.
 #[derive(Drop)]
 pub(crate) struct ConstantLabels {
-    metric_type: MetricType,
     labels: LabelText,
     // Why no point is accepted under them, if one of them is not valid.
     refusal: Option<EncodeError>,
 }
 
 impl Model for ConstantLabels {
-    ghost use Rattle.fm_encoder.specs.inside.Constants.{FamilyConstants, AreTested};
+    ghost use Rattle.fm_encoder.specs.inside.Constants.{FamilyConstants};
 
     ghost Value = { FamilyConstants };
 
-    ghost view = { λ c. record { metric_type = c.metric_type; labels = c.labels.labels } };
-
-    ghost invariant = { λ c. AreTested c.metric_type c.labels.labels c.refusal };
+    ghost view = { λ c. record { labels = c.labels.labels; refusal = c.refusal } };
 }
 
 impl ConstantLabels {
-    // Copies of these labels, for a family of this type.
-    pub(crate) fn new(
+    // No labels.
+    pub(crate) fn none(alloc: Global) -> ConstantLabels
+        ensures { result ≡ record { labels = []; refusal = None } }
+    {
+        ConstantLabels {
+            labels: LabelText::new(alloc),
+            refusal: None,
+        }
+    }
+
+    // Copies of these labels, tested for a family of this type.
+    fn new(
         alloc: Global,
         metric_type: MetricType,
         labels: &[(String, String)],
     ) -> Result<ConstantLabels, EncodeError>
-        ensures made { IfOk result
-            (λ constants. constants
-            ≡ record { metric_type = metric_type; labels = labels_of labels.now }) }
+        ensures tested { IfOk result (AreTested metric_type) }
+        ensures made { IfOk result (λ constants. constants.labels ≡ labels_of labels.now) }
         ensures memory { IfErr result (λ e. e ≡ EncodeError.Memory) }
     {
         match tested(alloc, metric_type, labels) {
             Ok(labels) => Ok(ConstantLabels {
-                metric_type,
                 labels,
                 refusal: None,
             }),
             Err(EncodeError::Memory) => Err(EncodeError::Memory),
             Err(error) => match LabelText::of(alloc, labels) {
                 Ok(labels) => Ok(ConstantLabels {
-                    metric_type,
                     labels,
                     refusal: Some(error),
                 }),
@@ -106,20 +111,22 @@ impl ConstantLabels {
         }
     }
 
-    // Goes on to a family of this type under these labels. They are tested, unless the family before has the same labels and the same
-    // type. Fails if memory runs out, and then changes nothing.
+    // Goes on from a family of the type before to one of this type under these labels. They are tested, unless the family before has the
+    // same labels and the same type. Fails if memory runs out, and then changes nothing.
     pub(crate) fn begin(
         &mut self,
         alloc: Global,
+        before: MetricType,
         metric_type: MetricType,
         labels: &[(String, String)],
     ) -> Result<(), EncodeError>
-        ensures begun { OnOk result
-            (self.new ≡ record { metric_type = metric_type; labels = labels_of labels.now }) }
+        requires tested { AreTested before self.old }
+        ensures tested { OnOk result (AreTested metric_type self.new) }
+        ensures begun { OnOk result (self.new.labels ≡ labels_of labels.now) }
         ensures kept { OnErr result (self.new ≡ self.old) }
         ensures memory { IfErr result (λ e. e ≡ EncodeError.Memory) }
     {
-        if metric_type != self.metric_type || !self.labels.are(labels) {
+        if metric_type != before || !self.labels.are(labels) {
             *self = ConstantLabels::new(alloc, metric_type, labels)?;
         }
         Ok(())
@@ -132,7 +139,7 @@ impl ConstantLabels {
         written: Option<&WrittenLabels>,
         labels: &LS,
     ) -> Result<(), EncodeError>
-        requires of_type { self.now.metric_type ≡ encoder.old.metric_type }
+        requires tested { AreTested encoder.old.metric_type self.now }
         requires written { IfSome written (λ k. AreWritten (LS.labels labels.now) k.now) }
         ensures same_type { encoder.new.metric_type ≡ encoder.old.metric_type }
         ensures gathered { let all = emitted_again self.now.labels ++ LS.labels labels.now in
@@ -151,7 +158,7 @@ impl ConstantLabels {
         } else if let Some(written) = written {
             encoder.restart(&written.labels)?;
         } else {
-            encoder.begin(self.metric_type);
+            encoder.begin(encoder.metric_type());
             read_labels(encoder, labels)?;
         }
         Ok(())

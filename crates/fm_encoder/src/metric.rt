@@ -104,8 +104,8 @@ pub struct MetricEncoder {
 }
 
 impl Model for MetricEncoder {
-    ghost use Rattle.std.specs.Prelude.{◌≡◌};
     ghost use Rattle.fm_encoder.specs.Gathered.{GatheredMembers};
+    ghost use Rattle.fm_encoder.specs.inside.Constants.{AreTested};
 
     ghost Value = { GatheredMembers };
 
@@ -115,7 +115,7 @@ impl Model for MetricEncoder {
       refused = e.points.refused;
     } };
 
-    ghost invariant = { λ e. e.constants.metric_type ≡ e.points.setting.metric_type };
+    ghost invariant = { λ e. AreTested e.points.setting.metric_type e.constants };
 }
 
 impl MetricEncoder {

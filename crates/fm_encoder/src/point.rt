@@ -1,5 +1,5 @@
 //! Points: what emits them, and the encoder that puts their samples into a sink.
-ghost use Rattle.std.specs.Prelude.{◌≡◌, ◌++◌, List, [], None, Some, Err, OnOk, IfErr, IfSome, string_bytes};
+ghost use Rattle.std.specs.Prelude.{◌≡◌, ◌++◌, List, [], None, Some, Err, OnOk, OnErr, IfOk, IfErr, IfSome, IsSome, string_bytes};
 ghost use Rattle.std.specs.Option.{option_map};
 ghost use Rattle.fm_grammar.specs.Names.{IsSnakeCase};
 ghost use Rattle.fm_grammar.specs.declared.MetricType.{MetricType};
@@ -8,19 +8,20 @@ ghost use Rattle.fm_encode_error.specs.declared.EncodeError.{EncodeError};
 ghost use Rattle.fm_exposition.specs.Rows.{head_rows};
 ghost use Rattle.fm_exposition.specs.Samples.{value_of, exemplar_of};
 ghost use Rattle.fm_writer.specs.Heads.{headed};
-ghost use Rattle.fm_writer.specs.Output.{AreShared, with_lines};
+ghost use Rattle.fm_writer.specs.Output.{AreShared, OutputSamples, samples_in, with_lines};
 ghost use Rattle.fm_encoder.specs.Points.{Point};
 ghost use Rattle.fm_labels.specs.Labels.{emitted_again};
 ghost use Rattle.fm_labels.specs.inside.FreeLabels.{AreFree};
 ghost use Rattle.fm_labels.specs.Refusals.{IsOutcome, result_of, Takes};
 ghost use Rattle.fm_encoder.specs.Emits.{EmitsPoints};
 ghost use Rattle.fm_labels.specs.WrittenLabels.{AreWritten};
+ghost use Rattle.fm_encoder.specs.inside.Constants.{AreTested};
 ghost use Rattle.fm_encoder.specs.inside.Steps.{FitsType, BeginsPoint, BeginsMember, PushesSample, EndsPoints};
 
 use crate::constants::ConstantLabels;
 use crate::point::bound_label::BoundLabel;
 use fm_encode_error::EncodeError;
-use fm_exposition::{Exemplar, Value};
+use fm_exposition::{Exemplar, SampleStore, Value};
 use fm_grammar::{MetricType, SampleKind};
 use fm_labels::first_refusal::{FirstRefusal, own_refusal};
 use fm_labels::label::LabelSetEncoder;
@@ -28,7 +29,7 @@ use fm_labels::label_set::EncodeLabelSet;
 use fm_labels::written_labels::WrittenLabels;
 use fm_text::{GrowingText, LabelText};
 use fm_writer::{FamilyHead, NewSample, Sink};
-use std::alloc::Global;
+use std::alloc::{AllocError, Global};
 use std::marker::Model;
 use std::mem;
 
@@ -96,29 +97,17 @@ impl Model for PointEncoder {
 }
 
 impl PointEncoder {
-    pub(crate) fn new(
-        alloc: Global,
-        name: String,
-        metric_type: MetricType,
-        time: Option<u128>,
-        sink: Sink,
-    ) -> PointEncoder
-        requires name { IsSnakeCase (string_bytes name) }
-        requires time { IfSome time AreMillis }
+    // An encoder of no family yet, which puts samples into this sink.
+    pub(crate) fn new(alloc: Global, sink: Sink) -> PointEncoder
         requires shared { AreShared [] sink.shared }
-        ensures { result ≡ record {
-          setting = record { name = string_bytes name; metric_type = metric_type; time = time };
-          common = [];
-          deferred = None;
-          output = sink.output;
-          refused = None;
-        } }
+        ensures output { result.output ≡ sink.output }
+        ensures accepting { result.refused ≡ None }
     {
         PointEncoder {
             alloc,
-            name,
-            time,
-            labels: LabelSetEncoder::new(alloc, metric_type),
+            name: String::new(alloc),
+            time: None,
+            labels: LabelSetEncoder::new(alloc, MetricType::Unknown),
             deferred: None,
             sink,
             refused: FirstRefusal { error: None },
@@ -267,6 +256,13 @@ impl PointEncoder {
         self.refused.outcome(visited)
     }
 
+    // The type of the family.
+    pub(crate) fn metric_type(&self) -> MetricType
+        ensures { result ≡ self.now.setting.metric_type }
+    {
+        self.labels.metric_type()
+    }
+
     pub(crate) fn time(&self) -> Option<u128>
         ensures { result ≡ self.now.setting.time }
     {
@@ -281,7 +277,7 @@ impl PointEncoder {
         written: Option<&WrittenLabels>,
         labels: &LS,
     ) -> Result<(), EncodeError>
-        requires of_type { constants.now.metric_type ≡ self.old.setting.metric_type }
+        requires tested { AreTested self.old.setting.metric_type constants.now }
         requires written { IfSome written (λ k. AreWritten (LS.labels labels.now) k.now) }
         ensures { Takes (BeginsMember
             (emitted_again constants.now.labels ++ LS.labels labels.now)
@@ -312,12 +308,20 @@ impl PointEncoder {
         }
     }
 
-    // The family's name, and the sink.
-    pub(crate) fn into_parts(self) -> (String, Sink)
-        ensures name { string_bytes result.0 ≡ self.setting.name }
-        ensures output { result.1.output ≡ self.output }
+    // Takes the samples out of the sink, which keeps samples: none are left. If memory runs out, nothing changes.
+    pub(crate) fn take_samples(&mut self) -> Result<SampleStore, AllocError>
+        requires keeps { IsSome (samples_in self.old.output) }
+        ensures taken { IfOk result (λ taken. self.old.output ≡ OutputSamples taken.samples) }
+        ensures emptied { OnOk result (self.new ≡ record self.old { output = OutputSamples [] }) }
+        ensures kept { OnErr result (self.new ≡ self.old) }
     {
-        let PointEncoder { name, sink, .. } = self;
-        (name, sink)
+        self.sink.take_samples()
+    }
+
+    // The sink.
+    pub(crate) fn into_sink(self) -> Sink
+        ensures { result.output ≡ self.output }
+    {
+        self.sink
     }
 }

@@ -1,5 +1,5 @@
 //! The samples of a family while they are collected point by point.
-ghost use Rattle.std.specs.Prelude.{◌≡◌, ◌+◌, ◌^◌, ◌<◌, ℕ, List, [], ◌∷◌, ◌++◌, OnOk, OnErr};
+ghost use Rattle.std.specs.Prelude.{◌≡◌, ◌+◌, ◌^◌, ◌<◌, ℕ, List, [], ◌∷◌, ◌++◌, OnOk, OnErr, IfOk};
 ghost use Rattle.std.specs.Option.{option_map};
 ghost use Rattle.fm_exposition.specs.inside.Points.{AreInPoints};
 ghost use Rattle.fm_exposition.specs.Samples.{labels_of, shared_labels, value_of, exemplar_of, samples_of};
@@ -8,6 +8,7 @@ use crate::exposition::{CommonLabels, Exemplar, Sample, Value};
 use fm_grammar::SampleKind;
 use std::alloc::{AllocError, Global};
 use std::marker::Model;
+use std::mem;
 
 /// The samples of points, in order. Those of one point share one list of common labels.
 #[derive(Debug, Drop)]
@@ -112,6 +113,17 @@ impl SampleStore {
         })?;
         count_one(&mut self.counts);
         Ok(())
+    }
+
+    /// Takes the samples out: none are left, and the next ones have the same common labels. Fails if memory runs out; then nothing
+    /// changes.
+    pub fn take(&mut self, alloc: Global) -> Result<SampleStore, AllocError>
+        ensures taken { IfOk result (λ taken. taken ≡ self.old) }
+        ensures emptied { OnOk result (self.new ≡ record self.old { samples = [] }) }
+        ensures kept { OnErr result (self.new ≡ self.old) }
+    {
+        let next = SampleStore::new(alloc, self.common.clone()?);
+        Ok(mem::replace(self, next))
     }
 
     // The number of samples of each point, and all samples.

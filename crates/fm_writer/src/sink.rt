@@ -1,6 +1,5 @@
 //! Where encoders put the samples of a family.
-ghost use Rattle.std.specs.Prelude.{◌≡◌, ◌++◌, None, Some, [], ◌∷◌, map, OnOk, IfOk, IfSome};
-ghost use Rattle.std.specs.Option.{option_map};
+ghost use Rattle.std.specs.Prelude.{◌≡◌, ◌++◌, None, Some, [], ◌∷◌, map, OnOk, OnErr, IfOk, IfSome, IsSome};
 ghost use Rattle.fm_exposition.specs.Rows.{head_rows};
 ghost use Rattle.fm_exposition.specs.Samples.{labels_of, shared_labels, shown_label};
 ghost use Rattle.fm_text.specs.inside.Grown.{Grown};
@@ -164,8 +163,8 @@ impl Sink {
         }
     }
 
-    /// Takes a sample of the family with this printed name. Samples that are kept share one copy of their common labels, until
-    /// `unshare` is called. The front of the sample's line may have been rendered before: samples of one kind with the same common
+    /// Takes a sample of the family with this printed name. Samples that are kept share one copy of their common labels, until others
+    /// come after `unshare`. The front of the sample's line may have been rendered before: samples of one kind with the same common
     /// labels share it. A sink that keeps samples ignores it.
     ///
     /// Fails if memory runs out; then the text may end in a part of a line.
@@ -186,7 +185,9 @@ impl Sink {
         match &mut self.form {
             Form::Samples(store, true) => keep(self.alloc, store, sample),
             Form::Samples(store, are_shared) => {
-                store.share(shared(self.alloc, sample.common)?);
+                if !sample.common.are(store.common()) {
+                    store.share(shared(self.alloc, sample.common)?);
+                }
                 *are_shared = true;
                 keep(self.alloc, store, sample)
             }
@@ -194,14 +195,16 @@ impl Sink {
         }
     }
 
-    /// The samples, or `None` if the sink appends to a text.
-    pub fn into_samples(self) -> Option<SampleStore>
-        ensures { option_map (λ stored. stored.samples) result ≡ samples_in self.output }
+    /// Takes the samples out of a sink that keeps samples: none are left. Fails if memory runs out; then nothing changes.
+    pub fn take_samples(&mut self) -> Result<SampleStore, AllocError>
+        requires { IsSome (samples_in self.old.output) }
+        ensures taken { IfOk result (λ taken. self.old.output ≡ OutputSamples taken.samples) }
+        ensures emptied { OnOk result (self.new ≡ record self.old { output = OutputSamples [] }) }
+        ensures kept { OnErr result (self.new ≡ self.old) }
     {
-        let Sink { form, .. } = self;
-        match form {
-            Form::Samples(store, _) => Some(store),
-            Form::Text(_) => None,
+        match &mut self.form {
+            Form::Samples(store, _) => store.take(self.alloc),
+            Form::Text(_) => unreachable!(),
         }
     }
 

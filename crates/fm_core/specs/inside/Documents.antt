@@ -1,6 +1,7 @@
 -- The text of a document, as it grows metric by metric.
 use Rattle.std.specs.Prelude.{◌≡◌, ℕ, List, [], ◌++◌, Option, None, ◌⊎◌}
-use Rattle.std.specs.Option.{option_copied}
+use Rattle.std.specs.Option.{option_copied, option_map}
+use Rattle.std.specs.String.{string_bytes}
 use Rattle.fm_grammar.specs.Exposition.{Text, Family, Exposition}
 use Rattle.fm_grammar.specs.WellFormed.{IsFamily}
 use Rattle.fm_grammar.specs.Reading.{IsExposition}
@@ -8,6 +9,7 @@ use Rattle.fm_exposition.specs.Rows.{head_rows}
 use Rattle.fm_exposition.specs.Samples.{labels_of}
 use Rattle.fm_exposition.specs.inside.DocumentRows.{family_rows, families_rows}
 use Rattle.fm_raw.specs.declared.metadata.Metadata.{Metadata}
+use Rattle.fm_raw.specs.Units.{seen_unit}
 use Rattle.fm_registry_model.specs.Registration.{printed_unit}
 use Rattle.fm_registry_model.specs.Listing.{Listed, listed_name}
 use Rattle.fm_writer.specs.Output.{Output, OutputSamples, OutputText}
@@ -26,6 +28,11 @@ heading_of l =
 -- the heading of a metric with this metadata in a registry with this namespace and these labels
 abbrev pub heading_within : Scope → Metadata → Heading
 heading_within scope metadata = heading_in (option_copied scope.namespace) (labels_of scope.constants.now) metadata
+
+-- the lines of a family with this printed name that come before its samples, for a metric with this metadata
+abbrev pub rows_before : Text → Metadata → Text
+rows_before name metadata =
+    head_rows (record { name = name; metric_type = metadata.metric_type; help = string_bytes metadata.help; unit = printed_unit (option_map seen_unit metadata.unit); samples = [] })
 
 -- the lines under a heading that come before its samples
 abbrev pub heading_rows : Heading → Text

@@ -100,7 +100,7 @@ pub fn collect<M: EncodeMetric>(
     let Ok(list) = registry.listing(alloc) else {
         return Err(EncodeError::Memory);
     };
-    let mut encoder = MetricFamilyEncoder::new(alloc);
+    let mut encoder = MetricFamilyEncoder::new(alloc)?;
     for listed in &list {
         encode_listed(&mut encoder, listed)?;
     }

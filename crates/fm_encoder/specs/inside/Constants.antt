@@ -5,12 +5,12 @@ use Rattle.fm_grammar.specs.Exposition.{Label}
 use Rattle.fm_encode_error.specs.declared.EncodeError.{EncodeError}
 use Rattle.fm_labels.specs.Labels.{LabelsValid, LabelsFault, emitted_again}
 
--- the family's type, and its constant labels
+-- the labels, and why no point is accepted under them, if one of them is not valid
 pub record FamilyConstants : Type 0 where
-  pub metric_type : MetricType
   pub labels : List Label
+  pub refusal : Option EncodeError
 
 -- the labels were tested: they are allowed in a family of the type, or this is why they are not
-pub record AreTested (type : MetricType) (labels : List Label) (refusal : Option EncodeError) : Type 0 where
-  pub valid : refusal ≡ None → LabelsValid type [] (emitted_again labels)
-  pub fault : (k : EncodeError) → refusal ≡ Some k → LabelsFault k type [] (emitted_again labels)
+pub record AreTested (type : MetricType) (constants : FamilyConstants) : Type 0 where
+  pub valid : constants.refusal ≡ None → LabelsValid type [] (emitted_again constants.labels)
+  pub fault : (k : EncodeError) → constants.refusal ≡ Some k → LabelsFault k type [] (emitted_again constants.labels)

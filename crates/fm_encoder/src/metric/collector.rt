@@ -1,12 +1,12 @@
 //! What the collector and families call, and no metric: encoders are made, told the next family, and taken apart.
-ghost use Rattle.std.specs.Prelude.{◌≡◌, [], ◌⊎◌, None, Some, IfSome, OnOk, IfOk, IfErr, Err, string_bytes};
+ghost use Rattle.std.specs.Prelude.{◌≡◌, [], ◌⊎◌, None, Some, IfSome, IsSome, OnOk, OnErr, IfOk, IfErr, Err, string_bytes};
 ghost use Rattle.fm_grammar.specs.Names.{IsSnakeCase};
 ghost use Rattle.fm_grammar.specs.WellFormed.{AreMillis};
 ghost use Rattle.fm_encode_error.specs.declared.EncodeError.{EncodeError};
 ghost use Rattle.fm_exposition.specs.Rows.{head_rows};
 ghost use Rattle.fm_exposition.specs.Samples.{labels_of};
 ghost use Rattle.fm_writer.specs.Heads.{headed};
-ghost use Rattle.fm_writer.specs.Output.{AreShared, OutputText, with_lines};
+ghost use Rattle.fm_writer.specs.Output.{AreShared, OutputSamples, OutputText, samples_in, with_lines};
 ghost use Rattle.fm_labels.specs.Refusals.{IsOutcome, result_of};
 ghost use Rattle.fm_labels.specs.WrittenLabels.{AreWritten};
 ghost use Rattle.fm_encoder.specs.Emits.{MembersOf};
@@ -16,56 +16,43 @@ use crate::constants::ConstantLabels;
 use crate::metric::MetricEncoder;
 use crate::point::{EncodePoint, PointEncoder};
 use fm_encode_error::EncodeError;
-use fm_grammar::MetricType;
+use fm_exposition::SampleStore;
 use fm_labels::label_set::EncodeLabelSet;
 use fm_labels::written_labels::WrittenLabels;
 use fm_writer::{FamilyHead, Sink, TextBlocks};
-use std::alloc::Global;
+use std::alloc::{AllocError, Global};
 
-/// An encoder for the family with this printed name, this type, these constant labels and this timestamp in milliseconds.
-/// It puts the samples into this sink, which has no common labels yet. It copies the labels, and fails with `Memory` if
-/// memory runs out.
-pub fn for_family(
-    alloc: Global,
-    name: String,
-    metric_type: MetricType,
-    constants: &[(String, String)],
-    time: Option<u128>,
-    sink: Sink,
-) -> Result<MetricEncoder, EncodeError>
-    requires name { IsSnakeCase (string_bytes name) }
-    requires time { IfSome time AreMillis }
+// An encoder that puts samples into this sink.
+fn over(alloc: Global, sink: Sink) -> MetricEncoder
     requires shared { AreShared [] sink.shared }
-    ensures made { IfOk result (λ encoder. encoder ≡ record {
-      context = record {
-        setting = record { name = string_bytes name; metric_type = metric_type; time = time };
-        constants = labels_of constants.now;
-      };
-      output = sink.output;
-      refused = None;
-    }) }
-    ensures memory { IfErr result (λ e. e ≡ EncodeError.Memory) }
+    ensures output { result.output ≡ sink.output }
+    ensures accepting { result.refused ≡ None }
 {
-    Ok(MetricEncoder {
-        constants: ConstantLabels::new(alloc, metric_type, constants)?,
-        points: PointEncoder::new(alloc, name, metric_type, time, sink),
-    })
+    MetricEncoder {
+        constants: ConstantLabels::none(alloc),
+        points: PointEncoder::new(alloc, sink),
+    }
 }
 
-/// An encoder that appends the lines of families, each of which begins with `begin_family`. Fails with `Memory` if memory
-/// runs out.
-pub fn for_lines(alloc: Global) -> Result<MetricEncoder, EncodeError>
+/// An encoder that keeps the samples of families, each of which begins with `begin_family` and ends with `take_samples`. Fails
+/// if memory runs out.
+pub fn for_samples(alloc: Global) -> Result<MetricEncoder, AllocError>
     ensures made { IfOk result
-        (λ encoder. (encoder.output ≡ OutputText []) × (encoder.refused ≡ None)) }
-    ensures memory { IfErr result (λ e. e ≡ EncodeError.Memory) }
+        (λ encoder. (encoder.output ≡ OutputSamples []) × (encoder.refused ≡ None)) }
 {
-    let name = String::from_str(alloc, "unnamed")?;
-    let sink = Sink::text(alloc, TextBlocks::new(alloc));
-    for_family(alloc, name, MetricType::Unknown, &[], None, sink)
+    Ok(over(alloc, Sink::samples(alloc)?))
+}
+
+/// An encoder that appends the lines of families, each of which begins with `begin_family`.
+pub fn for_lines(alloc: Global) -> MetricEncoder
+    ensures output { result.output ≡ OutputText [] }
+    ensures accepting { result.refused ≡ None }
+{
+    over(alloc, Sink::text(alloc, TextBlocks::new(alloc)))
 }
 
 /// Goes on to the family with this printed name, this head and these constant labels, and appends the lines that come before
-/// its samples. The timestamp, in milliseconds, is written on each sample. `name` is swapped with the name of the family
+/// its samples, unless the encoder keeps samples. The timestamp, in milliseconds, is written on each sample. `name` is swapped with the name of the family
 /// before. Fails with `Memory` if memory runs out; then that is the encoder's refusal, and the text may end in a part of these
 /// lines. An encoder that has refused something stays as it is, and returns that refusal.
 pub fn begin_family(
@@ -100,14 +87,18 @@ pub fn begin_family(
     if let Some(error) = encoder.points.refusal() {
         return Err(error);
     }
-    if let Err(error) = encoder.constants.begin(alloc, head.metric_type, constants) {
+    let before = encoder.points.metric_type();
+    if let Err(error) = encoder
+        .constants
+        .begin(alloc, before, head.metric_type, constants)
+    {
         return encoder.points.refuse(error);
     }
     encoder.points.begin_family(name, head, time)
 }
 
-/// Takes a member as `MetricEncoder::encode` does. If its labels were kept, and none has the name of a constant label, the kept labels are
-/// copied in place of reading them.
+/// Takes a member as `MetricEncoder::encode` does. If its labels were kept, and none has the name of a constant label, the
+/// kept labels are copied in place of reading them.
 pub fn encode_member<LS: EncodeLabelSet, P: EncodePoint>(
     encoder: &mut MetricEncoder,
     written: Option<&WrittenLabels>,
@@ -134,10 +125,20 @@ pub fn outcome(encoder: &MetricEncoder, visited: Result<(), EncodeError>) -> Res
     encoder.points.outcome(visited)
 }
 
-/// The name of the last family, and the sink.
-pub fn into_parts(encoder: MetricEncoder) -> (String, Sink)
-    ensures name { string_bytes result.0 ≡ encoder.context.setting.name }
-    ensures output { result.1.output ≡ encoder.output }
+/// Takes the samples of a family out of an encoder that keeps samples: none are left. Fails if memory runs out; then nothing
+/// changes.
+pub fn take_samples(encoder: &mut MetricEncoder) -> Result<SampleStore, AllocError>
+    requires keeps { IsSome (samples_in encoder.old.output) }
+    ensures taken { IfOk result (λ taken. encoder.old.output ≡ OutputSamples taken.samples) }
+    ensures emptied { OnOk result (encoder.new ≡ record encoder.old { output = OutputSamples [] }) }
+    ensures kept { OnErr result (encoder.new ≡ encoder.old) }
 {
-    encoder.points.into_parts()
+    encoder.points.take_samples()
+}
+
+/// The sink.
+pub fn into_sink(encoder: MetricEncoder) -> Sink
+    ensures { result.output ≡ encoder.output }
+{
+    encoder.points.into_sink()
 }

@@ -22,10 +22,9 @@ add_listed-requires-clause-listable g c = λ κs lives.
 
 pub loop-listed-init : goal.loop-listed-init
 loop-listed-init g c =
-    let made = rw c.in_ok-encoder.was at c.for_lines.ensures.made in
-    let output = made.0 in
+    let output = c.for_lines-encoder.ensures.output in
     record {
-      lines = record { text = output ∙ ap OutputText (sym (ap text_so_far output)); accepting = made.1 };
+      lines = record { text = output ∙ ap OutputText (sym (ap text_so_far output)); accepting = c.for_lines-encoder.ensures.accepting };
       text = rw output (IsTextOf-none _ _ _);
     }
 
@@ -44,7 +43,7 @@ loop-listed-preserved g c =
 pub returns-in_err-add_listed-clause-fault : goal.returns-in_err-add_listed-clause-fault
 returns-in_err-add_listed-clause-fault g c =
     let within : c.loop-listed.listed-index < length c.deref-listed-items.result.now = omega arith in
-    let exit = err_from_is_err_and c.from_residual-in_err-add_listed.result c.from_residual-in_err-add_listed.ensures.1 in
+    let exit = err_from_is_err_and c.from_residual.result c.from_residual.ensures.1 in
     let refusal = rw c.in_err-add_listed.was at c.add_listed.ensures in
     let k = c.in_err-add_listed.field-0.0 in
     rw (exit.1, exit.2) (elim refusal [
@@ -55,7 +54,7 @@ returns-in_err-add_listed-clause-fault g c =
 
 pub returns-in_err-add_listed-clause-not_writing : goal.returns-in_err-add_listed-clause-not_writing
 returns-in_err-add_listed-clause-not_writing g c =
-    let exit = err_from_is_err_and c.from_residual-in_err-add_listed.result c.from_residual-in_err-add_listed.ensures.1 in
+    let exit = err_from_is_err_and c.from_residual.result c.from_residual.ensures.1 in
     let refusal = rw c.in_err-add_listed.was at c.add_listed.ensures in
     let k = c.in_err-add_listed.field-0.0 in
     rw (exit.1, exit.2) (refusal-not_writing k (λ m. g.M.EncodeMetric.offers m) (λ m. g.M.EncodeMetric.stamps m) (λ m. g.M.EncodeMetric.may_fault m) (seen_listed c.listed-item.result) refusal)

@@ -5,8 +5,8 @@ use Rattle.fm_labels.specs.Labels.{LabelsValid, emitted_again}
 use Rattle.fm_labels.proofs.LabelsLemmas.{written_again}
 use Rattle.fm_encoder.proofs.constants.ConstantLabels.new.Goals as goal
 
-pub invariant_of-result : goal.invariant_of-result
-invariant_of-result c =
+pub returns-in-Ok-clause-tested : goal.returns-in-Ok-clause-tested
+returns-in-Ok-clause-tested c =
     let same = c.in-Ok.ensures.1 ∙ written_again (labels_of c.args.labels.now) in
     record {
       valid = λ _. subst (λ (ls : List Label). LabelsValid c.args.metric_type [] (emitted_again ls)) (sym same) c.in-Ok.ensures.0;
@@ -14,6 +14,4 @@ invariant_of-result c =
     }
 
 pub returns-in-Ok-clause-made : goal.returns-in-Ok-clause-made
-returns-in-Ok-clause-made c =
-    let same = c.in-Ok.ensures.1 ∙ written_again (labels_of c.args.labels.now) in
-    λ i. record { metric_type = c.args.metric_type; labels = same i }
+returns-in-Ok-clause-made c = c.in-Ok.ensures.1 ∙ written_again (labels_of c.args.labels.now)

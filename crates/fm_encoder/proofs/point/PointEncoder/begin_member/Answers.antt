@@ -1,4 +1,4 @@
-use Rattle.std.proofs.Common.{sym, subst, []}
+use Rattle.std.proofs.Common.{sym, ◌∙◌, subst, []}
 use Rattle.fm_grammar.specs.declared.MetricType.{MetricType}
 use Rattle.fm_grammar.specs.WellFormed.{AreLabels}
 use Rattle.fm_labels.specs.inside.FreeLabels.{AreFree}
@@ -11,7 +11,7 @@ invariant_of-self g c =
     let type = c.self.inside.labels.metric_type in
     let labels = c.followed_by.new.encoder.labels in
     record {
-      name = c.self.invariant.name;
+      name = λ state_set. c.self.invariant.name (sym read.same_type ∙ state_set);
       labels = subst AreLabels (sym read.gathered.1) (AreLabels-written type _ read.gathered.0);
       free = subst (λ (t : MetricType). AreFree t labels) (sym read.same_type) (subst (AreFree type) (sym read.gathered.1) (AreFree-written type [] _ read.gathered.0));
       shared = rw c.unshare.ensures tt;
