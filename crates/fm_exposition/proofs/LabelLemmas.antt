@@ -1,6 +1,6 @@
 -- Joined lists of labels.
 use Rattle.std.proofs.Common.{◌≡◌, ℕ, List, [], ◌∷◌, ◌++◌, refl, sym, ap, ◌∙◌, length, length-append, ◌≤◌, ◌<◌, ◌-◌, suc, zero, arith, ◌+◌, drop, add-one}
-use Rattle.std.proofs.lemmas.List.{length-map}
+use Rattle.std.proofs.lemmas.List.{length-map, drop_all}
 use Rattle.std.specs.Prelude.{slice_get, is_none, Bool, true, false, Option, Some, None}
 use Rattle.std.specs.Option.{option_map, option_eq}
 use Rattle.std.specs.Cmp.Lexicographic.{pointwise}
@@ -32,14 +32,13 @@ differ_at (x ∷ xs) (y ∷ ys) zero e = rw (← e) refl
 differ_at (x ∷ xs) (y ∷ ys) (suc i) e = differ_at xs ys i e
 
 -- both end here
-pub end_at : (xs ys : List Label) (i : ℕ) → true ≡ option_eq same_label (slice_get xs i) (slice_get ys i) → is_none (slice_get xs i) ≡ true → true ≡ pointwise same_label (drop i xs) (drop i ys)
-end_at [] [] i e none = rw (drop_nil i) refl
-end_at [] (y ∷ ys) zero e none = e
-end_at [] (y ∷ ys) (suc i) e none = rw (drop_nil i) at (end_at [] ys i e none)
-end_at (x ∷ xs) [] zero e none = e
-end_at (x ∷ xs) [] (suc i) e none = rw (drop_nil i) at (end_at xs [] i e none)
-end_at (x ∷ xs) (y ∷ ys) zero e none = absurd (Prim.cc)
-end_at (x ∷ xs) (y ∷ ys) (suc i) e none = end_at xs ys i e none
+pub end_at : (xs ys : List Label) (i : ℕ) → length xs ≤ i → length ys ≤ i → true ≡ pointwise same_label (drop i xs) (drop i ys)
+end_at xs ys i one other = rw (drop_all i xs one, drop_all i ys other) refl
+
+some_at : (xs : List Label) (i : ℕ) → i < length xs → is_none (slice_get xs i) ≡ false
+some_at [] i within = absurd (omega arith)
+some_at (x ∷ xs) zero within = refl
+some_at (x ∷ xs) (suc i) within = some_at xs i (omega arith)
 
 missing : (o : Option Label) → true ≡ option_eq same_label o None → is_none o ≡ false → ⊥
 missing None e some = Prim.cc
@@ -55,19 +54,12 @@ same_at_suc (x ∷ xs) (y ∷ ys) (suc i) e some = same_at_suc xs ys i e some
 pub same_at : (xs ys : List Label) (i : ℕ) → true ≡ option_eq same_label (slice_get xs i) (slice_get ys i) → is_none (slice_get xs i) ≡ false → pointwise same_label (drop (i + 1) xs) (drop (i + 1) ys) ≡ pointwise same_label (drop i xs) (drop i ys)
 same_at xs ys i e some = rw add-one (same_at_suc xs ys i e some)
 
-is_none_map : {P : Type 0} (f : P → Label) (o : Option P) → is_none (option_map f o) ≡ is_none o
-is_none_map f None = refl
-is_none_map f (Some x) = refl
-
--- the same three for what was read at the index
+-- the same two for what was read at the index
 pub read_differ : {P : Type 0} (f : P → Label) (xs ys : List Label) (i : ℕ) (a b : Option P) (r : Bool) → r ≡ option_eq same_label (option_map f a) (option_map f b) → option_map f a ≡ slice_get xs i → option_map f b ≡ slice_get ys i → r ≡ false → false ≡ pointwise same_label (drop i xs) (drop i ys)
 read_differ f xs ys i a b r is a_is b_is told = differ_at xs ys i (rw (← a_is, ← b_is, ← is) (sym told))
 
-pub read_end : {P : Type 0} (f : P → Label) (xs ys : List Label) (i : ℕ) (a b : Option P) (r : Bool) → r ≡ option_eq same_label (option_map f a) (option_map f b) → option_map f a ≡ slice_get xs i → option_map f b ≡ slice_get ys i → r ≡ true → is_none a ≡ true → true ≡ pointwise same_label (drop i xs) (drop i ys)
-read_end f xs ys i a b r is a_is b_is told none = end_at xs ys i (rw (← a_is, ← b_is, ← is) (sym told)) (rw (← a_is) (is_none_map f a ∙ none))
-
-pub read_same : {P : Type 0} (f : P → Label) (xs ys : List Label) (i : ℕ) (a b : Option P) (r : Bool) → r ≡ option_eq same_label (option_map f a) (option_map f b) → option_map f a ≡ slice_get xs i → option_map f b ≡ slice_get ys i → r ≡ true → is_none a ≡ false → pointwise same_label (drop (i + 1) xs) (drop (i + 1) ys) ≡ pointwise same_label (drop i xs) (drop i ys)
-read_same f xs ys i a b r is a_is b_is told some = same_at xs ys i (rw (← a_is, ← b_is, ← is) (sym told)) (rw (← a_is) (is_none_map f a ∙ some))
+pub read_same : {P : Type 0} (f : P → Label) (xs ys : List Label) (i : ℕ) (a b : Option P) (r : Bool) → r ≡ option_eq same_label (option_map f a) (option_map f b) → option_map f a ≡ slice_get xs i → option_map f b ≡ slice_get ys i → r ≡ true → i < length xs → pointwise same_label (drop (i + 1) xs) (drop (i + 1) ys) ≡ pointwise same_label (drop i xs) (drop i ys)
+read_same f xs ys i a b r is a_is b_is told within = same_at xs ys i (rw (← a_is, ← b_is, ← is) (sym told)) (some_at xs i within)
 
 pub ruleset lengths = (length-append, length-map)
 

@@ -9,8 +9,8 @@ use Rattle.fm_grammar.specs.Exposition as grammar
 use Rattle.fm_grammar.specs.Exposition.{Label}
 use Rattle.fm_grammar.proofs.Runs.{all_append}
 use Rattle.fm_exposition.specs.declared.exposition.Sample.{Sample}
-use Rattle.fm_exposition.specs.Samples.{common_labels, sample_of, samples_of}
-use Rattle.fm_exposition.specs.inside.Points.{HaveInCommon, AreInPoints, EndsInPoint, IsCut}
+use Rattle.fm_exposition.specs.Samples.{common_labels, own_labels, sample_of, samples_of}
+use Rattle.fm_exposition.specs.inside.Points.{HaveInCommon, AreInPoints, EndsInPoint, IsCut, AreUtf8Labels, HaveUtf8Labels}
 
 -- a sample's common labels are those that it shares
 pub common_at : (common : List Label) (samples : List Sample) (i : ℕ) (sample : Sample) → i < length samples → sample ≡ get_or samples i sample → HaveInCommon common samples → common_labels sample ≡ common
@@ -109,3 +109,7 @@ pub last_count : (common : List Label) (counts : List ℕ) (samples : List Sampl
 last_count common counts samples cut fits =
     let ends = cut.under_way refl in
     (ends.counts_before, length ends.point, ends.counts_are, omega (arith, fits, ap length ends.samples_are, length-append ends.before ends.point))
+
+-- the labels of one sample more are valid UTF-8
+pub utf8_pushed : (samples : List Sample) (sample : Sample) → HaveUtf8Labels samples → AreUtf8Labels (common_labels sample) → AreUtf8Labels (own_labels sample) → HaveUtf8Labels (samples ++ sample ∷ [])
+utf8_pushed samples sample have common own = all_append (λ (s : Sample). AreUtf8Labels (common_labels s) × AreUtf8Labels (own_labels s)) samples (sample ∷ []) have ((common, own), tt)

@@ -7,7 +7,6 @@ use Rattle.std.specs.Borrow.{Bor}
 use Rattle.std.specs.declared.string.String.{String}
 use Rattle.std.specs.declared.alloc.Global.{Global}
 use Rattle.std.specs.declared.sync.Arc.{Arc}
-use Rattle.std.specs.declared.vec.Vec.{Vec}
 use Rattle.fm_grammar.specs.Exposition as grammar
 use Rattle.fm_grammar.specs.Exposition.{Text, Label}
 use Rattle.fm_exposition.specs.declared.exposition.Value.{Value}
@@ -39,15 +38,15 @@ abbrev pub exemplar_at : Bor Exemplar → grammar.Exemplar
 exemplar_at exemplar = exemplar_of exemplar.now
 
 -- labels that samples share
-abbrev pub shared_labels : Arc (Vec (String Global × String Global) Global) Global → List Label
-shared_labels shared = labels_of (arc_value shared).items
+abbrev pub shared_labels : Arc (List Label) Global → List Label
+shared_labels shared = arc_value shared
 
 -- the labels that a sample shares with its point's other samples
 abbrev pub common_labels : Sample → List Label
 common_labels sample = shared_labels sample.common
 
 abbrev pub own_labels : Sample → List Label
-own_labels sample = labels_of sample.own.items
+own_labels sample = sample.own
 
 abbrev pub sample_of : Sample → grammar.Sample
 sample_of sample = record {

@@ -122,13 +122,13 @@ fn same_joined_labels(one: &Sample, other: &Sample) -> bool
     ensures { result
         ≡ pointwise same_label (sample_of one.now).labels (sample_of other.now).labels }
 {
-    for index in 0..usize::MAX {
-        let label = one.label(index);
-        if !is_same_label(label, other.label(index)) {
+    let count = one.label_count();
+    if count != other.label_count() {
+        return false;
+    }
+    for index in 0..count {
+        if !is_same_label(one.label(index), other.label(index)) {
             return false;
-        }
-        if label.is_none() {
-            return true;
         }
     }
     true

@@ -2,9 +2,10 @@
 ghost use Rattle.std.specs.Prelude.{◌≡◌, ◌++◌, length, slice_get};
 ghost use Rattle.std.specs.Option.{option_copied, option_map};
 ghost use Rattle.fm_grammar.specs.Reading.{IsExposition};
-ghost use Rattle.fm_exposition.specs.inside.Points.{AreInPoints};
+ghost use Rattle.fm_exposition.specs.inside.Points.{AreInPoints, HaveUtf8Labels};
 ghost use Rattle.fm_exposition.specs.Samples.{labels_of, value_of, exemplar_of, sample_of, samples_of, shown_label, exemplar_at};
 
+use crate::label_list::LabelList;
 use crate::store::SampleStore;
 use fm_grammar::{MetricType, SampleKind};
 use fm_raw::fixed::{Fixed, FixedSum};
@@ -12,7 +13,7 @@ use std::marker::Model;
 use std::sync::Arc;
 
 /// Labels that the samples of a point share.
-pub type CommonLabels = Arc<Vec<(String, String)>>;
+pub type CommonLabels = Arc<LabelList>;
 
 /// The value of a sample.
 #[derive(Clone, Copy, Debug)]
@@ -38,7 +39,7 @@ pub struct Exemplar {
 pub struct Sample {
     pub(crate) kind: SampleKind,
     pub(crate) common: CommonLabels,
-    pub(crate) own: Vec<(String, String)>,
+    pub(crate) own: LabelList,
     pub(crate) value: Value,
     pub(crate) time: Option<u128>,
     pub(crate) exemplar: Option<Exemplar>,
@@ -131,6 +132,7 @@ impl FamilySamples {
     // The number of samples of each point, and all samples.
     pub(crate) fn points(&self) -> (&[usize], &[Sample])
         ensures points { AreInPoints result.0.now result.1.now }
+        ensures utf8 { HaveUtf8Labels result.1.now }
         ensures samples { samples_of result.1.now ≡ self.now.samples }
     {
         self.samples.points()
@@ -157,8 +159,7 @@ impl Sample {
     pub fn label(&self, index: usize) -> Option<(&str, &str)>
         ensures { option_map shown_label result ≡ slice_get (sample_of self.now).labels index }
     {
-        let label = joined_at(&self.common, &self.own, index)?;
-        Some((label.0.as_str(), label.1.as_str()))
+        joined_at(&self.common, &self.own, index)
     }
 
     /// The sample's value.
@@ -228,18 +229,18 @@ fn label_at(labels: &[(String, String)], index: usize) -> Option<(&str, &str)>
     Some((label.0.as_str(), label.1.as_str()))
 }
 
-// The label at an index of two lists, one after the other.
+// The name and the value of the label at an index of two lists, one after the other.
 #[tactic(auto, using(crate::proofs::LabelLemmas::gets))]
 fn joined_at<'a>(
-    front: &'a [(String, String)],
-    back: &'a [(String, String)],
+    front: &'a LabelList,
+    back: &'a LabelList,
     index: usize,
-) -> Option<&'a (String, String)>
-    ensures { option_copied result ≡ slice_get (front.now ++ back.now) index }
+) -> Option<(&'a str, &'a str)>
+    ensures { option_map shown_label result ≡ slice_get (front.now ++ back.now) index }
 {
     if index < front.len() {
-        front.get(index)
+        front.label(index)
     } else {
-        back.get(index - front.len())
+        back.label(index - front.len())
     }
 }

@@ -1,10 +1,11 @@
 //! The samples of a family while they are collected point by point.
 ghost use Rattle.std.specs.Prelude.{◌≡◌, ◌+◌, ◌^◌, ◌<◌, ℕ, List, [], ◌∷◌, ◌++◌, OnOk, OnErr, IfOk};
 ghost use Rattle.std.specs.Option.{option_map};
-ghost use Rattle.fm_exposition.specs.inside.Points.{AreInPoints};
-ghost use Rattle.fm_exposition.specs.Samples.{labels_of, shared_labels, value_of, exemplar_of, samples_of};
+ghost use Rattle.fm_exposition.specs.inside.Points.{AreInPoints, HaveUtf8Labels};
+ghost use Rattle.fm_exposition.specs.Samples.{shared_labels, value_of, exemplar_of, samples_of};
 
 use crate::exposition::{CommonLabels, Exemplar, Sample, Value};
+use crate::label_list::LabelList;
 use fm_grammar::SampleKind;
 use std::alloc::{AllocError, Global};
 use std::marker::Model;
@@ -23,7 +24,7 @@ pub struct SampleStore {
 
 impl Model for SampleStore {
     ghost use Rattle.fm_exposition.specs.Samples.{shared_labels, samples_of};
-    ghost use Rattle.fm_exposition.specs.inside.Points.{Stored, IsCut};
+    ghost use Rattle.fm_exposition.specs.inside.Points.{Stored, AreStored};
 
     ghost Value = { Stored };
 
@@ -31,7 +32,7 @@ impl Model for SampleStore {
         record { common = shared_labels s.common; samples = samples_of s.samples.items } };
 
     ghost invariant = { λ s.
-        IsCut (shared_labels s.common) s.is_under_way s.counts.items s.samples.items };
+        AreStored (shared_labels s.common) s.is_under_way s.counts.items s.samples.items };
 }
 
 impl SampleStore {
@@ -39,6 +40,7 @@ impl SampleStore {
     pub fn new(alloc: Global, common: CommonLabels) -> SampleStore
         ensures { result ≡ record { common = shared_labels common; samples = [] } }
     {
+        common.hold_utf8();
         SampleStore {
             samples: Vec::new(alloc),
             counts: Vec::new(alloc),
@@ -48,10 +50,10 @@ impl SampleStore {
     }
 
     /// The common labels of the samples that are pushed next.
-    pub fn common(&self) -> &[(String, String)]
-        ensures { labels_of result.now ≡ self.now.common }
+    pub fn common(&self) -> &LabelList
+        ensures { result.now ≡ self.now.common }
     {
-        self.common.as_slice()
+        &self.common
     }
 
     /// The samples in order.
@@ -66,6 +68,7 @@ impl SampleStore {
         ensures common { self.new.common ≡ shared_labels common }
         ensures samples { self.new.samples ≡ self.old.samples }
     {
+        common.hold_utf8();
         self.is_under_way = false;
         self.common = common;
     }
@@ -83,7 +86,7 @@ impl SampleStore {
     pub fn push(
         &mut self,
         kind: SampleKind,
-        own: Vec<(String, String)>,
+        own: LabelList,
         value: Value,
         time: Option<u128>,
         exemplar: Option<Exemplar>,
@@ -91,13 +94,14 @@ impl SampleStore {
         ensures common { self.new.common ≡ self.old.common }
         ensures pushed { OnOk result (self.new.samples ≡ self.old.samples ++ record {
           kind = kind;
-          labels = self.old.common ++ labels_of own.items;
+          labels = self.old.common ++ own;
           value = value_of value;
           time = time;
           exemplar = option_map exemplar_of exemplar;
         } ∷ []) }
         ensures kept { OnErr result (self.new.samples ≡ self.old.samples) }
     {
+        own.hold_utf8();
         if !self.is_under_way {
             self.counts.push(0)?;
             self.is_under_way = true;
@@ -129,6 +133,7 @@ impl SampleStore {
     // The number of samples of each point, and all samples.
     pub(crate) fn points(&self) -> (&[usize], &[Sample])
         ensures points { AreInPoints result.0.now result.1.now }
+        ensures utf8 { HaveUtf8Labels result.1.now }
         ensures samples { samples_of result.1.now ≡ self.now.samples }
     {
         (self.counts.as_slice(), self.samples.as_slice())

@@ -73,14 +73,6 @@ pub one_block_front : (text : Text) (ks ls : List Label) (s t : Text) → IsBloc
 one_block_front text ks ls s t found are e = one_block ks ls s t found.0.names are.names (sym found.1 ∙ e)
 
 -- what the test of an empty list says
-pub empty_list : {A : Type 0} (xs : List A) (n : ℕ) → length xs ≡ n → true ≡ (n == 0) → xs ≡ []
-empty_list [] n l e = refl
-empty_list (x ∷ xs) n l e = absurd (grind (arith, nat_tests))
-
-pub not_empty_list : {A : Type 0} (xs : List A) (n : ℕ) → length xs ≡ n → false ≡ (n == 0) → xs ≡ [] → ⊥
-not_empty_list [] n l e none = absurd (grind (arith, nat_tests))
-not_empty_list (x ∷ xs) n l e none = cc
-
-pub map_empty : {A B : Type 0} (f : A → B) (xs : List A) → map f xs ≡ [] → xs ≡ []
-map_empty f [] e = refl
-map_empty f (x ∷ xs) e = absurd (cc)
+pub no_items : {A : Type 0} (xs : List A) → length xs ≡ 0 → xs ≡ []
+no_items [] none = refl
+no_items (x ∷ xs) none = absurd (omega arith)

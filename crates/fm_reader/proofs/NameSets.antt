@@ -10,11 +10,8 @@ use Rattle.std.specs.Str.{bytes_eq}
 use Rattle.std.proofs.lemmas.Bool.{true≢false}
 use Rattle.std.proofs.lemmas.Slice.Eq.{bytes_eq-Decides}
 use Rattle.std.proofs.lemmas.Map.Text.{is_eq-slice_cmp}
-use Rattle.std.specs.String.{string_bytes}
-use Rattle.std.specs.declared.string.String.{String}
-use Rattle.std.specs.declared.alloc.Global.{Global}
-use Rattle.fm_grammar.specs.Exposition.{Text}
-use Rattle.fm_exposition.specs.Samples.{labels_of}
+use Rattle.std.specs.Prelude.{slice_get, Option, Some, None}
+use Rattle.fm_grammar.specs.Exposition.{Text, Label}
 use Rattle.fm_grammar.specs.Names.{AllDifferent}
 use Rattle.fm_grammar.proofs.Runs.{all_append, all_middle}
 
@@ -84,15 +81,15 @@ different_at (x ∷ texts) (suc i) d within h = ((λ e. all_at x texts i d (omeg
 
 -- the names of labels
 
-abbrev pub names_of : List (String Global × String Global) → List Text
-names_of labels = map (λ label. label.name) (labels_of labels)
+abbrev pub names_of : List Label → List Text
+names_of labels = map (λ label. label.name) labels
 
-pub names_at : (labels : List (String Global × String Global)) (i : ℕ) (d : Text) (item : String Global × String Global) → i < length labels → item ≡ get_or labels i item → get_or (names_of labels) i d ≡ string_bytes item.0
-names_at [] i d item within is = absurd (omega arith)
-names_at (x ∷ labels) zero d item within is = ap (λ p. string_bytes p.0) (sym is)
-names_at (x ∷ labels) (suc i) d item within is = names_at labels i d item (omega arith) is
+pub names_at : (labels : List Label) (i : ℕ) (d : Text) (label : Label) → slice_get labels i ≡ Some label → get_or (names_of labels) i d ≡ label.name
+names_at [] i d label is = absurd (Prim.cc)
+names_at (x ∷ labels) zero d label is = let same : x ≡ label = cc in ap (λ l. l.name) same
+names_at (x ∷ labels) (suc i) d label is = names_at labels i d label is
 
-pub names_length : (labels : List (String Global × String Global)) → length (names_of labels) ≡ length labels
+pub names_length : (labels : List Label) → length (names_of labels) ≡ length labels
 names_length [] = refl
 names_length (x ∷ labels) = omega (arith, names_length labels)
 
@@ -120,8 +117,11 @@ name_held old new key texts i d updates holds within same =
 
 -- one name among others
 
-pub not_fresh : (q : Text) (texts : List Text) (i : ℕ) → i < length texts → get_or texts i [] ≡ q → IsFresh q texts → ⊥
-not_fresh q texts i within is fresh = all_at q texts i [] within fresh is
+pub not_fresh : (q : Text) (texts : List Text) (n i : ℕ) → i < n → i < length texts → get_or texts i [] ≡ q → IsFresh q (take n texts) → ⊥
+not_fresh q [] n i before within is fresh = absurd (omega arith)
+not_fresh q (x ∷ texts) zero i before within is fresh = absurd (omega arith)
+not_fresh q (x ∷ texts) (suc n) zero before within is fresh = fresh.0 is
+not_fresh q (x ∷ texts) (suc n) (suc i) before within is fresh = not_fresh q texts n i (omega arith) (omega arith) is fresh.1
 
 pub fresh_more : (q : Text) (texts : List Text) (i : ℕ) → i < length texts → get_or texts i [] ≢ q → IsFresh q (take i texts) → IsFresh q (take (i + 1) texts)
 fresh_more q texts i within other fresh =

@@ -12,7 +12,7 @@ ghost use Rattle.fm_reader.specs.declared.error.ReadError.TheVariants.{Memory};
 use crate::error::ReadError;
 use crate::lines::heads::{read_help, read_type, read_unit};
 use crate::lines::sample::{ReadSample, read_sample};
-use fm_exposition::{FamilySamples, SampleStore, make};
+use fm_exposition::{FamilySamples, LabelList, SampleStore, make};
 use fm_grammar::MetricType;
 use std::alloc::Global;
 use std::collections::BTreeSet;
@@ -209,7 +209,7 @@ fn step_headed(
     let Some(help) = read_help(alloc, &name, line)? else {
         return Ok(None);
     };
-    let common = Arc::new(alloc, Vec::new(alloc))?;
+    let common = Arc::new(alloc, LabelList::new(alloc))?;
     let family = Pending {
         name,
         metric_type,

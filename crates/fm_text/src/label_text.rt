@@ -9,8 +9,11 @@ ghost use Rattle.fm_text.specs.inside.LabelTexts.{part_in, labels_in, IsPart, na
 use crate::growing::GrowingText;
 use crate::labels::{LabelSource, append_labels_at};
 use crate::output::Output;
-use crate::spans::{Part, LabelSpan, are_labels, has_name, has_name_of, pairs_at, push_after};
 use crate::plain::is_plain;
+use crate::spans::{
+    LabelSpan, Part, are_labels, has_name, has_name_of, list_at, pairs_at, push_after,
+};
+use fm_exposition::LabelList;
 use std::alloc::{AllocError, Global};
 use std::marker::Model;
 
@@ -312,6 +315,13 @@ impl LabelText {
             return self.append_before(text, b"} ");
         }
         text.put_three(front.as_slice(), self.text.as_slice(), b"\"} ")
+    }
+
+    /// A list of the labels. Fails if memory runs out.
+    pub fn to_list(&self, alloc: Global) -> Result<LabelList, AllocError>
+        ensures { IfOk result (λ list. list ≡ self.now.labels) }
+    {
+        list_at(alloc, self.text.as_slice(), &self.spans)
     }
 
     /// The labels from an index on, as borrowed pairs. Fails if memory runs out.

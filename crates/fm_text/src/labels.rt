@@ -9,8 +9,9 @@ ghost use Rattle.fm_text.specs.inside.LabelTexts.{labels_in, IsSpan};
 
 use crate::escaping::append_escaped;
 use crate::output::Output;
-use crate::spans::{LabelSpan, part_at};
 use crate::plain::is_plain;
+use crate::spans::{LabelSpan, part_at};
+use fm_exposition::LabelList;
 use std::alloc::AllocError;
 
 /// Labels of samples, the common ones or their own.
@@ -34,15 +35,15 @@ pub trait LabelSource<O: Output> {
 /// Labels, and their text as it was rendered before.
 #[derive(Drop)]
 pub struct Rendered<'a, O> {
-    pub labels: &'a [(String, String)],
+    pub labels: &'a LabelList,
     pub text: &'a O,
 }
 
 impl<O: Output> LabelSource<O> for Rendered<'_, O> {
-    ghost labels = { λ source. labels_of source.labels.now };
+    ghost labels = { λ source. source.labels.now };
 
     ghost is_ready = { λ source.
-        O.stands_for source.text.now (label_list_text (labels_of source.labels.now)) };
+        O.stands_for source.text.now (label_list_text source.labels.now) };
 
     #[tactic(auto, using(crate::proofs::GrownLemmas::two_blocks))]
     fn len(&self) -> usize {
@@ -56,17 +57,17 @@ impl<O: Output> LabelSource<O> for Rendered<'_, O> {
     }
 }
 
-impl<O: Output> LabelSource<O> for &[(String, String)] {
-    ghost labels = { λ source. labels_of source.now };
+impl<O: Output> LabelSource<O> for LabelList {
+    ghost labels = { λ source. source };
 
     #[tactic(auto, using(crate::proofs::GrownLemmas::two_blocks))]
     fn len(&self) -> usize {
-        <[(String, String)]>::len(self)
+        self.len()
     }
 
     #[tactic(auto, using(crate::proofs::GrownLemmas::grown))]
     fn append_before(&self, text: &mut O, after: &[u8]) -> Result<(), AllocError> {
-        append_label_list(text, self)?;
+        append_list(text, self)?;
         text.put(after)
     }
 }
@@ -107,6 +108,18 @@ fn separator(index: usize) -> &'static [u8]
     if index == 0 { b"" } else { b"," }
 }
 
+// Appends the labels of a list with commas between them.
+fn append_list<O: Output>(text: &mut O, labels: &LabelList) -> Result<(), AllocError>
+    ensures { OnOk result (Grows (O.stands_for text.old) (O.stands_for text.new)
+        (label_list_text labels.now)) }
+{
+    for i in 0..labels.len() {
+        let (name, value) = labels.at(i);
+        append_separated(text, separator(i), name.as_bytes(), value.as_bytes())?;
+    }
+    Ok(())
+}
+
 // Appends labels with commas between them.
 fn append_label_list<O: Output>(text: &mut O, labels: &[(String, String)]) -> Result<(), AllocError>
     ensures { OnOk result (Grows (O.stands_for text.old) (O.stands_for text.new)
@@ -137,14 +150,11 @@ pub fn append_labels_at<O: Output>(
 }
 
 /// Replaces an output by the text of labels with commas between them.
-pub fn render_label_list<O: Output>(
-    text: &mut O,
-    labels: &[(String, String)],
-) -> Result<(), AllocError>
-    ensures { OnOk result (O.stands_for text.new (label_list_text (labels_of labels.now))) }
+pub fn render_label_list<O: Output>(text: &mut O, labels: &LabelList) -> Result<(), AllocError>
+    ensures { OnOk result (O.stands_for text.new (label_list_text labels.now)) }
 {
     text.reset();
-    append_label_list(text, labels)
+    append_list(text, labels)
 }
 
 /// Appends labels in braces.

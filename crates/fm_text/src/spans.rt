@@ -4,6 +4,7 @@ ghost use Rattle.std.specs.List.{AllByRecursion, Any};
 ghost use Rattle.fm_exposition.specs.Samples.{label_of, labels_of, shown_label};
 ghost use Rattle.fm_text.specs.inside.LabelTexts.{part_in, label_in, labels_in, IsPart, IsSpan, names_in};
 
+use fm_exposition::LabelList;
 use std::alloc::{AllocError, Global};
 
 /// Where a name or a value is in a text.
@@ -61,7 +62,12 @@ pub fn has_name(text: &[u8], spans: &[LabelSpan], name: &[u8]) -> bool
 }
 
 /// Whether one of the labels has the name of one of the other labels.
-pub fn has_name_of(text: &[u8], spans: &[LabelSpan], other_text: &[u8], others: &[LabelSpan]) -> bool
+pub fn has_name_of(
+    text: &[u8],
+    spans: &[LabelSpan],
+    other_text: &[u8],
+    others: &[LabelSpan],
+) -> bool
     requires spans { AllByRecursion (IsSpan text.now) spans.now }
     requires others { AllByRecursion (IsSpan other_text.now) others.now }
     ensures { IsTrue result
@@ -160,4 +166,16 @@ pub fn pairs_at<'a>(
         pairs.push((str_at(text, span.name), str_at(text, span.value)))?;
     }
     Ok(pairs)
+}
+
+/// A list of the labels.
+pub fn list_at(alloc: Global, text: &[u8], spans: &[LabelSpan]) -> Result<LabelList, AllocError>
+    requires { AllByRecursion (IsSpan text.now) spans.now }
+    ensures { IfOk result (λ list. list ≡ labels_in text.now spans.now) }
+{
+    let mut list = LabelList::with_room(alloc, text.len())?;
+    for span in spans {
+        list.push(str_at(text, span.name), str_at(text, span.value))?;
+    }
+    Ok(list)
 }

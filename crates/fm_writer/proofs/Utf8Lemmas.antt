@@ -1,7 +1,6 @@
 -- The document of an exposition is valid UTF-8.
 use Rattle.std.proofs.Common.{◌≡◌, ℕ, zero, suc, ◌<◌, ◌≤◌, ◌+◌, add-one, List, [], ◌∷◌, ◌++◌, arith, refl, Option, Some, None, IfSome, codes, get_or, length, take, subst}
 use Rattle.std.proofs.lemmas.Str.{IsUtf8-append, IsUtf8-nil, IsUtf8-string_bytes}
-use Rattle.std.specs.Arc.{arc_value}
 use Rattle.std.specs.List.{AllByRecursion}
 use Rattle.std.specs.Option.{option_map}
 use Rattle.std.specs.Str.{IsUtf8}
@@ -27,7 +26,8 @@ use Rattle.fm_exposition.specs.inside.DocumentRows.{family_rows, families_rows, 
 use Rattle.fm_exposition.specs.Samples.{labels_of, exemplar_of, common_labels, own_labels, samples_of}
 use Rattle.fm_exposition.specs.declared.exposition.Exemplar.{Exemplar as StoredExemplar}
 use Rattle.fm_exposition.specs.declared.exposition.Sample.{Sample as StoredSample}
-use Rattle.fm_writer.specs.inside.Utf8.{AreUtf8Labels, IsUtf8Sample, IsUtf8Family}
+use Rattle.fm_exposition.specs.inside.Points.{AreUtf8Labels, HaveUtf8Labels}
+use Rattle.fm_writer.specs.inside.Utf8.{IsUtf8Sample, IsUtf8Family}
 use Rattle.fm_writer.proofs.Utf8Escapes.{utf8_ascii, utf8_bytes, utf8_escaped}
 
 name_utf8 : (name : Text) → IsSnakeCase name → IsUtf8 name
@@ -126,7 +126,7 @@ families_utf8 (f ∷ e) h u = IsUtf8-append (family_rows f) (families_rows e) (f
 pub document_utf8 : (e : Exposition) → IsWellFormed e → AllByRecursion IsUtf8Family e → IsUtf8 (document_rows e)
 document_utf8 e h u = IsUtf8-append (families_rows e) (codes "# EOF\n") (families_utf8 e h u) (utf8_ascii (codes "# EOF\n") refl)
 
--- samples as they are kept have strings, whose bytes are valid UTF-8
+-- exemplars have strings, whose bytes are valid UTF-8
 
 labels_utf8 : (pairs : List (String Global × String Global)) → AreUtf8Labels (labels_of pairs)
 labels_utf8 [] = tt
@@ -136,14 +136,15 @@ stored_exemplar : (x : Option StoredExemplar) → IfSome (option_map exemplar_of
 stored_exemplar None = tt
 stored_exemplar (Some x) = labels_utf8 x.labels.items
 
-pub stored_samples : (samples : List StoredSample) → AllByRecursion IsUtf8Sample (samples_of samples)
-stored_samples [] = tt
-stored_samples (s ∷ samples) = (
+-- samples as they are kept
+pub stored_samples : (samples : List StoredSample) → HaveUtf8Labels samples → AllByRecursion IsUtf8Sample (samples_of samples)
+stored_samples [] have = tt
+stored_samples (s ∷ samples) have = (
   record {
-    labels = all_append (λ label. IsUtf8 label.value) (common_labels s) (own_labels s) (labels_utf8 (arc_value s.common).items) (labels_utf8 s.own.items);
+    labels = all_append (λ label. IsUtf8 label.value) (common_labels s) (own_labels s) have.0.0 have.0.1;
     exemplar = stored_exemplar s.exemplar;
   },
-  stored_samples samples,
+  stored_samples samples have.1,
 )
 
 -- within a loop: the items so far, and all of them

@@ -12,7 +12,7 @@ use crate::front::append_row_after;
 use crate::heads::{FamilyHead, append_heads};
 use crate::new_sample::NewSample;
 use crate::rendering::{Reading, append_sample_row};
-use fm_exposition::{CommonLabels, SampleStore};
+use fm_exposition::{CommonLabels, LabelList, SampleStore};
 use fm_text::{GrowingText, LabelText};
 use std::alloc::{AllocError, Global};
 use std::marker::Model;
@@ -29,7 +29,7 @@ enum Form {
 fn shared(alloc: Global, labels: &LabelText) -> Result<CommonLabels, AllocError>
     ensures { IfOk result (λ shared. shared_labels shared ≡ labels.now.labels) }
 {
-    let shared = Arc::new(alloc, labels.to_owned(alloc)?)?;
+    let shared = Arc::new(alloc, labels.to_list(alloc)?)?;
     Ok(shared)
 }
 
@@ -40,7 +40,7 @@ fn keep(alloc: Global, store: &mut SampleStore, sample: NewSample<'_>) -> Result
     ensures samples { OnOk result
         (store.new.samples ≡ store.old.samples ++ new_sample sample.entry ∷ []) }
 {
-    let own = sample.own.to_owned(alloc)?;
+    let own = sample.own.to_list(alloc)?;
     store.push(sample.kind, own, sample.value, sample.time, sample.exemplar)
 }
 
@@ -115,7 +115,7 @@ impl Sink {
         ensures { IfOk result
             (λ sink. sink ≡ record { shared = Some []; output = OutputSamples [] }) }
     {
-        let common = Arc::new(alloc, Vec::new(alloc))?;
+        let common = Arc::new(alloc, LabelList::new(alloc))?;
         Ok(Sink {
             alloc,
             form: Form::Samples(SampleStore::new(alloc, common), true),

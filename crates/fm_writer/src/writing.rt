@@ -45,7 +45,7 @@ fn append_sample<O: Output>(
         exemplar: sample.exemplar(),
     };
     let own = parts::own(sample);
-    append_sample_row(text, name, sample.kind(), &common, &own, reading)
+    append_sample_row(text, name, sample.kind(), &common, own, reading)
 }
 
 // Appends the lines of samples that share common labels, given the text of these.

@@ -3,12 +3,9 @@
 use Rattle.std.specs.Prelude.{◌≡◌, ◌≢◌, ◌⊎◌, List, [], ◌∷◌, ◌++◌, ⊤, Option, Some, None, String, string_bytes}
 use Rattle.std.specs.Borrow.{Bor}
 use Rattle.std.specs.List.{AllByRecursion}
-use Rattle.std.specs.declared.alloc.Global.{Global}
-use Rattle.std.specs.declared.vec.Vec.{Vec}
 use Rattle.fm_grammar.specs.Exposition.{Text, Label}
 use Rattle.fm_grammar.specs.Names.{IsLabelName}
 use Rattle.fm_grammar.specs.Spelling.{escaped, label_text, label_list_text}
-use Rattle.fm_exposition.specs.Samples.{label_of, labels_of}
 
 -- what may come after an escaped text: a line feed, a quote, or nothing
 abbrev pub EndsEscaped : Text → Type 0
@@ -28,9 +25,15 @@ abbrev pub IsLabelFront : Text → Option (Label × Text) → Type 0
 IsLabelFront text None = (label : Label) (rest : Text) → IsLabelName label.name → text ≢ label_text label ++ rest
 IsLabelFront text (Some (label, rest)) = IsLabelName label.name × (text ≡ label_text label ++ rest)
 
-abbrev pub seen_label : Option ((String Global × String Global) × Bor Text) → Option (Label × Text)
-seen_label None = None
-seen_label (Some (label, rest)) = Some (label_of label, rest.now)
+-- a text without an escape, and the text after the quote that ends it
+abbrev pub IsPlainCut : Text → Option (Bor Text × Bor Text) → Type 0
+IsPlainCut text None = ⊤
+IsPlainCut text (Some (value, rest)) = text ≡ escaped value.now ++ (34 ∷ rest.now)
+
+-- a label was read and added to the list
+abbrev pub IsLabelRead : List Label → List Label → Text → Option (Bor Text) → Type 0
+IsLabelRead old new text None = IsLabelFront text None
+IsLabelRead old new text (Some rest) = (label : Label) × IsLabelFront text (Some (label, rest.now)) × (new ≡ old ++ (label ∷ []))
 
 -- labels with valid names
 abbrev pub AreNamed : List Label → Type 0
@@ -40,6 +43,6 @@ abbrev pub IsLabelsFront : Text → Option (List Label × Text) → Type 0
 IsLabelsFront text None = (labels : List Label) (rest : Text) → AreNamed labels → text ≢ label_list_text labels ++ (125 ∷ rest)
 IsLabelsFront text (Some (labels, rest)) = AreNamed labels × (text ≡ label_list_text labels ++ (125 ∷ rest))
 
-abbrev pub front_labels : Option (Vec (String Global × String Global) Global × Bor Text) → Option (List Label × Text)
+abbrev pub front_labels : Option (List Label × Bor Text) → Option (List Label × Text)
 front_labels None = None
-front_labels (Some (labels, rest)) = Some (labels_of labels.items, rest.now)
+front_labels (Some (labels, rest)) = Some (labels, rest.now)

@@ -1,14 +1,14 @@
 //! Reads exemplars.
 ghost use Rattle.std.specs.Prelude.{◌≡◌, IfOk};
 ghost use Rattle.std.specs.Option.{option_map};
-ghost use Rattle.fm_exposition.specs.Samples.{exemplar_of};
+ghost use Rattle.fm_exposition.specs.Samples.{labels_of, exemplar_of};
 ghost use Rattle.fm_reader.specs.inside.Parts.{tail_text, FoundSmall, FoundBody, FoundExemplar};
 
 use crate::lines::labels::read_braces;
 use crate::lines::values::{read_time, split_token};
 use crate::parts::number::read_fixed;
 use fm_exposition::code_points::are_short;
-use fm_exposition::{Exemplar, make};
+use fm_exposition::{Exemplar, LabelList, make};
 use fm_grammar::SampleKind;
 use fm_raw::Fixed;
 use std::alloc::{AllocError, Global};
@@ -41,9 +41,10 @@ pub(crate) fn read_exemplar(
 fn read_body(alloc: Global, text: &str) -> Result<Option<Exemplar>, AllocError>
     ensures { IfOk result (λ found. FoundBody text.now (option_map exemplar_of found)) }
 {
-    let Some((labels, rest)) = read_braces(alloc, text)? else {
+    let Some((list, rest)) = read_braces(alloc, text)? else {
         return Ok(None);
     };
+    let labels = owned_pairs(alloc, &list)?;
     if !are_short(&labels) {
         return Ok(None);
     }
@@ -58,6 +59,21 @@ fn read_body(alloc: Global, text: &str) -> Result<Option<Exemplar>, AllocError>
         return Ok(None);
     }
     Ok(Some(make::exemplar(labels, value, time)))
+}
+
+// The labels of a list, each as two strings. Fails if memory runs out.
+fn owned_pairs(alloc: Global, list: &LabelList) -> Result<Vec<(String, String)>, AllocError>
+    ensures { IfOk result (λ pairs. labels_of pairs.items ≡ list.now) }
+{
+    let mut pairs = Vec::new(alloc);
+    for index in 0..list.len() {
+        let (name, value) = list.at(index);
+        pairs.push((
+            String::from_str(alloc, name)?,
+            String::from_str(alloc, value)?,
+        ))?;
+    }
+    Ok(pairs)
 }
 
 // The value of an exemplar.

@@ -1,12 +1,12 @@
 //! Reads label lists with different names.
-ghost use Rattle.std.specs.Prelude.{◌≢◌, ◌↔◌, IsTrue, IfOk, map};
+ghost use Rattle.std.specs.Prelude.{◌≢◌, ◌≤◌, ◌↔◌, IsTrue, IfOk, length, map, take};
 ghost use Rattle.std.specs.List.{AllByRecursion};
 ghost use Rattle.fm_grammar.specs.Names.{AllDifferent};
-ghost use Rattle.fm_exposition.specs.Samples.{labels_of};
 ghost use Rattle.fm_reader.specs.inside.Fronts.{front_labels};
 ghost use Rattle.fm_reader.specs.inside.Parts.{IsBracesFront, IsBlockFront};
 
 use crate::parts::labels::read_labels;
+use fm_exposition::LabelList;
 use std::alloc::{AllocError, Global};
 use std::collections::BTreeSet;
 
@@ -14,14 +14,11 @@ use std::collections::BTreeSet;
 const FEW: usize = 8;
 
 /// A sample's labels up to the space before its value, and the text after it; None if the text does not begin so.
-pub(crate) fn read_block(
-    alloc: Global,
-    text: &str,
-) -> Result<Option<(Vec<(String, String)>, &str)>, AllocError>
+pub(crate) fn read_block(alloc: Global, text: &str) -> Result<Option<(LabelList, &str)>, AllocError>
     ensures { IfOk result (λ found. IsBlockFront text.now (front_labels found)) }
 {
     if let Some(rest) = text.strip_prefix(' ') {
-        return Ok(Some((Vec::new(alloc), rest)));
+        return Ok(Some((LabelList::new(alloc), rest)));
     }
     let Some(inner) = text.strip_prefix('{') else {
         return Ok(None);
@@ -29,7 +26,7 @@ pub(crate) fn read_block(
     let Some((labels, rest)) = read_braces(alloc, inner)? else {
         return Ok(None);
     };
-    if labels.is_empty() {
+    if labels.len() == 0 {
         return Ok(None);
     }
     Ok(Some((labels, rest)))
@@ -40,7 +37,7 @@ pub(crate) fn read_block(
 pub(crate) fn read_braces(
     alloc: Global,
     text: &str,
-) -> Result<Option<(Vec<(String, String)>, &str)>, AllocError>
+) -> Result<Option<(LabelList, &str)>, AllocError>
     ensures { IfOk result (λ found. IsBracesFront text.now (front_labels found)) }
 {
     let Some((labels, after)) = read_labels(alloc, text)? else {
@@ -56,47 +53,46 @@ pub(crate) fn read_braces(
 }
 
 // Whether no name comes twice. Few names are compared with each other.
-fn are_different(alloc: Global, labels: &[(String, String)]) -> Result<bool, AllocError>
+fn are_different(alloc: Global, labels: &LabelList) -> Result<bool, AllocError>
     ensures { IfOk result
         (λ different. IsTrue different
-        ↔ AllDifferent (map (λ label. label.name) (labels_of labels.now))) }
+        ↔ AllDifferent (map (λ label. label.name) labels.now)) }
 {
     if labels.len() <= FEW {
         return Ok(few_are_different(labels));
     }
     let mut names = BTreeSet::new(alloc);
-    for (name, _) in labels {
-        if !names.insert(name.as_str())? {
+    for index in 0..labels.len() {
+        if !names.insert(labels.at(index).0)? {
             return Ok(false);
         }
     }
     Ok(true)
 }
 
-// Whether no name comes twice, where each is compared with those after it.
-fn few_are_different(labels: &[(String, String)]) -> bool
-    ensures { IsTrue result ↔ AllDifferent (map (λ label. label.name) (labels_of labels.now)) }
+// Whether no name comes twice, where each is compared with those before it.
+fn few_are_different(labels: &LabelList) -> bool
+    ensures { IsTrue result ↔ AllDifferent (map (λ label. label.name) labels.now) }
 {
-    let mut rest = labels;
-    while let Some((label, after)) = rest.split_first() {
-        if has_name(after, label.0.as_str()) {
+    for index in 0..labels.len() {
+        if !is_new(labels, index, labels.at(index).0) {
             return false;
         }
-        rest = after;
     }
     true
 }
 
-// Whether one of the labels has this name.
-fn has_name(labels: &[(String, String)], name: &str) -> bool
+// Whether none of the labels before an index has this name.
+fn is_new(labels: &LabelList, before: usize, name: &str) -> bool
+    requires { before ≤ length labels.now }
     ensures { IsTrue result
-        ↔ (AllByRecursion (λ other. other ≢ name.now)
-        (map (λ label. label.name) (labels_of labels.now)) → ⊥) }
+        ↔ AllByRecursion (λ other. other ≢ name.now)
+        (take before (map (λ label. label.name) labels.now)) }
 {
-    for (other, _) in labels {
-        if other.as_str() == name {
-            return true;
+    for index in 0..before {
+        if labels.at(index).0 == name {
+            return false;
         }
     }
-    false
+    true
 }

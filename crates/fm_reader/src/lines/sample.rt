@@ -7,7 +7,7 @@ ghost use Rattle.fm_reader.specs.inside.Samples.{read_sample_of};
 
 use crate::lines::labels::read_block;
 use crate::lines::values::read_values;
-use fm_exposition::{Exemplar, Value};
+use fm_exposition::{Exemplar, LabelList, Value};
 use fm_grammar::{MetricType, SampleKind};
 use std::alloc::{AllocError, Global};
 
@@ -16,8 +16,8 @@ use std::alloc::{AllocError, Global};
 pub(crate) struct ReadSample {
     /// Its kind, which decides the suffix of its name.
     pub kind: SampleKind,
-    /// Its labels in order, each as name and value.
-    pub labels: Vec<(String, String)>,
+    /// Its labels in order.
+    pub labels: LabelList,
     /// Its value.
     pub value: Value,
     /// Its timestamp in milliseconds, if it has one.

@@ -1,9 +1,10 @@
 //! Reads labels and their values.
 ghost use Rattle.std.specs.Prelude.{IfOk};
-ghost use Rattle.fm_reader.specs.inside.Fronts.{IsEscapedFront, IsLabelFront, IsLabelsFront, seen, seen_label, front_labels};
+ghost use Rattle.fm_reader.specs.inside.Fronts.{IsEscapedFront, IsPlainCut, IsLabelRead, IsLabelsFront, seen, front_labels};
 
 use crate::parts::names::split_name;
 use crate::parts::plain::plain_end;
+use fm_exposition::LabelList;
 use std::alloc::{AllocError, Global};
 
 /// Reads an escaped text at the start, up to a quote, a line feed or the end, and returns it with the text after it;
@@ -40,12 +41,24 @@ pub(crate) fn read_escaped(alloc: Global, text: &str) -> Result<Option<(String, 
     }
 }
 
-/// Reads a label at the start, and returns it with the text after it; None if the text does not begin with a label.
-pub(crate) fn read_label(
+// The text up to a quote, which has no escape, and the text after the quote; None if the text does not begin so.
+fn split_plain(text: &str) -> Option<(&str, &str)>
+    ensures { IsPlainCut text.now result }
+{
+    let (value, after) = text.split_at(plain_end(text.as_bytes()));
+    let Some(rest) = after.strip_prefix('"') else {
+        return None;
+    };
+    Some((value, rest))
+}
+
+/// Reads a label at the start and adds it to a list. Returns the text after it; None if the text does not begin with a label.
+pub(crate) fn read_label<'a>(
     alloc: Global,
-    text: &str,
-) -> Result<Option<((String, String), &str)>, AllocError>
-    ensures { IfOk result (λ found. IsLabelFront text.now (seen_label found)) }
+    labels: &mut LabelList,
+    text: &'a str,
+) -> Result<Option<&'a str>, AllocError>
+    ensures { IfOk result (λ found. IsLabelRead labels.old labels.new text.now found) }
 {
     let Some((name, after)) = split_name(text) else {
         return Ok(None);
@@ -53,33 +66,36 @@ pub(crate) fn read_label(
     let Some(quoted) = after.strip_prefix('"') else {
         return Ok(None);
     };
+    if let Some((value, rest)) = split_plain(quoted) {
+        labels.push(name, value)?;
+        return Ok(Some(rest));
+    }
     let Some((value, closing)) = read_escaped(alloc, quoted)? else {
         return Ok(None);
     };
     let Some(rest) = closing.strip_prefix('"') else {
         return Ok(None);
     };
-    let name = String::from_str(alloc, name)?;
-    Ok(Some(((name, value), rest)))
+    labels.push(name, value.as_str())?;
+    Ok(Some(rest))
 }
 
 /// Reads labels after an opening brace, up to the closing brace, and returns them with the text after that.
 pub(crate) fn read_labels(
     alloc: Global,
     text: &str,
-) -> Result<Option<(Vec<(String, String)>, &str)>, AllocError>
+) -> Result<Option<(LabelList, &str)>, AllocError>
     ensures { IfOk result (λ found. IsLabelsFront text.now (front_labels found)) }
 {
-    let mut labels = Vec::new(alloc);
     if let Some(rest) = text.strip_prefix('}') {
-        return Ok(Some((labels, rest)));
+        return Ok(Some((LabelList::new(alloc), rest)));
     }
+    let mut labels = LabelList::with_room(alloc, text.len())?;
     let mut rest = text;
     loop {
-        let Some((label, after)) = read_label(alloc, rest)? else {
+        let Some(after) = read_label(alloc, &mut labels, rest)? else {
             return Ok(None);
         };
-        labels.push(label)?;
         if let Some(last) = after.strip_prefix('}') {
             return Ok(Some((labels, last)));
         }

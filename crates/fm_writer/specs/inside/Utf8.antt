@@ -1,12 +1,9 @@
 -- Texts that are valid UTF-8: the texts of labels, samples and families that are any text.
-use Rattle.std.specs.Prelude.{List, IfSome}
+use Rattle.std.specs.Prelude.{IfSome}
 use Rattle.std.specs.List.{AllByRecursion}
 use Rattle.std.specs.Str.{IsUtf8}
-use Rattle.fm_grammar.specs.Exposition.{Label, Sample, Family}
-
--- the values of the labels are
-abbrev pub AreUtf8Labels : List Label → Type 0
-AreUtf8Labels labels = AllByRecursion (λ label. IsUtf8 label.value) labels
+use Rattle.fm_grammar.specs.Exposition.{Sample, Family}
+use Rattle.fm_exposition.specs.inside.Points.{AreUtf8Labels}
 
 -- those of the sample's labels and of its exemplar's are
 pub record IsUtf8Sample (sample : Sample) : Type 0 where

@@ -1,20 +1,23 @@
-use Rattle.std.proofs.Common.{[], ◌<◌, length, true≢false, sym, ◌∙◌, arith}
+use Rattle.std.proofs.Common.{rules, [], ◌<◌, length, true≢false, sym, ◌∙◌, arith}
+use Rattle.fm_exposition.specs.Samples.{shown_label}
 use Rattle.fm_reader.proofs.NameSets.{names_of, names_at, names_length, name_twice, name_new, name_held}
 use Rattle.fm_reader.proofs.lines.labels.are_different.Goals as goal
 
 pub returns-then-not-branch : goal.returns-then-not-branch
 returns-then-not-branch c =
-    let within : c.loop-name.name-index < length (names_of c.args.labels.now) = omega (arith, names_length c.args.labels.now, c.loop-name-test.true) in
-    let same = names_at c.args.labels.now c.loop-name.name-index [] c.loop-name-item.result c.loop-name-test.true c.loop-name-item.is ∙ sym c.as_str.ensures.value in (
+    let label_within : c.loop-index.index < length c.args.labels.now = search rules in
+    let within : c.loop-index.index < length (names_of c.args.labels.now) = omega (arith, names_length c.args.labels.now, label_within) in
+    let same = names_at c.args.labels.now c.loop-index.index [] (shown_label c.at.result) c.at.ensures in (
       λ never. absurd (true≢false (sym never)),
-      λ all. absurd (name_twice c.loop-name.names c.as_str.result (names_of c.args.labels.now) c.loop-name.name-index [] c.in_ok-insert.field-0 c.in_ok-insert.ensures.added c.if-not-branch.true c.loop-name.invariant.holds within same all),
+      λ all. absurd (name_twice c.loop-index.names c.at.result.0 (names_of c.args.labels.now) c.loop-index.index [] c.in_ok-insert.field-0 c.in_ok-insert.ensures.added c.if-not-branch.true c.loop-index.invariant.holds within same all),
     )
 
-pub loop-name-preserved : goal.loop-name-preserved
-loop-name-preserved c =
-    let within : c.loop-name.name-index < length (names_of c.args.labels.now) = omega (arith, names_length c.args.labels.now, c.loop-name-test.true) in
-    let same = names_at c.args.labels.now c.loop-name.name-index [] c.loop-name-item.result c.loop-name-test.true c.loop-name-item.is ∙ sym c.as_str.ensures.value in
+pub loop-index-preserved : goal.loop-index-preserved
+loop-index-preserved c =
+    let label_within : c.loop-index.index < length c.args.labels.now = search rules in
+    let within : c.loop-index.index < length (names_of c.args.labels.now) = omega (arith, names_length c.args.labels.now, label_within) in
+    let same = names_at c.args.labels.now c.loop-index.index [] (shown_label c.at.result) c.at.ensures in
     record {
-      different = name_new c.loop-name.names c.as_str.result (names_of c.args.labels.now) c.loop-name.name-index [] c.in_ok-insert.field-0 c.in_ok-insert.ensures.added c.if-not-branch.false c.loop-name.invariant.holds within same c.loop-name.invariant.different;
-      holds = name_held c.loop-name.names c.insert.new.self c.as_str.result (names_of c.args.labels.now) c.loop-name.name-index [] c.in_ok-insert.ensures.updates c.loop-name.invariant.holds within same;
+      different = name_new c.loop-index.names c.at.result.0 (names_of c.args.labels.now) c.loop-index.index [] c.in_ok-insert.field-0 c.in_ok-insert.ensures.added c.if-not-branch.false c.loop-index.invariant.holds within same c.loop-index.invariant.different;
+      holds = name_held c.loop-index.names c.insert.new.self c.at.result.0 (names_of c.args.labels.now) c.loop-index.index [] c.in_ok-insert.ensures.updates c.loop-index.invariant.holds within same;
     }

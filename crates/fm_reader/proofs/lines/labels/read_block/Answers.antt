@@ -1,7 +1,6 @@
-use Rattle.std.proofs.Common.{None, Some, lit<, ap, arith}
+use Rattle.std.proofs.Common.{None, Some, lit<, ap, ◌∙◌, length, arith}
 use Rattle.std.proofs.lemmas.Str.Pattern.{strip_prefix_char}
-use Rattle.fm_exposition.specs.Samples.{label_of, labels_of}
-use Rattle.fm_reader.proofs.Blocks.{no_block, block_no_braces, block_empty, block_found, empty_list, not_empty_list, map_empty}
+use Rattle.fm_reader.proofs.Blocks.{no_block, block_no_braces, block_empty, block_found, no_items}
 use Rattle.fm_reader.proofs.lines.labels.read_block.Goals as goal
 
 pub returns-in_default-strip_prefix : goal.returns-in_default-strip_prefix
@@ -11,12 +10,12 @@ pub returns-in_default-2 : goal.returns-in_default-2
 returns-in_default-2 c =
     block_no_braces _ c.in-Some-strip_prefix.inner.now (strip_prefix_char 123 _ (Some c.in-Some-strip_prefix.inner) c.in-Some-strip_prefix.ensures.cases (lit< tt)) (rw c.in_default-2.is at c.in_ok-labels.ensures)
 
-pub returns-then-is_empty : goal.returns-then-is_empty
-returns-then-is_empty c =
-    block_empty _ c.in-Some-strip_prefix.inner.now (labels_of c.in-Some-2.labels.items) c.in-Some-2.rest.now (strip_prefix_char 123 _ (Some c.in-Some-strip_prefix.inner) c.in-Some-strip_prefix.ensures.cases (lit< tt)) (rw c.in-Some-2.is at c.in_ok-labels.ensures)
-    (ap labels_of (empty_list c.in-Some-2.labels.items c.in-Some-2.labels.len (omega (arith, c.in-Some-2.labels.ok.0)) c.if-is_empty.ensures))
+pub returns-then-len-eq0 : goal.returns-then-len-eq0
+returns-then-len-eq0 c =
+    block_empty _ c.in-Some-strip_prefix.inner.now c.in-Some-2.labels c.in-Some-2.rest.now (strip_prefix_char 123 _ (Some c.in-Some-strip_prefix.inner) c.in-Some-strip_prefix.ensures.cases (lit< tt)) (rw c.in-Some-2.is at c.in_ok-labels.ensures)
+    (no_items c.in-Some-2.labels (omega (arith, c.len.ensures.value, c.if-len-eq0.true)))
 
 pub returns : goal.returns
 returns c =
-    block_found _ c.in-Some-strip_prefix.inner.now (labels_of c.in-Some-2.labels.items) c.in-Some-2.rest.now (strip_prefix_char 123 _ (Some c.in-Some-strip_prefix.inner) c.in-Some-strip_prefix.ensures.cases (lit< tt)) (rw c.in-Some-2.is at c.in_ok-labels.ensures)
-    (λ n. not_empty_list c.in-Some-2.labels.items c.in-Some-2.labels.len (omega (arith, c.in-Some-2.labels.ok.0)) c.if-is_empty.ensures (map_empty label_of c.in-Some-2.labels.items n))
+    block_found _ c.in-Some-strip_prefix.inner.now c.in-Some-2.labels c.in-Some-2.rest.now (strip_prefix_char 123 _ (Some c.in-Some-strip_prefix.inner) c.in-Some-strip_prefix.ensures.cases (lit< tt)) (rw c.in-Some-2.is at c.in_ok-labels.ensures)
+    (λ n. c.if-len-eq0.false (c.len.ensures.value ∙ ap length n))

@@ -2,7 +2,6 @@ use Rattle.std.proofs.Common.{◌≡◌, ◌≢◌, ◌∷◌, ◌++◌, length}
 use denote.Text.{Utf8}
 use denote.Shadow.{shadow}
 use Rattle.fm_grammar.specs.Exposition.{Text}
-use Rattle.fm_exposition.specs.Samples.{labels_of}
 use Rattle.fm_reader.specs.inside.Fronts.{AreNamed}
 use Rattle.fm_reader.proofs.LabelLists.{with_commas}
 use Rattle.fm_reader.proofs.parts.labels.read_labels.Given as goal
@@ -11,8 +10,8 @@ use Rattle.fm_reader.proofs.parts.labels.read_labels.Given as goal
 abbrev pub invariant-loop-labels : goal.invariant-loop-labels
 invariant-loop-labels l = record {
   is_text : shadow (Utf8 l.rest);
-  named : AreNamed (labels_of l.labels.items);
-  so_far : l.fn.text ≡ with_commas (labels_of l.labels.items) ++ l.rest;
+  named : AreNamed l.labels;
+  so_far : l.fn.text ≡ with_commas l.labels ++ l.rest;
   some : (r : Text) → l.fn.text ≢ 125 ∷ r;
 }
 

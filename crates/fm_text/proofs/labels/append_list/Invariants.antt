@@ -1,0 +1,7 @@
+use Rattle.std.proofs.Common.{map, take}
+use Rattle.fm_grammar.specs.Spelling.{label_list_text}
+use Rattle.fm_text.specs.inside.Grown.{Grows}
+use Rattle.fm_text.proofs.labels.append_list.Given as goal
+
+abbrev pub invariant-loop-i : goal.invariant-loop-i
+invariant-loop-i g l = Grows (g.O.Output.stands_for l.fn.text) (g.O.Output.stands_for l.text) (label_list_text (map (λ label. label) (take l.i l.labels)))
