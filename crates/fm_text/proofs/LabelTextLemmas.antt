@@ -1,9 +1,10 @@
 -- Labels in a text that grows.
-use Rattle.std.proofs.Common.{◌≡◌, ℕ, zero, suc, List, [], ◌∷◌, ◌++◌, Bool, true, false, IsTrue, IsSome, is_some, codes, ◌==◌, ◌≤◌, ◌<◌, ◌+◌, refl, sym, ap, subst, ◌∙◌, append_assoc, append-nil, arith, length, length-append, take, drop, get_or, Option, Some, None, IfSome, Contains, inl, inr, Result, Ok, Err, IfOk, ◌-◌, length-drop}
+use Rattle.std.proofs.Common.{slice_get, Some, ◌≡◌, ℕ, zero, suc, List, [], ◌∷◌, ◌++◌, Bool, true, false, IsTrue, IsSome, is_some, codes, ◌==◌, ◌≤◌, ◌<◌, ◌+◌, refl, sym, ap, subst, ◌∙◌, append_assoc, append-nil, arith, length, length-append, take, drop, get_or, Option, Some, None, IfSome, Contains, inl, inr, Result, Ok, Err, IfOk, ◌-◌, length-drop}
 use Rattle.std.specs.List.{between, AllByRecursion}
 use Rattle.std.specs.Str.{IsUtf8}
 use Rattle.std.proofs.lemmas.Slice.{between_is}
 use Rattle.std.proofs.Math.Seq.{take-append_seam, drop-append_seam}
+use Rattle.std.proofs.lemmas.Option.{slice_get_within, get_or_from_slice_get}
 use Rattle.std.proofs.lemmas.List.{take-append-le, take_more, take_all, drop-map, map-append, length-map}
 use Rattle.std.proofs.lemmas.List.Elements.{Contains-append_cases}
 use Rattle.std.proofs.lemmas.Bool.Decides.{nat_tests}
@@ -268,3 +269,9 @@ held_ended listed next text ps n v may held = record {
 pub part_ordered : (text : Text) (part : Option Part) → IfSome part (IsPart text) → IfSome part (λ p. p.start ≤ p.end)
 part_ordered text None is = tt
 part_ordered text (Some p) is = is.order
+
+-- one more label of a text is that of a list
+pub one_more_of_list : (text : Text) (ps : List LabelSpan) (list : List Label) (i : ℕ) (d : LabelSpan) (label : Label) → i < length ps → labels_in text (take i ps) ≡ take i list → slice_get list i ≡ Some label → label_in text (get_or ps i d) ≡ label → labels_in text (take (i + 1) ps) ≡ take (i + 1) list
+one_more_of_list text ps list i d label within so_far there same =
+    let more : take (i + 1) list ≡ take i list ++ label ∷ [] = take_more list i label (slice_get_within list i label there) ∙ ap (λ (l : Label). take i list ++ l ∷ []) (get_or_from_slice_get list i label label there) in
+    ap (labels_in text) (take_more ps i d within) ∙ map-append (label_in text) (take i ps) (get_or ps i d ∷ []) ∙ ((λ j. so_far j ++ same j ∷ []) ∙ sym more)

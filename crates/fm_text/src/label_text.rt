@@ -11,7 +11,7 @@ use crate::labels::{LabelSource, append_labels_at};
 use crate::output::Output;
 use crate::plain::is_plain;
 use crate::spans::{
-    LabelSpan, Part, are_labels, has_name, has_name_of, list_at, pairs_at, push_after,
+    LabelSpan, Part, are_labels, are_of_list, has_name, has_name_of, list_at, pairs_at, push_after,
 };
 use fm_exposition::LabelList;
 use std::alloc::{AllocError, Global};
@@ -205,6 +205,13 @@ impl LabelText {
         ensures { IsTrue result → self.now.labels ≡ labels_of labels.now }
     {
         are_labels(self.text.as_slice(), &self.spans, labels)
+    }
+
+    /// Whether its labels are those of a list.
+    pub fn are_of_list(&self, list: &LabelList) -> bool
+        ensures { IsTrue result → self.now.labels ≡ list.now }
+    {
+        are_of_list(self.text.as_slice(), &self.spans, list)
     }
 
     /// Removes all labels, and keeps the memory for later ones.

@@ -106,6 +106,31 @@ pub fn are_labels(text: &[u8], spans: &[LabelSpan], labels: &[(String, String)])
     true
 }
 
+// Whether the label at this span has this name and this value.
+fn is_pair(text: &[u8], span: &LabelSpan, label: (&str, &str)) -> bool
+    requires { IsSpan text.now span.now }
+    ensures { IsTrue result → label_in text.now span.now ≡ shown_label label.entry }
+{
+    part_at(text, span.name) == label.0.as_bytes()
+        && part_at(text, span.value) == label.1.as_bytes()
+}
+
+/// Whether the labels at these spans are those of a list.
+pub fn are_of_list(text: &[u8], spans: &[LabelSpan], list: &LabelList) -> bool
+    requires { AllByRecursion (IsSpan text.now) spans.now }
+    ensures { IsTrue result → labels_in text.now spans.now ≡ list.now }
+{
+    if spans.len() != list.len() {
+        return false;
+    }
+    for i in 0..spans.len() {
+        if !is_pair(text, &spans[i], list.at(i)) {
+            return false;
+        }
+    }
+    true
+}
+
 // Where a part of what a text has after its first `by` bytes is in the whole text.
 fn part_after(whole: &[u8], by: usize, part: Part) -> Part
     requires within { by ≤ length whole.now }

@@ -185,7 +185,7 @@ impl Sink {
         match &mut self.form {
             Form::Samples(store, true) => keep(self.alloc, store, sample),
             Form::Samples(store, are_shared) => {
-                if !sample.common.are(store.common()) {
+                if !sample.common.are_of_list(store.common()) {
                     store.share(shared(self.alloc, sample.common)?);
                 }
                 *are_shared = true;
