@@ -22,6 +22,7 @@ use crate::taking::take_family;
 use fm_encode_error::EncodeError;
 use fm_encoder::{EncodeMetric, FirstRefusal, MetricEncoder, collector};
 use fm_exposition::{Exposition, FamilySamples, SampleStore, make};
+use fm_labels::keep;
 use fm_raw::{Metadata, Unit};
 use std::alloc::{AllocError, Global};
 use std::marker::Model;
@@ -253,10 +254,7 @@ impl<'a> MetricFamilyEncoder<'a> {
             metadata,
             metric,
         ) {
-            Ok(family) => match self.families.push(family) {
-                Ok(()) => Ok(()),
-                Err(_) => self.refused.refuse(EncodeError::Memory),
-            },
+            Ok(family) => keep!(self.refused, self.families.push(family)),
             Err(error) => self.refused.refuse(error),
         }
     }

@@ -24,6 +24,7 @@ use fm_encode_error::EncodeError;
 use fm_exposition::{Exemplar, SampleStore, Value};
 use fm_grammar::{MetricType, SampleKind};
 use fm_labels::first_refusal::{FirstRefusal, own_refusal};
+use fm_labels::keep;
 use fm_labels::label::LabelSetEncoder;
 use fm_labels::label_set::EncodeLabelSet;
 use fm_labels::written_labels::WrittenLabels;
@@ -144,10 +145,10 @@ impl PointEncoder {
         self.labels.begin(head.metric_type);
         self.sink.unshare();
         self.deferred = None;
-        match self.sink.append_heads(self.name.as_str(), head) {
-            Ok(()) => Ok(()),
-            Err(_) => self.refused.refuse(EncodeError::Memory),
-        }
+        keep!(
+            self.refused,
+            self.sink.append_heads(self.name.as_str(), head)
+        )
     }
 
     // Tests a point's type, and then whether the common labels were refused. The next sample begins the point.
@@ -195,10 +196,10 @@ impl PointEncoder {
             time: self.time,
             exemplar,
         };
-        match self.sink.push(self.name.as_str(), sample, None) {
-            Ok(()) => Ok(()),
-            Err(_) => self.refused.refuse(EncodeError::Memory),
-        }
+        keep!(
+            self.refused,
+            self.sink.push(self.name.as_str(), sample, None)
+        )
     }
 
     // Adds a sample under the common labels.
@@ -227,10 +228,10 @@ impl PointEncoder {
             time: self.time,
             exemplar,
         };
-        match self.sink.push(self.name.as_str(), sample, None) {
-            Ok(()) => Ok(()),
-            Err(_) => self.refused.refuse(EncodeError::Memory),
-        }
+        keep!(
+            self.refused,
+            self.sink.push(self.name.as_str(), sample, None)
+        )
     }
 
     // The first refusal, if there is one.

@@ -57,3 +57,14 @@ pub fn own_refusal(error: EncodeError) -> EncodeError
         _ => EncodeError::MetricFault,
     }
 }
+
+/// What a call returned that takes memory: if it failed, an encoder refuses with `Memory`.
+#[macro_export]
+macro_rules! keep {
+    ($refused:expr, $returned:expr) => {
+        match $returned {
+            Ok(value) => Ok(value),
+            Err(_) => $refused.refuse(EncodeError::Memory),
+        }
+    };
+}

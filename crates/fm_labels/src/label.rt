@@ -7,6 +7,7 @@ ghost use Rattle.fm_labels.specs.Refusals.{result_of, Takes, NoFault};
 ghost use Rattle.fm_labels.specs.inside.Steps.{EndsLabel};
 
 use crate::first_refusal::{FirstRefusal, own_refusal};
+use crate::keep;
 use crate::names::is_reserved;
 use fm_encode_error::EncodeError;
 use fm_grammar::MetricType;
@@ -113,10 +114,7 @@ impl LabelEncoder {
         if self.labels.has_name(name) {
             return self.refused.refuse(EncodeError::DuplicateLabel);
         }
-        match self.labels.set_name(name) {
-            Ok(()) => Ok(()),
-            Err(_) => self.refused.refuse(EncodeError::Memory),
-        }
+        keep!(self.refused, self.labels.set_name(name))
     }
 
     /// Takes the label's value as it is. Fails with `MalformedLabel` if the label has no name yet or already has a value, and
@@ -128,10 +126,7 @@ impl LabelEncoder {
         if !self.labels.is_named() || self.labels.is_valued() {
             return self.refused.refuse(EncodeError::MalformedLabel);
         }
-        match self.labels.set_value(value) {
-            Ok(()) => Ok(()),
-            Err(_) => self.refused.refuse(EncodeError::Memory),
-        }
+        keep!(self.refused, self.labels.set_value(value))
     }
 
     // Writes the current label, which has both pieces.
@@ -144,10 +139,7 @@ impl LabelEncoder {
         ensures refused { (k : EncodeError) → self.new.refused ≡ Some k → k ≡ EncodeError.Memory }
         ensures returned { result ≡ result_of self.new.refused }
     {
-        match self.labels.end_label() {
-            Ok(()) => Ok(()),
-            Err(_) => self.refused.refuse(EncodeError::Memory),
-        }
+        keep!(self.refused, self.labels.end_label())
     }
 
     // Ends the current label, after the visited source returned `visited`.

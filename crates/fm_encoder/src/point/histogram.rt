@@ -22,6 +22,7 @@ use crate::point::totals::count_value;
 use fm_encode_error::EncodeError;
 use fm_exposition::Exemplar;
 use fm_grammar::{MetricType, SampleKind};
+use fm_labels::keep;
 use fm_raw::bucket::Bucket;
 use fm_raw::fixed::FixedSum;
 use fm_text::GrowingText;
@@ -197,9 +198,9 @@ impl PointEncoder {
             time: self.time,
             exemplar,
         };
-        match self.sink.push(self.name.as_str(), sample, Some(front)) {
-            Ok(()) => Ok(()),
-            Err(_) => self.refused.refuse(EncodeError::Memory),
-        }
+        keep!(
+            self.refused,
+            self.sink.push(self.name.as_str(), sample, Some(front))
+        )
     }
 }
