@@ -1,11 +1,10 @@
-ghost use Rattle.std.specs.Prelude.{◌≡◌, ◌++◌, [], IfOk, OnOk};
+ghost use Rattle.std.specs.Prelude.{◌≡◌, ◌++◌, [], ◌∷◌, IfOk, OnOk};
 ghost use Rattle.std.specs.List.{AllByRecursion};
 ghost use Rattle.fm_grammar.specs.WellFormed.{AreLabels, IsSample};
 ghost use Rattle.fm_grammar.specs.declared.MetricType.TheVariants.{Counter};
-ghost use Rattle.fm_exposition.specs.Samples.{label_of, labels_of};
 
 use fm_encode_error::EncodeError;
-use fm_exposition::{Exposition, SampleStore, Value, make};
+use fm_exposition::{Exposition, LabelList, SampleStore, Value, make};
 use fm_grammar::{MetricType, SampleKind};
 use fm_raw::fixed::Fixed;
 use fm_writer::encode_exposition;
@@ -56,21 +55,18 @@ impl Write for Stopping {
     }
 }
 
-fn label(alloc: Global, name: &str, value: &str) -> Result<(String, String), AllocError>
-    ensures { IfOk result (λ pair. label_of pair ≡ record { name = name.now; value = value.now }) }
+// A list of one label.
+fn one_label(alloc: Global, name: &str, value: &str) -> Result<LabelList, AllocError>
+    ensures { IfOk result (λ labels. labels ≡ record { name = name.now; value = value.now } ∷ []) }
 {
-    let name = String::from_str(alloc, name)?;
-    let value = String::from_str(alloc, value)?;
-    Ok((name, value))
+    let mut labels = LabelList::new(alloc);
+    labels.push(name, value)?;
+    Ok(labels)
 }
 
 // A sample with these labels, a timestamp and an exemplar without labels.
-fn total(
-    alloc: Global,
-    common: Vec<(String, String)>,
-    own: Vec<(String, String)>,
-) -> Result<SampleStore, EncodeError>
-    requires { AreLabels (labels_of common.items ++ labels_of own.items) }
+fn total(alloc: Global, common: LabelList, own: LabelList) -> Result<SampleStore, EncodeError>
+    requires { AreLabels (common ++ own) }
     ensures { IfOk result (λ store. AllByRecursion (IsSample Counter) store.samples) }
 {
     let exemplar = make::exemplar(Vec::new(alloc), Fixed::from_millionths(700_000), Some(2000));
@@ -96,18 +92,15 @@ fn family(alloc: Global, samples: SampleStore) -> Result<Exposition, EncodeError
 
 // One sample, whose two labels are common ones.
 fn counter(alloc: Global) -> Result<Exposition, EncodeError> {
-    let mut common = Vec::new(alloc);
-    common.push(label(alloc, "a", "x\"\\\ny")?)?;
-    common.push(label(alloc, "b", "")?)?;
-    family(alloc, total(alloc, common, Vec::new(alloc))?)
+    let mut common = one_label(alloc, "a", "x\"\\\ny")?;
+    common.push("b", "")?;
+    family(alloc, total(alloc, common, LabelList::new(alloc))?)
 }
 
 // The same, but the second label is the sample's own.
 fn counter_with_own(alloc: Global) -> Result<Exposition, EncodeError> {
-    let mut common = Vec::new(alloc);
-    common.push(label(alloc, "a", "x\"\\\ny")?)?;
-    let mut own = Vec::new(alloc);
-    own.push(label(alloc, "b", "")?)?;
+    let common = one_label(alloc, "a", "x\"\\\ny")?;
+    let own = one_label(alloc, "b", "")?;
     family(alloc, total(alloc, common, own)?)
 }
 
@@ -211,19 +204,15 @@ fn push_total(alloc: Global, store: &mut SampleStore, i: u32) -> Result<(), Enco
     if i % 2 == 0 {
         store.end_point();
     }
-    let own = Vec::new(alloc);
+    let own = LabelList::new(alloc);
     let value = Value::Whole(i128::from(i));
     store.push(SampleKind::Total, own, value, None, None)?;
     Ok(())
 }
 
 // This number of totals, in points of two samples each that share these labels.
-fn totals(
-    alloc: Global,
-    common: Vec<(String, String)>,
-    count: u32,
-) -> Result<SampleStore, EncodeError>
-    requires { AreLabels (labels_of common.items ++ []) }
+fn totals(alloc: Global, common: LabelList, count: u32) -> Result<SampleStore, EncodeError>
+    requires { AreLabels (common ++ []) }
     ensures { IfOk result (λ store. AllByRecursion (IsSample Counter) store.samples) }
 {
     let mut store = SampleStore::new(alloc, Arc::new(alloc, common)?);
@@ -238,7 +227,7 @@ fn totals(
 #[test]
 fn two_growths(rt: HostRuntime) -> Result<(), Fail> {
     let alloc = rt.alloc();
-    let common = vec![in alloc; label(alloc, "k", "v")?]?;
+    let common = one_label(alloc, "k", "v")?;
     let exposition = family(alloc, totals(alloc, common, 1000)?)?;
     let mut writer = Counting { bytes: 0, lines: 0 };
     encode_exposition(alloc, &mut writer, &exposition)?;
@@ -249,11 +238,11 @@ fn two_growths(rt: HostRuntime) -> Result<(), Fail> {
 // Two totals with these labels, and then two with those.
 fn totals_of_two(
     alloc: Global,
-    first: Vec<(String, String)>,
-    second: Vec<(String, String)>,
+    first: LabelList,
+    second: LabelList,
 ) -> Result<SampleStore, EncodeError>
-    requires first { AreLabels (labels_of first.items ++ []) }
-    requires second { AreLabels (labels_of second.items ++ []) }
+    requires first { AreLabels (first ++ []) }
+    requires second { AreLabels (second ++ []) }
     ensures { IfOk result (λ store. AllByRecursion (IsSample Counter) store.samples) }
 {
     let mut store = totals(alloc, first, 2)?;
@@ -267,8 +256,8 @@ fn totals_of_two(
 #[test]
 fn two_growths_where_shorter_labels_are_last(rt: HostRuntime) -> Result<(), Fail> {
     let alloc = rt.alloc();
-    let first = vec![in alloc; label(alloc, "k", "a longer value")?]?;
-    let second = vec![in alloc; label(alloc, "k", "v")?]?;
+    let first = one_label(alloc, "k", "a longer value")?;
+    let second = one_label(alloc, "k", "v")?;
     let exposition = family(alloc, totals_of_two(alloc, first, second)?)?;
     let mut writer = Counting { bytes: 0, lines: 0 };
     encode_exposition(alloc, &mut writer, &exposition)?;
