@@ -52,9 +52,9 @@ pub fn for_lines(alloc: Global) -> MetricEncoder
 }
 
 /// Goes on to the family with this printed name, this head and these constant labels, and appends the lines that come before
-/// its samples, unless the encoder keeps samples. The timestamp, in milliseconds, is written on each sample. `name` is swapped with the name of the family
-/// before. Fails with `Memory` if memory runs out; then that is the encoder's refusal, and the text may end in a part of these
-/// lines. An encoder that has refused something stays as it is, and returns that refusal.
+/// its samples, unless the encoder keeps samples. The timestamp, in milliseconds, is written on each sample. `name` is swapped
+/// with the name of the family before. Fails with `Memory` if memory runs out; then that is the encoder's refusal, and the text
+/// may end in a part of these lines. An encoder that has refused something stays as it is, and returns that refusal.
 pub fn begin_family(
     encoder: &mut MetricEncoder,
     alloc: Global,
