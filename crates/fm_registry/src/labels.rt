@@ -37,7 +37,9 @@ pub(crate) fn subsystem_namespace(
 }
 
 // The labels that a registry keeps; a registry without a list has none.
-pub(crate) fn labels_of_option<'a>(labels: &'a Option<Vec<(String, String)>>) -> &'a [(String, String)]
+pub(crate) fn labels_of_option<'a>(
+    labels: &'a Option<Vec<(String, String)>>,
+) -> &'a [(String, String)]
     ensures { labels_of result.now ≡ seen_labels labels.now }
 {
     match labels {
