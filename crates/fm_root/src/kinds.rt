@@ -10,7 +10,7 @@ mod constant;
 mod number;
 mod one_of;
 
-pub use by_texts::ByTexts;
+pub use by_texts::{ByTexts, OfTexts};
 pub use constant::Constant;
 use fm_encode_error::EncodeError;
 use fm_encoder::{EncodeMetric, MetricEncoder};
@@ -198,50 +198,50 @@ impl<H: Wait, X> From<GaugeHistogram<H>> for Metric<H, X> {
 }
 
 impl<H: Wait, X> From<TextFamily<Counter<u64>, H>> for Metric<H, X> {
-    ghost from_gives = { λ x metric. metric ≡ ByTexts (Counters x) };
+    ghost from_gives = { λ x metric. metric ≡ ByTexts (Counters (record { family = x })) };
 
     fn from(value: TextFamily<Counter<u64>, H>) -> Metric<H, X> {
-        Metric::ByTexts(ByTexts::Counters(value))
+        Metric::ByTexts(ByTexts::Counters(OfTexts { family: value }))
     }
 }
 
 impl<H: Wait, X> From<TextFamily<Counter<Fixed>, H>> for Metric<H, X> {
-    ghost from_gives = { λ x metric. metric ≡ ByTexts (FixedCounters x) };
+    ghost from_gives = { λ x metric. metric ≡ ByTexts (FixedCounters (record { family = x })) };
 
     fn from(value: TextFamily<Counter<Fixed>, H>) -> Metric<H, X> {
-        Metric::ByTexts(ByTexts::FixedCounters(value))
+        Metric::ByTexts(ByTexts::FixedCounters(OfTexts { family: value }))
     }
 }
 
 impl<H: Wait, X> From<TextFamily<Gauge<i64>, H>> for Metric<H, X> {
-    ghost from_gives = { λ x metric. metric ≡ ByTexts (Gauges x) };
+    ghost from_gives = { λ x metric. metric ≡ ByTexts (Gauges (record { family = x })) };
 
     fn from(value: TextFamily<Gauge<i64>, H>) -> Metric<H, X> {
-        Metric::ByTexts(ByTexts::Gauges(value))
+        Metric::ByTexts(ByTexts::Gauges(OfTexts { family: value }))
     }
 }
 
 impl<H: Wait, X> From<TextFamily<Gauge<Fixed>, H>> for Metric<H, X> {
-    ghost from_gives = { λ x metric. metric ≡ ByTexts (FixedGauges x) };
+    ghost from_gives = { λ x metric. metric ≡ ByTexts (FixedGauges (record { family = x })) };
 
     fn from(value: TextFamily<Gauge<Fixed>, H>) -> Metric<H, X> {
-        Metric::ByTexts(ByTexts::FixedGauges(value))
+        Metric::ByTexts(ByTexts::FixedGauges(OfTexts { family: value }))
     }
 }
 
 impl<H: Wait, X> From<TextFamily<Histogram<H>, H>> for Metric<H, X> {
-    ghost from_gives = { λ x metric. metric ≡ ByTexts (Histograms x) };
+    ghost from_gives = { λ x metric. metric ≡ ByTexts (Histograms (record { family = x })) };
 
     fn from(value: TextFamily<Histogram<H>, H>) -> Metric<H, X> {
-        Metric::ByTexts(ByTexts::Histograms(value))
+        Metric::ByTexts(ByTexts::Histograms(OfTexts { family: value }))
     }
 }
 
 impl<H: Wait, X> From<TextFamily<GaugeHistogram<H>, H>> for Metric<H, X> {
-    ghost from_gives = { λ x metric. metric ≡ ByTexts (GaugeHistograms x) };
+    ghost from_gives = { λ x metric. metric ≡ ByTexts (GaugeHistograms (record { family = x })) };
 
     fn from(value: TextFamily<GaugeHistogram<H>, H>) -> Metric<H, X> {
-        Metric::ByTexts(ByTexts::GaugeHistograms(value))
+        Metric::ByTexts(ByTexts::GaugeHistograms(OfTexts { family: value }))
     }
 }
 

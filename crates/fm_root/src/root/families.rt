@@ -17,6 +17,25 @@ use fm_registry::RegistryError;
 use std::sync::Wait;
 
 impl<H: Wait + Copy + Send + Sync + Drop, X: EncodeMetric> Root<H, X> {
+    // What each call below does: all but the type of the members is the same, and is proved here once.
+    fn make_texts<M: TryDefault<H> + Drop>(
+        &mut self,
+        name: &str,
+        help: &str,
+        unit: Option<Unit>,
+    ) -> Result<TextFamily<M, H>, RegistryError>
+    where
+        Metric<H, X>: From<TextFamily<M, H>>,
+        ensures { Makes ⟦<TextFamily<M, H> as TryDefault<H>>⟧.is_default ⟦<TextFamily<M, H> as Clone>⟧.is_clone
+            ⟦<Metric<H, X> as From<TextFamily<M, H>>>⟧.from_gives
+            ⟦<Metric<H, X> as EncodeMetric>⟧.types
+            (named_metric name.now help.now unit) self.old.at
+            self.new.at
+            result }
+    {
+        self.at.make(self.wait, name, help, unit)
+    }
+
     /// Makes a family by texts of counters of whole numbers, registers a clone of it in the current subsystem, and returns it.
     /// It has the errors of `register`.
     pub fn counters(
@@ -25,13 +44,13 @@ impl<H: Wait + Copy + Send + Sync + Drop, X: EncodeMetric> Root<H, X> {
         help: &str,
     ) -> Result<TextFamily<Counter<u64>, H>, RegistryError>
         ensures { Makes ⟦<TextFamily<Counter<u64>, H> as TryDefault<H>>⟧.is_default ⟦<TextFamily<Counter<u64>, H> as Clone>⟧.is_clone
-            (λ x metric. metric ≡ ByTexts (Counters x))
+            (λ x metric. metric ≡ ByTexts (Counters (record { family = x })))
             ⟦<Metric<H, X> as EncodeMetric>⟧.types
             (named_metric name.now help.now None) self.old.at
             self.new.at
             result }
     {
-        self.at.make(self.wait, name, help, None)
+        self.make_texts(name, help, None)
     }
 
     /// Like `counters`, with a unit.
@@ -42,13 +61,13 @@ impl<H: Wait + Copy + Send + Sync + Drop, X: EncodeMetric> Root<H, X> {
         unit: Unit,
     ) -> Result<TextFamily<Counter<u64>, H>, RegistryError>
         ensures { Makes ⟦<TextFamily<Counter<u64>, H> as TryDefault<H>>⟧.is_default ⟦<TextFamily<Counter<u64>, H> as Clone>⟧.is_clone
-            (λ x metric. metric ≡ ByTexts (Counters x))
+            (λ x metric. metric ≡ ByTexts (Counters (record { family = x })))
             ⟦<Metric<H, X> as EncodeMetric>⟧.types
             (named_metric name.now help.now (Some unit)) self.old.at
             self.new.at
             result }
     {
-        self.at.make(self.wait, name, help, Some(unit))
+        self.make_texts(name, help, Some(unit))
     }
 
     /// Makes a family by texts of counters of millionths, registers a clone of it in the current subsystem, and returns it. It
@@ -59,13 +78,13 @@ impl<H: Wait + Copy + Send + Sync + Drop, X: EncodeMetric> Root<H, X> {
         help: &str,
     ) -> Result<TextFamily<Counter<Fixed>, H>, RegistryError>
         ensures { Makes ⟦<TextFamily<Counter<Fixed>, H> as TryDefault<H>>⟧.is_default ⟦<TextFamily<Counter<Fixed>, H> as Clone>⟧.is_clone
-            (λ x metric. metric ≡ ByTexts (FixedCounters x))
+            (λ x metric. metric ≡ ByTexts (FixedCounters (record { family = x })))
             ⟦<Metric<H, X> as EncodeMetric>⟧.types
             (named_metric name.now help.now None) self.old.at
             self.new.at
             result }
     {
-        self.at.make(self.wait, name, help, None)
+        self.make_texts(name, help, None)
     }
 
     /// Like `fixed_counters`, with a unit.
@@ -76,13 +95,13 @@ impl<H: Wait + Copy + Send + Sync + Drop, X: EncodeMetric> Root<H, X> {
         unit: Unit,
     ) -> Result<TextFamily<Counter<Fixed>, H>, RegistryError>
         ensures { Makes ⟦<TextFamily<Counter<Fixed>, H> as TryDefault<H>>⟧.is_default ⟦<TextFamily<Counter<Fixed>, H> as Clone>⟧.is_clone
-            (λ x metric. metric ≡ ByTexts (FixedCounters x))
+            (λ x metric. metric ≡ ByTexts (FixedCounters (record { family = x })))
             ⟦<Metric<H, X> as EncodeMetric>⟧.types
             (named_metric name.now help.now (Some unit)) self.old.at
             self.new.at
             result }
     {
-        self.at.make(self.wait, name, help, Some(unit))
+        self.make_texts(name, help, Some(unit))
     }
 
     /// Makes a family by texts of gauges of whole numbers, registers a clone of it in the current subsystem, and returns it. It
@@ -93,13 +112,13 @@ impl<H: Wait + Copy + Send + Sync + Drop, X: EncodeMetric> Root<H, X> {
         help: &str,
     ) -> Result<TextFamily<Gauge<i64>, H>, RegistryError>
         ensures { Makes ⟦<TextFamily<Gauge<i64>, H> as TryDefault<H>>⟧.is_default ⟦<TextFamily<Gauge<i64>, H> as Clone>⟧.is_clone
-            (λ x metric. metric ≡ ByTexts (Gauges x))
+            (λ x metric. metric ≡ ByTexts (Gauges (record { family = x })))
             ⟦<Metric<H, X> as EncodeMetric>⟧.types
             (named_metric name.now help.now None) self.old.at
             self.new.at
             result }
     {
-        self.at.make(self.wait, name, help, None)
+        self.make_texts(name, help, None)
     }
 
     /// Like `gauges`, with a unit.
@@ -110,13 +129,13 @@ impl<H: Wait + Copy + Send + Sync + Drop, X: EncodeMetric> Root<H, X> {
         unit: Unit,
     ) -> Result<TextFamily<Gauge<i64>, H>, RegistryError>
         ensures { Makes ⟦<TextFamily<Gauge<i64>, H> as TryDefault<H>>⟧.is_default ⟦<TextFamily<Gauge<i64>, H> as Clone>⟧.is_clone
-            (λ x metric. metric ≡ ByTexts (Gauges x))
+            (λ x metric. metric ≡ ByTexts (Gauges (record { family = x })))
             ⟦<Metric<H, X> as EncodeMetric>⟧.types
             (named_metric name.now help.now (Some unit)) self.old.at
             self.new.at
             result }
     {
-        self.at.make(self.wait, name, help, Some(unit))
+        self.make_texts(name, help, Some(unit))
     }
 
     /// Makes a family by texts of gauges of millionths, registers a clone of it in the current subsystem, and returns it. It
@@ -127,13 +146,13 @@ impl<H: Wait + Copy + Send + Sync + Drop, X: EncodeMetric> Root<H, X> {
         help: &str,
     ) -> Result<TextFamily<Gauge<Fixed>, H>, RegistryError>
         ensures { Makes ⟦<TextFamily<Gauge<Fixed>, H> as TryDefault<H>>⟧.is_default ⟦<TextFamily<Gauge<Fixed>, H> as Clone>⟧.is_clone
-            (λ x metric. metric ≡ ByTexts (FixedGauges x))
+            (λ x metric. metric ≡ ByTexts (FixedGauges (record { family = x })))
             ⟦<Metric<H, X> as EncodeMetric>⟧.types
             (named_metric name.now help.now None) self.old.at
             self.new.at
             result }
     {
-        self.at.make(self.wait, name, help, None)
+        self.make_texts(name, help, None)
     }
 
     /// Like `fixed_gauges`, with a unit.
@@ -144,13 +163,13 @@ impl<H: Wait + Copy + Send + Sync + Drop, X: EncodeMetric> Root<H, X> {
         unit: Unit,
     ) -> Result<TextFamily<Gauge<Fixed>, H>, RegistryError>
         ensures { Makes ⟦<TextFamily<Gauge<Fixed>, H> as TryDefault<H>>⟧.is_default ⟦<TextFamily<Gauge<Fixed>, H> as Clone>⟧.is_clone
-            (λ x metric. metric ≡ ByTexts (FixedGauges x))
+            (λ x metric. metric ≡ ByTexts (FixedGauges (record { family = x })))
             ⟦<Metric<H, X> as EncodeMetric>⟧.types
             (named_metric name.now help.now (Some unit)) self.old.at
             self.new.at
             result }
     {
-        self.at.make(self.wait, name, help, Some(unit))
+        self.make_texts(name, help, Some(unit))
     }
 
     /// Makes a family by texts of histograms with the default bounds, registers a clone of it in the current subsystem, and
@@ -161,13 +180,13 @@ impl<H: Wait + Copy + Send + Sync + Drop, X: EncodeMetric> Root<H, X> {
         help: &str,
     ) -> Result<TextFamily<Histogram<H>, H>, RegistryError>
         ensures { Makes ⟦<TextFamily<Histogram<H>, H> as TryDefault<H>>⟧.is_default ⟦<TextFamily<Histogram<H>, H> as Clone>⟧.is_clone
-            (λ x metric. metric ≡ ByTexts (Histograms x))
+            (λ x metric. metric ≡ ByTexts (Histograms (record { family = x })))
             ⟦<Metric<H, X> as EncodeMetric>⟧.types
             (named_metric name.now help.now None) self.old.at
             self.new.at
             result }
     {
-        self.at.make(self.wait, name, help, None)
+        self.make_texts(name, help, None)
     }
 
     /// Like `histograms`, with a unit.
@@ -178,13 +197,13 @@ impl<H: Wait + Copy + Send + Sync + Drop, X: EncodeMetric> Root<H, X> {
         unit: Unit,
     ) -> Result<TextFamily<Histogram<H>, H>, RegistryError>
         ensures { Makes ⟦<TextFamily<Histogram<H>, H> as TryDefault<H>>⟧.is_default ⟦<TextFamily<Histogram<H>, H> as Clone>⟧.is_clone
-            (λ x metric. metric ≡ ByTexts (Histograms x))
+            (λ x metric. metric ≡ ByTexts (Histograms (record { family = x })))
             ⟦<Metric<H, X> as EncodeMetric>⟧.types
             (named_metric name.now help.now (Some unit)) self.old.at
             self.new.at
             result }
     {
-        self.at.make(self.wait, name, help, Some(unit))
+        self.make_texts(name, help, Some(unit))
     }
 
     /// Makes a family by texts of gauge histograms with the default bounds, registers a clone of it in the current subsystem,
@@ -195,13 +214,13 @@ impl<H: Wait + Copy + Send + Sync + Drop, X: EncodeMetric> Root<H, X> {
         help: &str,
     ) -> Result<TextFamily<GaugeHistogram<H>, H>, RegistryError>
         ensures { Makes ⟦<TextFamily<GaugeHistogram<H>, H> as TryDefault<H>>⟧.is_default ⟦<TextFamily<GaugeHistogram<H>, H> as Clone>⟧.is_clone
-            (λ x metric. metric ≡ ByTexts (GaugeHistograms x))
+            (λ x metric. metric ≡ ByTexts (GaugeHistograms (record { family = x })))
             ⟦<Metric<H, X> as EncodeMetric>⟧.types
             (named_metric name.now help.now None) self.old.at
             self.new.at
             result }
     {
-        self.at.make(self.wait, name, help, None)
+        self.make_texts(name, help, None)
     }
 
     /// Like `gauge_histograms`, with a unit.
@@ -212,12 +231,12 @@ impl<H: Wait + Copy + Send + Sync + Drop, X: EncodeMetric> Root<H, X> {
         unit: Unit,
     ) -> Result<TextFamily<GaugeHistogram<H>, H>, RegistryError>
         ensures { Makes ⟦<TextFamily<GaugeHistogram<H>, H> as TryDefault<H>>⟧.is_default ⟦<TextFamily<GaugeHistogram<H>, H> as Clone>⟧.is_clone
-            (λ x metric. metric ≡ ByTexts (GaugeHistograms x))
+            (λ x metric. metric ≡ ByTexts (GaugeHistograms (record { family = x })))
             ⟦<Metric<H, X> as EncodeMetric>⟧.types
             (named_metric name.now help.now (Some unit)) self.old.at
             self.new.at
             result }
     {
-        self.at.make(self.wait, name, help, Some(unit))
+        self.make_texts(name, help, Some(unit))
     }
 }

@@ -16,6 +16,24 @@ use fm_registry::RegistryError;
 use std::sync::Wait;
 
 impl<H: Wait + Copy + Send + Sync + Drop, X: EncodeMetric> Root<H, X> {
+    // What each call below does, proved once for all types of metrics.
+    fn make<T: TryDefault<H> + Clone + Drop>(
+        &mut self,
+        name: &str,
+        help: &str,
+        unit: Option<Unit>,
+    ) -> Result<T, RegistryError>
+    where
+        Metric<H, X>: From<T>,
+        ensures { Makes T.is_default T.is_clone ⟦<Metric<H, X> as From<T>>⟧.from_gives
+            ⟦<Metric<H, X> as EncodeMetric>⟧.types
+            (named_metric name.now help.now unit) self.old.at
+            self.new.at
+            result }
+    {
+        self.at.make(self.wait, name, help, unit)
+    }
+
     /// Makes a counter of whole numbers, registers a clone of it in the current subsystem, and returns it. It has the errors of
     /// `register`.
     pub fn counter(&mut self, name: &str, help: &str) -> Result<Counter<u64>, RegistryError>
@@ -26,7 +44,7 @@ impl<H: Wait + Copy + Send + Sync + Drop, X: EncodeMetric> Root<H, X> {
             self.new.at
             result }
     {
-        self.at.make(self.wait, name, help, None)
+        self.make(name, help, None)
     }
 
     /// Like `counter`, with a unit.
@@ -43,7 +61,7 @@ impl<H: Wait + Copy + Send + Sync + Drop, X: EncodeMetric> Root<H, X> {
             self.new.at
             result }
     {
-        self.at.make(self.wait, name, help, Some(unit))
+        self.make(name, help, Some(unit))
     }
 
     /// Makes a counter of millionths, registers a clone of it in the current subsystem, and returns it. It has the errors of
@@ -56,7 +74,7 @@ impl<H: Wait + Copy + Send + Sync + Drop, X: EncodeMetric> Root<H, X> {
             self.new.at
             result }
     {
-        self.at.make(self.wait, name, help, None)
+        self.make(name, help, None)
     }
 
     /// Like `fixed_counter`, with a unit.
@@ -73,7 +91,7 @@ impl<H: Wait + Copy + Send + Sync + Drop, X: EncodeMetric> Root<H, X> {
             self.new.at
             result }
     {
-        self.at.make(self.wait, name, help, Some(unit))
+        self.make(name, help, Some(unit))
     }
 
     /// Makes a gauge of whole numbers, registers a clone of it in the current subsystem, and returns it. It has the errors of
@@ -86,7 +104,7 @@ impl<H: Wait + Copy + Send + Sync + Drop, X: EncodeMetric> Root<H, X> {
             self.new.at
             result }
     {
-        self.at.make(self.wait, name, help, None)
+        self.make(name, help, None)
     }
 
     /// Like `gauge`, with a unit.
@@ -103,7 +121,7 @@ impl<H: Wait + Copy + Send + Sync + Drop, X: EncodeMetric> Root<H, X> {
             self.new.at
             result }
     {
-        self.at.make(self.wait, name, help, Some(unit))
+        self.make(name, help, Some(unit))
     }
 
     /// Makes a gauge of millionths, registers a clone of it in the current subsystem, and returns it. It has the errors of
@@ -116,7 +134,7 @@ impl<H: Wait + Copy + Send + Sync + Drop, X: EncodeMetric> Root<H, X> {
             self.new.at
             result }
     {
-        self.at.make(self.wait, name, help, None)
+        self.make(name, help, None)
     }
 
     /// Like `fixed_gauge`, with a unit.
@@ -133,7 +151,7 @@ impl<H: Wait + Copy + Send + Sync + Drop, X: EncodeMetric> Root<H, X> {
             self.new.at
             result }
     {
-        self.at.make(self.wait, name, help, Some(unit))
+        self.make(name, help, Some(unit))
     }
 
     /// Makes a histogram with the default bounds, registers a clone of it in the current subsystem, and returns it. It has the
@@ -146,7 +164,7 @@ impl<H: Wait + Copy + Send + Sync + Drop, X: EncodeMetric> Root<H, X> {
             self.new.at
             result }
     {
-        self.at.make(self.wait, name, help, None)
+        self.make(name, help, None)
     }
 
     /// Like `histogram`, with a unit.
@@ -163,7 +181,7 @@ impl<H: Wait + Copy + Send + Sync + Drop, X: EncodeMetric> Root<H, X> {
             self.new.at
             result }
     {
-        self.at.make(self.wait, name, help, Some(unit))
+        self.make(name, help, Some(unit))
     }
 
     /// Makes a gauge histogram with the default bounds, registers a clone of it in the current subsystem, and returns it. It
@@ -180,7 +198,7 @@ impl<H: Wait + Copy + Send + Sync + Drop, X: EncodeMetric> Root<H, X> {
             self.new.at
             result }
     {
-        self.at.make(self.wait, name, help, None)
+        self.make(name, help, None)
     }
 
     /// Like `gauge_histogram`, with a unit.
@@ -197,6 +215,6 @@ impl<H: Wait + Copy + Send + Sync + Drop, X: EncodeMetric> Root<H, X> {
             self.new.at
             result }
     {
-        self.at.make(self.wait, name, help, Some(unit))
+        self.make(name, help, Some(unit))
     }
 }
