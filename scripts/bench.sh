@@ -1,5 +1,6 @@
 #!/usr/bin/env bash
-# Proves, builds and runs the programs of bench/ in a scratch copy of the crates, so that the gate doesn't prove them each time.
+# Runs the scenes of bench/. Their program is proved and built in a scratch copy, over the libraries that `rt ci` left in this repository (`bash
+# .ci/run`, or `rt ci fastmetrics`, comes first): the libraries are not proved again.
 #
 #   scripts/bench.sh [-d FOLDER] [SCENE..]      scenes: hand counters labeled histograms gauges inc lookup observe register read; all without one
 #
@@ -15,22 +16,16 @@ folder=/tmp/fastmetrics-bench
 . "$top/scripts/scratch.sh"
 . "$top/scripts/memory.sh"
 lay_out "$top" "$folder"
-
-# The program of a scene, proved and built.
-build() {
-    cd "$folder/crates/bench_$1"
-    [[ -e out/built && -z $(find ../*/src -newer out/built -print -quit) ]] && return
-    rt check --jobs "$(nproc)" >"$folder/bench_$1.log" 2>&1 && rt run >>"$folder/bench_$1.log" 2>&1 && touch out/built ||
-        { cat "$folder/bench_$1.log" >&2; exit 1; }
-}
+"$top/scripts/build_over.py" "$folder" bench_support bench || exit 1
+cd "$folder/crates/bench"
 
 # What one `encode` of a scene asks for, by a program that is linked with the counter of requests: of so many members, and lines a member.
 count_memory() {
     local before after most bytes
-    link_counted "out/bench_$1.o" "$folder/counted" || exit 1
-    REFUSE_COUNT="$folder/count" "$folder/counted" "$2" 0 >"$folder/bytes"
+    link_counted out/bench.o "$folder/counted" || exit 1
+    REFUSE_COUNT="$folder/count" "$folder/counted" "$1" "$2" 0 >"$folder/bytes"
     read -r before _ <"$folder/count"
-    REFUSE_COUNT="$folder/count" REFUSE_SINCE=$before "$folder/counted" "$2" 1 >"$folder/bytes"
+    REFUSE_COUNT="$folder/count" REFUSE_SINCE=$before "$folder/counted" "$1" "$2" 1 >"$folder/bytes"
     read -r after most _ <"$folder/count"
     bytes=$(<"$folder/bytes")
     awk -v n="$((after - before))" -v lines="$(($2 * $3))" -v most="$most" -v bytes="$bytes" -v of="$1 $2" \
@@ -38,8 +33,6 @@ count_memory() {
 }
 
 for scene; do
-    build "$scene"
-    cd "$folder/crates/bench_$scene"
     lines=1
     case $scene in
         counters) sizes="1000 100000 1000000" ;;
@@ -48,7 +41,7 @@ for scene; do
         *) sizes=1000 lines=0 ;;
     esac
     for size in $sizes; do
-        rt run -- "$size" 2>/dev/null
+        out/bench "$scene" "$size"
         [[ $lines == 0 ]] || count_memory "$scene" "$size" "$lines"
     done
 done

@@ -22,7 +22,7 @@ done
 scratch=$(mktemp -d) || exit 2
 trap 'rm -rf "$scratch"' EXIT
 . "$top/scripts/scratch.sh"
-lay_out "$crates" "$scratch/repository" without_proofs "$top/bench"
+lay_out "$crates" "$scratch/repository" "$top/bench"
 agree=0 differ=0 mistakes=0
 
 mkdir "$scratch/cases"

@@ -1,24 +1,22 @@
 # For the scripts beside it, which read it: lays the crates and those of bench/ in a scratch folder, so that the gate doesn't prove the latter
-# each time. What was proved is kept beside them, unless it is left out.
+# each time.
 #
-#   lay_out TOP FOLDER [without_proofs [BENCH]]        BENCH is the folder bench/ of TOP, or another
+#   lay_out TOP FOLDER [BENCH]        BENCH is the folder bench/ of TOP, or another
 
 lay_out() {
-    local top=$1 folder=$2 proofs=${3:-} bench=${4:-$1/bench} crate name file
+    local top=$1 folder=$2 bench=${3:-$1/bench} crate name file
     mkdir -p "$folder/crates"
     cp "$top/HANDLES" "$folder/"
-    # The crates, with the work that is kept beside them, and the bench's own, whose files get their true endings.
-    for crate in "$top"/crates/*/; do
+    # The crates, and the bench's own, whose files get their true endings. What was built there before stays.
+    for crate in "$top"/crates/*/ "$bench"/*/; do
         name=$(basename "$crate")
-        case $name in fm_tests_* | fm_test_support | expose | first_use | global_use | worker_pool) continue ;; esac
-        (cd "$top/crates" && find "$name" -path "$name/out" -prune -o -type f -print) |
-            while read -r file; do
-                cmp -s "$top/crates/$file" "$folder/crates/$file" || install -D -m 644 "$top/crates/$file" "$folder/crates/$file"
-            done
-        [[ $proofs || -d $folder/crates/$name/out || ! -d $crate/out ]] || cp -a "$crate/out" "$folder/crates/$name/out"
+        case $name in fm_tests_* | fm_test_support | expose | first_use | global_use | worker_pool | peers) continue ;; esac
+        mkdir -p "$folder/crates/$name"
+        find "$folder/crates/$name" -mindepth 1 -maxdepth 1 ! -name out -exec rm -rf {} +
+        (cd "$crate" && tar -c --exclude=./out .) | tar -x -C "$folder/crates/$name"
     done
-    (cd "$bench" && find . -mindepth 2 -name "*.in") | while read -r file; do
-        cmp -s "$bench/$file" "$folder/crates/${file%.in}" || install -D -m 644 "$bench/$file" "$folder/crates/${file%.in}"
+    find "$folder/crates" -path '*/out' -prune -o -name '*.in' -print | while read -r file; do
+        mv "$file" "${file%.in}"
     done
     grep -vE '^(fm_test|expose|first_use|global_use|worker_pool)' "$top/crates.txt" | cat - "$bench/crates.in" >"$folder/crates.txt"
     [[ -d $folder/.git ]] || git -C "$folder" init -q
