@@ -53,6 +53,7 @@ impl<M: EncodePoint + TypedMetric + Send + Sync + Drop, H: Wait + Send + Sync + 
         self.family.is_empty()
     }
 }
+
 /// A family by texts.
 ///
 /// It declares and offers what the metric in it does.
