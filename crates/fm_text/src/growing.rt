@@ -13,7 +13,8 @@ const FIRST_ROOM: usize = 64;
 // How many bytes a text is filled up with at most. What was filled is then still in the processor's cache when it is written to.
 const MOST_ROOM: usize = 4096;
 
-// Lengthens a list of bytes to this length or, if that is greater, to twice its length or by the most room.
+// Lengthens a list of bytes to this length or, if that is greater, to twice its length or by the most room. If it has memory for the former,
+// it takes no more.
 #[cold]
 fn lengthen(bytes: &mut Vec<u8>, at_least: usize) -> Result<(), AllocError>
     requires { length bytes.old.items ≤ at_least }
@@ -22,7 +23,16 @@ fn lengthen(bytes: &mut Vec<u8>, at_least: usize) -> Result<(), AllocError>
     ensures enough { OnOk result (at_least ≤ length bytes.new.items) }
 {
     let room = bytes.len().max(FIRST_ROOM).min(MOST_ROOM);
-    bytes.resize(bytes.len().saturating_add(room).max(at_least), 0)
+    let (wanted, capacity) = (
+        bytes.len().saturating_add(room).max(at_least),
+        bytes.capacity(),
+    );
+    let most = if at_least > capacity {
+        wanted
+    } else {
+        capacity
+    };
+    bytes.resize(wanted.min(most), 0)
 }
 
 /// A text that grows at its end.
