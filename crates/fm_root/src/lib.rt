@@ -2,10 +2,9 @@
 #![tactic(auto)]
 
 mod at;
-pub mod kinds;
 mod paths;
 pub mod root;
 
-pub use kinds::{ByTexts, Constant, Metric, Number, OneOf};
+pub use fm_metric_kinds::{ByTexts, Constant, Metric, Number, OneOf};
 pub use paths::{add_at, add_subsystem_at};
 pub use root::Root;

@@ -13,16 +13,16 @@ ghost use Rattle.fm_registry.specs.View.{seen_labels};
 ghost use Rattle.fm_core.specs.Admits.{AdmittedBy, Fault};
 ghost use Rattle.fm_core.specs.Encoded.{WritesAdmitted, BeginsAdmitted};
 ghost use Rattle.fm_registry.specs.Named.{named_metric};
-ghost use Rattle.fm_root.specs.declared.kinds.Metric.TheVariants.{Own};
+ghost use Rattle.fm_metric_kinds.specs.declared.Metric.TheVariants.{Own};
 ghost use Rattle.fm_root.specs.Roots.{AddsOrNot, AddsClone, Makes, Enters};
 
 mod families;
 mod metrics;
 
 use crate::at::RegistryAt;
-use crate::kinds::{Metric, Number};
 use fm_core::format::text::{EncodeError, Exposition, collect, encode};
 use fm_encoder::EncodeMetric;
+use fm_metric_kinds::{Metric, Number};
 use fm_raw::{TryDefault, Unit};
 use fm_registry::{RegistryBuilder, RegistryError};
 use std::alloc::Global;

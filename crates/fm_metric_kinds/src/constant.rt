@@ -1,5 +1,5 @@
 //! Metrics that never change.
-ghost use Rattle.fm_root.specs.declared.kinds.constant.Constant.TheVariants.{Info, Counter, FixedCounter, Gauge, FixedGauge, Unknown, FixedUnknown, Histogram, GaugeHistogram};
+ghost use Rattle.fm_metric_kinds.specs.declared.constant.Constant.TheVariants.{Info, Counter, FixedCounter, Gauge, FixedGauge, Unknown, FixedUnknown, Histogram, GaugeHistogram};
 
 use fm_encode_error::EncodeError;
 use fm_encoder::{EncodeMetric, MetricEncoder};

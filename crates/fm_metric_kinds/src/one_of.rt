@@ -1,5 +1,5 @@
 //! Metrics of one of two kinds.
-ghost use Rattle.fm_root.specs.declared.kinds.one_of.OneOf.TheVariants.{First, Second};
+ghost use Rattle.fm_metric_kinds.specs.declared.one_of.OneOf.TheVariants.{First, Second};
 
 use fm_encode_error::EncodeError;
 use fm_encoder::{EncodeMetric, MetricEncoder};

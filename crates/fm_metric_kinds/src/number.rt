@@ -1,5 +1,5 @@
 //! Counters and gauges.
-ghost use Rattle.fm_root.specs.declared.kinds.number.Number.TheVariants.{Counter, FixedCounter, Gauge, FixedGauge};
+ghost use Rattle.fm_metric_kinds.specs.declared.number.Number.TheVariants.{Counter, FixedCounter, Gauge, FixedGauge};
 
 use fm_encode_error::EncodeError;
 use fm_encoder::{EncodeMetric, MetricEncoder};

@@ -1,9 +1,11 @@
 //! A metric of any of the library's usual kinds, or of a kind of the program's own.
+#![tactic(auto)]
+
 ghost use Rattle.std.specs.Prelude.{◌≡◌};
-ghost use Rattle.fm_root.specs.declared.kinds.number.Number.TheVariants.{Counter, FixedCounter, Gauge, FixedGauge};
-ghost use Rattle.fm_root.specs.declared.kinds.by_texts.ByTexts.TheVariants.{Counters, FixedCounters, Gauges, FixedGauges, Histograms, GaugeHistograms};
-ghost use Rattle.fm_root.specs.declared.kinds.constant.Constant.TheVariants as constant;
-ghost use Rattle.fm_root.specs.declared.kinds.Metric.TheVariants.{Number, Histogram, GaugeHistogram, ByTexts, Constant, Own};
+ghost use Rattle.fm_metric_kinds.specs.declared.number.Number.TheVariants.{Counter, FixedCounter, Gauge, FixedGauge};
+ghost use Rattle.fm_metric_kinds.specs.declared.by_texts.ByTexts.TheVariants.{Counters, FixedCounters, Gauges, FixedGauges, Histograms, GaugeHistograms};
+ghost use Rattle.fm_metric_kinds.specs.declared.constant.Constant.TheVariants as constant;
+ghost use Rattle.fm_metric_kinds.specs.declared.Metric.TheVariants.{Number, Histogram, GaugeHistogram, ByTexts, Constant, Own};
 
 mod by_texts;
 mod constant;
