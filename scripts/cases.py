@@ -21,6 +21,8 @@ import tempfile
 import tomllib
 from concurrent.futures import ThreadPoolExecutor
 
+import unproved
+
 TOP = os.path.dirname(os.path.dirname(os.path.realpath(__file__)))
 ONE_RUN = 60
 
@@ -73,15 +75,14 @@ def crates_with_cases():
 
 
 def failing(crate, folder):
-    """The cases of a crate that another copy of it in this folder of crates fails, compiled with run-time checks and not proved, and what was said."""
+    """The cases of a crate that another copy of it in this folder fails, compiled with run-time checks and not proved, and what was said."""
     cases, _ = cases_of(crate)
     with tempfile.TemporaryDirectory(prefix="cases-") as files:
         for case in cases:
             for ending, text in (("", case.stdin), (".args", b"".join(it + b"\n" for it in case.args)), (".stdout", case.stdout)):
                 with open(f"{files}/{case.name}{ending}", "wb") as file:
                     file.write(text)
-        words = ["rt", "try", "--cases", files]
-        said = subprocess.run(words, cwd=f"{folder}/{crate}", stdin=subprocess.DEVNULL, stdout=subprocess.PIPE, stderr=subprocess.STDOUT, errors="replace").stdout
+        said = unproved.run(folder, crate, ["--cases", files])
     if not re.search(r"^cases=\d+ ", said, re.M):
         return None, said
     passes = lambda it: re.search(rf"^case={it.name} run=ended status={it.status} .*output=expected", said, re.M)
@@ -92,9 +93,8 @@ def asks_for_more(crate, folder, request):
     """Whether another copy of a program asks for memory so often, on the input beside it: it ends otherwise where this request is refused. With a
     request N::TEST the same of a test, which then fails. And what was said."""
     request, _, test = request.partition("::")
-    with open(os.devnull if test else f"{TOP}/crates/{crate}/stdin", "rb") as given:
-        words = ["rt", "try", *["--test"] * (test != ""), "--fail-alloc", request]
-        said = subprocess.run(words, cwd=f"{folder}/{crate}", stdin=given, stdout=subprocess.PIPE, stderr=subprocess.STDOUT, errors="replace").stdout
+    given = os.devnull if test else f"{TOP}/crates/{crate}/stdin"
+    said = unproved.run(folder, crate, ["--fail-alloc", request], tests=test != "", stdin=given)
     ended = rf"^test {test} \.\.\. (?!ok$)" if test else r"^run=ended status=(?!0 )"
     return re.search(ended, said, re.M) is not None, said
 

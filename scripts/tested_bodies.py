@@ -5,9 +5,9 @@
 
 A crate lists them in must-fail/tested_bodies.md, as its wrong bodies are listed (scripts/wrong_bodies.py), each with a line `tests: CRATE TEST..`, a
 crate of tests and those of its tests that fail with this body alone; with `tests: CRATE` some test has to fail. All that name one crate of tests are
-planted in one copy of the crates, each as another branch of its functions, and the tests are compiled once, with run-time checks and no proof (`rt try
---test`); each test runs once for each body that names it, and must pass with none (scripts/planted.c). Of a body that lies outside a function, or that
-no test refused so, the crates are compiled with it in place of what is right, up to three times. A body with which a test never ends has a line
+planted in one copy of the crates, each as another branch of its functions, and the tests are compiled once, with run-time checks and no proof
+(scripts/unproved.py); each test runs once for each body that names it, and must pass with none (scripts/planted.c). Of a body that lies outside a
+function, or that no test refused so, the crates are compiled with it in place of what is right, up to three times. A body with which a test never ends has a line
 `seconds: N`, after which a test has failed. A test `cases::NAME` of a program is a case of its cases.toml (scripts/cases.py), and `requests::N` that it
 asks for memory fewer than N times on the input beside it; `requests::N::TEST` says so of a test. With `tests: replay NAME..` scripts of bench/replay
 stand for tests, and one of them has to differ from its answer (scripts/replay.sh). Prints a line for each body, and then 'N refused, M not refused';
@@ -24,6 +24,7 @@ from concurrent.futures import ThreadPoolExecutor
 
 import cases
 import kept
+import unproved
 from branches import MOST_RUN, stand_beside, tests_of
 from wrong_bodies import KIT, TOP, Crate, crates_of, listed, text_of
 
@@ -64,10 +65,7 @@ def failing_beside(bodies):
         outside, placed = stand_beside(bodies, folder, f"{folder}/results")
         if not outside and not placed:
             return {}
-        how = {"stdin": subprocess.DEVNULL, "stdout": subprocess.PIPE, "stderr": subprocess.STDOUT, "errors": "replace"}
-        how["env"] = {**os.environ, "RT_ALLOW_C": "planted"}
-        words = ["rt", "try", "--test", "--seconds", str(MOST)]
-        said = subprocess.run(words, cwd=f"{folder}/crates/{tests_of(bodies[0])[0]}", timeout=2 * MOST, **how).stdout
+        said = unproved.run(folder, tests_of(bodies[0])[0], ["--seconds", str(MOST)], tests=True, seconds=2 * MOST)
         always = set(re.findall(r"^test (\S+) \.\.\. (?!ok$)", said, re.M))
         if not re.search(r"^test result: ", said, re.M) or always - {test for body in outside for test in tests_of(body)[1]}:
             last = " / ".join(said.strip().split("\n")[-3:])[:400]
@@ -120,15 +118,13 @@ def failing_with(bodies):
         if are_scripts(bodies[0]):
             return differing(set().union(*(tests_of(body)[1] for body in bodies)), folder)
         if are_cases(bodies[0]):
-            failed, said = cases.failing(tests_of(bodies[0])[0], f"{folder}/crates")
+            failed, said = cases.failing(tests_of(bodies[0])[0], folder)
             return ([f"cases::{it}" for it in failed] if failed else None), said
         if request_of(bodies[0]):
-            is_one_more, said = cases.asks_for_more(tests_of(bodies[0])[0], f"{folder}/crates", request_of(bodies[0]))
+            is_one_more, said = cases.asks_for_more(tests_of(bodies[0])[0], folder, request_of(bodies[0]))
             return ([f"requests::{request_of(bodies[0])}"] if is_one_more else None), said
-        how = {"stdin": subprocess.DEVNULL, "stdout": subprocess.PIPE, "stderr": subprocess.STDOUT, "errors": "replace"}
-        words = ["rt", "try", "--test", "--seconds", bodies[0].seconds or MOST_RUN]
         try:
-            said = subprocess.run(words, cwd=f"{folder}/crates/{tests_of(bodies[0])[0]}", timeout=MOST, **how).stdout
+            said = unproved.run(folder, tests_of(bodies[0])[0], ["--seconds", bodies[0].seconds or MOST_RUN], tests=True, seconds=MOST)
         except subprocess.TimeoutExpired:
             return None, f"no result in {MOST} seconds"
     failed = re.findall(r"^test (\S+) \.\.\. (?!ok$)", said, re.M)
@@ -162,7 +158,7 @@ def tried_beside(bodies):
 def tried_or_kept(bodies, crates):
     """The same, or what was refused before on this machine (scripts/kept.py)."""
     crate = crates[tests_of(bodies[0])[0]]
-    scripts = [f"{TOP}/scripts/{name}" for name in ("tested_bodies.py", "branches.py", "planted.c", "wrong_bodies.py", "cases.py")]
+    scripts = [f"{TOP}/scripts/{name}" for name in ("tested_bodies.py", "branches.py", "planted.c", "wrong_bodies.py", "cases.py", "unproved.py")]
     if are_scripts(bodies[0]):
         scripts += sorted(glob.glob(f"{TOP}/scripts/*.sh") + glob.glob(f"{TOP}/bench/replay/**/*.*", recursive=True))
     scripts += [f"{crate.folder}/cases.toml"] * are_cases(bodies[0]) + [f"{crate.folder}/stdin"] * request_of(bodies[0]).isdigit()

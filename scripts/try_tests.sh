@@ -16,7 +16,7 @@ if [[ $# == 0 ]]; then
 fi
 
 one() {
-    (cd "crates/$1" && rt try --test --seconds 600) >"$said/$1" 2>&1
+    scripts/unproved.py --test "$1" --seconds 600 >"$said/$1" 2>&1
     if grep -q '^run=ended status=0 ' "$said/$1"; then
         echo "$1: $(grep -c '^test .* ok$' "$said/$1") tests passed"
     else

@@ -8,8 +8,9 @@ A crate lists its wrong bodies in must-fail/wrong_bodies.md: below a heading of 
 
 Many wrong bodies are tried together: one check of a copy of the crate, in which they all stand, says of each function what it can't prove.
 A function is proved from its own body and from the contracts of what it calls; only functions that call one another have one proof. So a wrong body is refused where the
-check names something of its own function: a goal that is not proved, or an error in the function's own proof. Two wrong bodies of one function are
-tried in two checks. One of which a check says only that the function's proof names what is gone shows nothing of the contract: it is NOT SHOWN,
+check names something of its own function: a goal that is not proved, or an error in the function's own proof. A second wrong body of a function stands
+in a copy of the function, under a name of its own, with a copy of its proof; where there can be none, as of a trait's method, the two are tried in two
+checks. One of which a check says only that the function's proof names what is gone shows nothing of the contract: it is NOT SHOWN,
 and fails as one does that is NOT REFUSED. It has to become another body, or one that a test refuses (`scripts/tested_bodies.py`).
 
 The libraries below a crate have to be built, in the crates' out/rlib, as `rt ci` leaves them. With --follow LOG, the output of an `rt ci` that
@@ -56,11 +57,17 @@ class Function:
         self.name = FUNCTION.match(lines[fn])[1] if is_within else ""
         while self.first > 0 and re.match(r" *(#\[|//)", lines[self.first - 1]):
             self.first -= 1
-        module = [it for it in file.removesuffix(".rt").split("/")[1:] if it not in ("lib", "main")]
-        block = next((it for it in reversed(lines[:fn]) if BLOCK.match(it)), "") if is_within and indent else ""
+        module = self.module = [it for it in file.removesuffix(".rt").split("/")[1:] if it not in ("lib", "main")]
+        above = next((i for i in range(fn, -1, -1) if BLOCK.match(lines[i])), None) if is_within and indent else None
+        block = "" if above is None else lines[above]
         head = IMPL.match(re.sub(r"<dyn (\w+)>", r"Dyn\1", block))
         # The type and the trait of a method, as a check joins them; nothing where they have parameters.
         self.owner = head[2][:1].upper() + head[2][1:] + (head[1] or "") if head else ""
+        # Whether a copy may stand beside it: it is no method of a trait, and doesn't call itself.
+        self.block = "\n".join([block, *(it for it in lines[above:fn] if it.startswith("    ghost use "))]) if head else ""
+        self.text = "\n".join(lines[self.first : self.last + 1])
+        is_alone = is_within and len(re.findall(rf"\b{self.name}(?:::<.*?>)?\(", self.text)) < 2
+        self.may_be_copied = is_alone and (not indent or head is not None and not head[1])
         # What --only takes: the end of the function's path, or the module.
         path = [self.owner, self.name] if head else [*module, self.name] if is_within and not indent else module
         self.path = "::".join(path)
@@ -87,6 +94,8 @@ class WrongBody:
 
     def __init__(self, crate, title):
         self.crate, self.title, self.tests, self.seconds, self.file, self.pairs = crate, title, "", "", "", []
+        # The number of the copy that it stands in, or 0 in place of what is right.
+        self.copy = 0
 
     def functions(self):
         """The functions that it changes."""
@@ -97,13 +106,35 @@ class WrongBody:
             found.append(Function(self.file, text.split("\n"), text[: text.index(old)].count("\n")))
         return found
 
-    def stand_in(self, folder):
-        """Replaces what is right in a copy of the crate."""
-        text = text_of(f"{folder}/{self.file}")
+    def changed(self, text):
+        """A text with what is wrong in place of what is right."""
         for old, new in self.pairs:
             text = text.replace(old, new)
+        return text
+
+    def stand_in(self, folder):
+        """Replaces what is right in a copy of the crate."""
+        text = self.changed(text_of(f"{folder}/{self.file}"))
         with open(f"{folder}/{self.file}", "w", encoding="utf-8") as file:
             file.write(text)
+
+    def stand_beside(self, folder):
+        """Adds to a copy of the crate a copy of its function that is wrong, with its proof, and returns it."""
+        function = self.functions()[0]
+        name = f"{function.name}_{self.copy}"
+        text = re.sub(rf"\bfn {function.name}\b", f"fn {name}", self.changed(function.text), count=1)
+        text = f"{function.block}\n{text}\n}}" if function.block else text
+        with open(f"{folder}/{self.file}", "a", encoding="utf-8") as file:
+            file.write(f"\n{text}\n")
+        path = [*function.module, *[function.owner] * (function.owner != ""), function.name]
+        proof = f"{folder}/proofs/{'/'.join(path)}"
+        for file in sorted(os.listdir(proof)) if os.path.isdir(proof) else []:
+            os.makedirs(f"{os.path.dirname(proof)}/{name}", exist_ok=True)
+            own = rf"(\bproofs\.{re.escape('.'.join(path))})\."
+            with open(f"{os.path.dirname(proof)}/{name}/{file}", "w", encoding="utf-8") as copy:
+                copy.write(re.sub(own, rf"\1_{self.copy}.", text_of(f"{proof}/{file}")))
+        lines = text_of(f"{folder}/{self.file}").split("\n")
+        return Function(self.file, lines, next(i for i, line in enumerate(lines) if f"fn {name}" in line))
 
 
 def listed(crate, name):
@@ -133,12 +164,16 @@ class Crate:
         self.name, self.libraries, self.folder = name, libraries, f"{TOP}/crates/{name}"
 
     def batches(self):
-        """Its wrong bodies, in lists of which none has two of one function."""
+        """Its wrong bodies, in lists of which none has two of one function, but in copies of it."""
         found = []
         for wrong in listed(self, "wrong_bodies"):
             functions = wrong.functions()
             fits = lambda taken: not any(one.may_be(other) for one in functions for other in taken)
             taken, batch = next((it for it in found if fits(it[0])), ([], []))
+            if found and batch is not found[0][1] and len({it.path for it in functions}) == 1 and functions[0].may_be_copied:
+                wrong.copy = len(found[0][1]) + 1
+                found[0][1].append(wrong)
+                continue
             if not batch:
                 found.append((taken, batch))
             taken += functions
@@ -168,17 +203,20 @@ class Crate:
         return [*words, "--links", f"{self.name}=", "--jobs", "1"]
 
     def checked_with(self, wrongs, crates, run, proved):
-        """What a check of the functions of these wrong bodies says of a copy in which they stand. What is proved is kept for the next."""
+        """What a check of the functions of these wrong bodies says of a copy in which they stand, and the functions of each. What is proved is kept for
+        the next."""
         with tempfile.TemporaryDirectory(prefix="wrong-bodies-") as room:
             for part in ("src", "specs", "proofs"):
                 if os.path.isdir(f"{self.folder}/{part}"):
                     shutil.copytree(f"{self.folder}/{part}", f"{room}/{part}")
             for wrong in wrongs:
-                wrong.stand_in(room)
-            paths = {it.path for wrong in wrongs for it in wrong.functions()}
+                if not wrong.copy:
+                    wrong.stand_in(room)
+            functions = [[wrong.stand_beside(room)] if wrong.copy else wrong.functions() for wrong in wrongs]
+            paths = {it.path for found in functions for it in found}
             only = [word for path in sorted(paths) for word in ("--only", path)] if "" not in paths else []
             how = {"stdin": subprocess.DEVNULL, "stdout": subprocess.PIPE, "stderr": subprocess.STDOUT, "errors": "replace"}
-            return subprocess.run([*self.words(crates, run), "--incremental", proved, *only], cwd=room, **how).stdout
+            return subprocess.run([*self.words(crates, run), "--incremental", proved, *only], cwd=room, **how).stdout, functions
 
     def tried(self, crates, run):
         """Each of its wrong bodies, with the least that is said of it: the kind of what refuses it and its text, or None."""
@@ -194,8 +232,8 @@ class Crate:
 
     def refusals_of(self, batch, crates, run, proved):
         """The same of those that are tried together."""
-        said = self.checked_with(batch, crates, run, proved)
-        named = [sorted(it for function in wrong.functions() for it in function.refusals(said)) if is_refusal(said) else [] for wrong in batch]
+        said, functions = self.checked_with(batch, crates, run, proved)
+        named = [sorted(it for function in found for it in function.refusals(said)) if is_refusal(said) else [] for found in functions]
         return [it[0] if it else None for it in named]
 
 
