@@ -19,13 +19,14 @@ lay_out "$top" "$folder"
 "$top/scripts/build_over.py" "$folder" bench_support bench || exit 1
 cd "$folder/crates/bench"
 
-# What one `encode` of a scene asks for, by a program that is linked with the counter of requests: of so many members, and lines a member.
+# What one `encode` of a scene asks for, by a program that is linked with the counter of requests: of so many members, and lines a member. It is the second
+# one of its program, so that the writer has its memory already.
 count_memory() {
     local before after most bytes
     link_counted out/bench.o "$folder/counted" || exit 1
-    REFUSE_COUNT="$folder/count" "$folder/counted" "$1" "$2" 0 >"$folder/bytes"
+    REFUSE_COUNT="$folder/count" "$folder/counted" "$1" "$2" 1 >"$folder/bytes"
     read -r before _ <"$folder/count"
-    REFUSE_COUNT="$folder/count" REFUSE_SINCE=$before "$folder/counted" "$1" "$2" 1 >"$folder/bytes"
+    REFUSE_COUNT="$folder/count" REFUSE_SINCE=$before "$folder/counted" "$1" "$2" 2 >"$folder/bytes"
     read -r after most _ <"$folder/count"
     bytes=$(<"$folder/bytes")
     awk -v n="$((after - before))" -v lines="$(($2 * $3))" -v most="$most" -v bytes="$bytes" -v of="$1 $2" \
