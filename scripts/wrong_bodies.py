@@ -1,7 +1,7 @@
 #!/usr/bin/env python3
 """Tries the wrong bodies of the crates, each of which the check must refuse.
 
-    scripts/wrong_bodies.py [--follow LOG] [CRATE..]        those of all crates, or of these
+    scripts/wrong_bodies.py [--follow LOG | --copies] [CRATE..]        those of all crates, or of these
 
 A crate lists its wrong bodies in must-fail/wrong_bodies.md: below a heading of its own, a line `file: src/FILE`, and pairs of lines
 `old: TEXT` and `new: TEXT`. Each old text stands in the file once.
@@ -10,7 +10,7 @@ Many wrong bodies are tried together: one check of a copy of the crate, in which
 A function is proved from its own body and from the contracts of what it calls; only functions that call one another have one proof. So a wrong body is refused where the
 check names something of its own function: a goal that is not proved, or an error in the function's own proof. A second wrong body of a function stands
 in a copy of the function, under a name of its own, with a copy of its proof; where there can be none, as of a trait's method, the two are tried in two
-checks. One of which a check says only that the function's proof names what is gone shows nothing of the contract: it is NOT SHOWN,
+checks. With --copies such copies are tried with what is right in them: each must be proved, since a copy that isn't shows nothing. One of which a check says only that the function's proof names what is gone shows nothing of the contract: it is NOT SHOWN,
 and fails as one does that is NOT REFUSED. It has to become another body, or one that a test refuses (`scripts/tested_bodies.py`).
 
 The libraries below a crate have to be built, in the crates' out/rlib, as `rt ci` leaves them. With --follow LOG, the output of an `rt ci` that
@@ -218,6 +218,23 @@ class Crate:
             how = {"stdin": subprocess.DEVNULL, "stdout": subprocess.PIPE, "stderr": subprocess.STDOUT, "errors": "replace"}
             return subprocess.run([*self.words(crates, run), "--incremental", proved, *only], cwd=room, **how).stdout, functions
 
+    def unproved_copies(self, crates, run):
+        """The functions that stand in copies, and those of them whose copy isn't proved where it has what is right."""
+        same = {}
+        for wrong in listed(self, "wrong_bodies"):
+            wrong.copy = 1
+            same.setdefault(wrong.functions()[0].path, wrong)
+        copied = {it.functions()[0].path for batch in self.batches() for it in batch if it.copy}
+        wrongs = [it for path, it in same.items() if path in copied]
+        for wrong in wrongs:
+            wrong.pairs = [[old, old] for old, _ in wrong.pairs]
+        if not wrongs:
+            return [], []
+        with tempfile.TemporaryDirectory(prefix="copies-kept-") as proved:
+            said, functions = self.checked_with(wrongs, crates, run, proved)
+        is_proved = lambda it: re.search(rf"^fn \S*\b{it.name}: proved$", said, re.M) is not None
+        return [it for it, in functions], [it for it, in functions if not is_proved(it)]
+
     def tried(self, crates, run):
         """Each of its wrong bodies, with the least that is said of it: the kind of what refuses it and its text, or None."""
         answers = []
@@ -303,12 +320,27 @@ def work(left, crates, run, waits, lock, counts):
                 print(f"wrong body of {crate.name}, {wrong.title}: {verdict}", flush=True)
 
 
+def said_of_copies(left, crates):
+    """Prints the copies that aren't proved, and then 'N proved, M not proved'."""
+    counts = [0, 0]
+    for crate in left:
+        copies, bad = crate.unproved_copies(crates, Run(None, None))
+        for it in bad:
+            print(f"copy of {crate.name}, {it.path}: NOT PROVED", flush=True)
+        counts = [counts[0] + len(copies) - len(bad), counts[1] + len(bad)]
+    print(f"{counts[0]} proved, {counts[1]} not proved")
+    return 1 if counts[1] else 0
+
+
 def main():
     words = argparse.ArgumentParser(usage=__doc__)
     words.add_argument("--follow")
+    words.add_argument("--copies", action="store_true")
     words.add_argument("crates", nargs="*")
     given, crates = words.parse_args(), crates_of()
     left = [it for name, it in crates.items() if (not given.crates or name in given.crates) and it.batches()]
+    if given.copies:
+        return said_of_copies(left, crates)
     lanes, lock, counts = len(os.sched_getaffinity(0)), threading.Lock(), {True: 0, False: 0}
     # On the crates' disk, since the libraries are linked there.
     with tempfile.TemporaryDirectory(prefix="rlibs-", dir=f"{TOP}/.git" if os.path.isdir(f"{TOP}/.git") else None) as room:

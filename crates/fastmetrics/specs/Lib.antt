@@ -9,6 +9,7 @@ pub use Rattle.fm_grammar.specs.Kinds
 pub use Rattle.fm_grammar.specs.Numbering
 pub use Rattle.fm_grammar.specs.Spelling
 pub use Rattle.fm_grammar.specs.Reading
+pub use Rattle.fm_text.specs.LabelPairs
 pub use Rattle.fm_exposition.specs.Samples
 pub use Rattle.fm_exposition.specs.Written
 pub use Rattle.fm_exposition.specs.Rows
@@ -72,5 +73,5 @@ pub use Rattle.fm_histogram.specs.Shared
 pub use Rattle.fm_tally.specs.Pieces
 pub use Rattle.fm_family.specs.Members
 pub use Rattle.fm_family.specs.MemberLends
-pub use Rattle.fm_root.specs.Paths
-pub use Rattle.fm_root.specs.Roots
+pub use Rattle.fm_registry_at.specs.Paths
+pub use Rattle.fm_registry_at.specs.Roots

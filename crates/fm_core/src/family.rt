@@ -7,7 +7,7 @@ ghost use Rattle.fm_grammar.specs.Reading.{IsNewName};
 ghost use Rattle.fm_grammar.specs.WellFormed.{IsSample, IsFamily};
 ghost use Rattle.fm_raw.specs.Units.{unit_text};
 ghost use Rattle.fm_encode_error.specs.declared.EncodeError.{EncodeError};
-ghost use Rattle.fm_exposition.specs.Samples.{labels_of};
+ghost use Rattle.fm_text.specs.LabelPairs.{labels_of};
 ghost use Rattle.fm_registry_model.specs.Texts.{printed_name};
 ghost use Rattle.fm_registry_model.specs.Registration.{printed_unit};
 ghost use Rattle.fm_registry_model.specs.Listing.{listed_name, IsListable};
@@ -22,7 +22,6 @@ use crate::taking::take_family;
 use fm_encode_error::EncodeError;
 use fm_encoder::{EncodeMetric, FirstRefusal, MetricEncoder, collector};
 use fm_exposition::{Exposition, FamilySamples, SampleStore, make};
-use fm_labels::keep;
 use fm_raw::{Metadata, Unit};
 use std::alloc::{AllocError, Global};
 use std::marker::Model;
@@ -182,7 +181,7 @@ pub struct MetricFamilyEncoder<'a> {
 
 impl<'a> Model for MetricFamilyEncoder<'a> {
     ghost use Rattle.std.specs.Option.{option_copied};
-    ghost use Rattle.fm_exposition.specs.Samples.{labels_of};
+    ghost use Rattle.fm_text.specs.LabelPairs.{labels_of};
     ghost use Rattle.fm_core.specs.Families.{GatheredFamilies};
     ghost use Rattle.fm_core.specs.inside.Collecting.{IsCollecting};
 
@@ -254,7 +253,10 @@ impl<'a> MetricFamilyEncoder<'a> {
             metadata,
             metric,
         ) {
-            Ok(family) => keep!(self.refused, self.families.push(family)),
+            Ok(family) => match self.families.push(family) {
+                Ok(()) => Ok(()),
+                Err(_) => self.refused.refuse(EncodeError::Memory),
+            },
             Err(error) => self.refused.refuse(error),
         }
     }

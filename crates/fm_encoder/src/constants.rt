@@ -1,7 +1,7 @@
 // The constant labels of a family.
 ghost use Rattle.std.specs.Prelude.{◌≡◌, ◌⊎◌, ◌++◌, [], None, OnOk, OnErr, IfOk, IfErr, IfSome, MatchResult};
 ghost use Rattle.fm_encode_error.specs.declared.EncodeError.{EncodeError};
-ghost use Rattle.fm_exposition.specs.Samples.{labels_of};
+ghost use Rattle.fm_text.specs.LabelPairs.{labels_of};
 ghost use Rattle.fm_labels.specs.Labels.{LabelsValid, LabelsFault, all_written, emitted_again};
 ghost use Rattle.fm_labels.specs.Refusals.{OwnRefusal, NoFault};
 ghost use Rattle.fm_labels.specs.WrittenLabels.{AreWritten};

@@ -188,7 +188,7 @@ impl PointEncoder {
           exemplar = option_map exemplar_of exemplar;
         }) self.old self.new) self.new.refused result }
     {
-        let sample = NewSample {
+        let mut sample = NewSample {
             kind,
             common: self.labels.text(),
             own,
@@ -198,7 +198,7 @@ impl PointEncoder {
         };
         keep!(
             self.refused,
-            self.sink.push(self.name.as_str(), sample, None)
+            self.sink.push(self.name.as_str(), &mut sample, None)
         )
     }
 
@@ -220,7 +220,7 @@ impl PointEncoder {
           exemplar = option_map exemplar_of exemplar;
         }) self.old self.new) self.new.refused result }
     {
-        let sample = NewSample {
+        let mut sample = NewSample {
             kind,
             common: self.labels.text(),
             own: &self.none,
@@ -230,7 +230,7 @@ impl PointEncoder {
         };
         keep!(
             self.refused,
-            self.sink.push(self.name.as_str(), sample, None)
+            self.sink.push(self.name.as_str(), &mut sample, None)
         )
     }
 

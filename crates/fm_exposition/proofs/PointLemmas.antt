@@ -10,7 +10,8 @@ use Rattle.fm_grammar.specs.Exposition.{Label}
 use Rattle.fm_grammar.proofs.Runs.{all_append}
 use Rattle.fm_exposition.specs.declared.exposition.Sample.{Sample}
 use Rattle.fm_exposition.specs.Samples.{common_labels, own_labels, sample_of, samples_of}
-use Rattle.fm_exposition.specs.inside.Points.{HaveInCommon, AreInPoints, EndsInPoint, IsCut, AreUtf8Labels, HaveUtf8Labels}
+use Rattle.fm_text.specs.inside.LabelLists.{AreUtf8Labels}
+use Rattle.fm_exposition.specs.inside.Points.{HaveInCommon, AreInPoints, EndsInPoint, IsCut, HaveUtf8Labels}
 
 -- a sample's common labels are those that it shares
 pub common_at : (common : List Label) (samples : List Sample) (i : ℕ) (sample : Sample) → i < length samples → sample ≡ get_or samples i sample → HaveInCommon common samples → common_labels sample ≡ common

@@ -1,29 +1,17 @@
--- How contracts see labels, values, exemplars and samples.
+-- How contracts see values, exemplars and samples.
 use Rattle.std.specs.Prelude.{List, ◌++◌, map}
 use Rattle.std.specs.Arc.{arc_value}
 use Rattle.std.specs.Option.{option_map}
-use Rattle.std.specs.String.{string_bytes}
 use Rattle.std.specs.Borrow.{Bor}
-use Rattle.std.specs.declared.string.String.{String}
 use Rattle.std.specs.declared.alloc.Global.{Global}
 use Rattle.std.specs.declared.sync.Arc.{Arc}
 use Rattle.fm_grammar.specs.Exposition as grammar
-use Rattle.fm_grammar.specs.Exposition.{Text, Label}
+use Rattle.fm_grammar.specs.Exposition.{Label}
+use Rattle.fm_text.specs.LabelPairs.{labels_of}
 use Rattle.fm_exposition.specs.declared.exposition.Value.{Value}
 use Rattle.fm_exposition.specs.declared.exposition.Value.TheVariants.{Whole, Fixed, Millis}
 use Rattle.fm_exposition.specs.declared.exposition.Exemplar.{Exemplar}
 use Rattle.fm_exposition.specs.declared.exposition.Sample.{Sample}
-
--- a label kept as two strings
-abbrev pub label_of : String Global × String Global → Label
-label_of pair = record { name = string_bytes pair.0; value = string_bytes pair.1 }
-
-abbrev pub labels_of : List (String Global × String Global) → List Label
-labels_of pairs = map label_of pairs
-
--- a label borrowed as two texts
-abbrev pub shown_label : Bor Text × Bor Text → Label
-shown_label pair = record { name = pair.0.now; value = pair.1.now }
 
 abbrev pub value_of : Value → grammar.Value
 value_of (Whole z) = grammar.Whole z

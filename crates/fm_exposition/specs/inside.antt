@@ -1,5 +1,4 @@
 -- What public contracts don't cite: views, stored forms, laws, and the words of private functions.
-pub mod LabelLists
 pub mod Points
 pub mod Families
 pub mod SameLaws

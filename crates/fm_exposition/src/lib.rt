@@ -4,13 +4,11 @@
 pub mod code_points;
 mod equality;
 pub mod exposition;
-pub mod label_list;
 pub mod make;
 pub mod parts;
 pub mod store;
 mod writing;
 
 pub use exposition::{CommonLabels, Exemplar, Exposition, FamilySamples, Sample, Value};
-pub use label_list::LabelList;
 pub use store::SampleStore;
 pub use writing::write_text;

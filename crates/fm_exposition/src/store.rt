@@ -5,8 +5,8 @@ ghost use Rattle.fm_exposition.specs.inside.Points.{AreInPoints, HaveUtf8Labels}
 ghost use Rattle.fm_exposition.specs.Samples.{shared_labels, value_of, exemplar_of, samples_of};
 
 use crate::exposition::{CommonLabels, Exemplar, Sample, Value};
-use crate::label_list::LabelList;
 use fm_grammar::SampleKind;
+use fm_text::LabelList;
 use std::alloc::{AllocError, Global};
 use std::marker::Model;
 use std::mem;

@@ -58,13 +58,13 @@ pub fn own_refusal(error: EncodeError) -> EncodeError
     }
 }
 
-/// What a call returned that takes memory: if it failed, an encoder refuses with `Memory`.
+/// What a call returned that can only fail for want of memory: if it failed, an encoder refuses with `Memory`.
 #[macro_export]
 macro_rules! keep {
     ($refused:expr, $returned:expr) => {
         match $returned {
             Ok(value) => Ok(value),
-            Err(_) => $refused.refuse(EncodeError::Memory),
+            Err(std::alloc::AllocError) => $refused.refuse(EncodeError::Memory),
         }
     };
 }

@@ -1,6 +1,6 @@
 // Labels that are gathered after other labels.
 ghost use Rattle.std.specs.Prelude.{◌≡◌, ◌⊎◌, ◌++◌, [], ◌∷◌, None, OnOk, MatchResult, ◌≤◌, length, drop, map, IfOk};
-ghost use Rattle.fm_exposition.specs.Samples.{shown_label};
+ghost use Rattle.fm_text.specs.LabelPairs.{shown_label};
 ghost use Rattle.fm_labels.specs.Labels.{LabelsValid, LabelsFault, all_written};
 ghost use Rattle.fm_labels.specs.Refusals.{OwnRefusal};
 

@@ -1,4 +1,4 @@
--- Runs of bytes that are written as they are, seen a vector at a time through the mask of the others.
+-- Runs of bytes that are written as they are.
 use Rattle.std.proofs.Common.{◌≡◌, ℕ, suc, ◌+◌, ◌%◌, ◌^◌, ◌<◌, ◌≤◌, Bool, true, false, not, cond, ◌==◌, ◌||◌, List, [], ◌∷◌, ◌++◌, map, length, get_or, take, drop, replicate, bit_or, ⊎_elim, refl, sym, subst, ap, ap₂, ◌∙◌, arith}
 use Rattle.std.proofs.lemmas.Bool.{or_parts, eqb-true, cases_lt, true≢false}
 use Rattle.std.proofs.lemmas.Simd.{zip2_splat, zip2_of_maps, map-map, mask_l-mod}
@@ -9,51 +9,10 @@ use Rattle.std.specs.List.{prefix_len}
 use lib.Lanes.{mask_l, zip2, top}
 use Rattle.fm_grammar.specs.Exposition.{Text}
 use Rattle.fm_grammar.specs.Spelling.{escape, escaped}
-use Rattle.fm_reader.specs.inside.Plain.{is_special, is_plain}
+use Rattle.fm_text.specs.inside.Plain.{is_special}
+use Rattle.fm_text.proofs.PlainLemmas.{as_it_is}
+use Rattle.fm_reader.specs.inside.Plain.{is_plain}
 use Rattle.fm_reader.proofs.Runs.{run_end}
-
--- the mask of a vector, as the code makes it
-
-abbrev hit : ℕ → ℕ → ℕ
-hit a b = cond (a == b) 255 0
-
-abbrev lane : ℕ → ℕ
-lane x = bit_or (bit_or (hit x 10) (hit x 34)) (hit x 92)
-
-abbrev lanes : List ℕ → ℕ → List ℕ
-lanes v n = zip2 bit_or (zip2 bit_or (zip2 hit v (replicate n 10)) (zip2 hit v (replicate n 34))) (zip2 hit v (replicate n 92))
-
-one_lane : (a b c : Bool) → top 7 (bit_or (bit_or (cond a 255 0) (cond b 255 0)) (cond c 255 0)) ≡ (a || b) || c
-one_lane true true true = refl
-one_lane true true false = refl
-one_lane true false true = refl
-one_lane true false false = refl
-one_lane false true true = refl
-one_lane false true false = refl
-one_lane false false true = refl
-one_lane false false false = refl
-
-lanes_are : (v : List ℕ) (n : ℕ) → length v ≡ n → lanes v n ≡ map lane v
-lanes_are v n long =
-    zip2_of_maps bit_or (λ x. bit_or (hit x 10) (hit x 34)) (λ x. hit x 92) v
-    (zip2_of_maps bit_or (λ x. hit x 10) (λ x. hit x 34) v (zip2_splat hit v n 10 long) (zip2_splat hit v n 34 long))
-    (zip2_splat hit v n 92 long)
-
-pub mask_is : (v : List ℕ) (n : ℕ) → length v ≡ n → n ≤ 64 → mask_l (map (top 7) (lanes v n)) % 2 ^ 64 ≡ mask_l (map is_special v)
-mask_is v n long few =
-    ap (λ l. mask_l (map (top 7) l) % 2 ^ 64) (lanes_are v n long)
-    ∙ ap (λ l. mask_l l % 2 ^ 64) (map-map (top 7) lane v)
-    ∙ (λ i. mask_l (map (λ x. one_lane (x == 10) (x == 34) (x == 92) i) v) % 2 ^ 64)
-    ∙ mask_l-mod (map is_special v) 64 (omega (arith, length-map v is_special))
-
--- what the run is for
-
-as_it_is : (x : ℕ) → is_special x ≡ false → escape x ≡ x ∷ []
-unfolding escape
-as_it_is x none =
-    let last = or_parts ((x == 10) || (x == 34)) (x == 92) none in
-    let first = or_parts (x == 10) (x == 34) last.0 in
-    rw (first.0, first.1, last.1) refl
 
 one_more : (x : ℕ) (text : Text) (n m : ℕ) → m ≡ suc n → escape x ≡ x ∷ [] → escaped (take n text) ≡ take n text → escaped (take m (x ∷ text)) ≡ take m (x ∷ text)
 one_more x text n m e plain rest = subst (λ k. escaped (take k (x ∷ text)) ≡ take k (x ∷ text)) (sym e) (ap (λ z. escape x ++ z) rest ∙ ap (λ z. z ++ take n text) plain)

@@ -3,7 +3,7 @@ use Rattle.std.proofs.Common.{◌≡◌, ℕ, ◌+◌, ◌<◌, List, [], ◌∷
 use Rattle.std.specs.Option.{option_copied}
 use Rattle.std.proofs.lemmas.List.{take_more, map-append}
 use Rattle.std.proofs.lemmas.Option.{get_or_from_slice_get, slice_get_within}
-use Rattle.fm_exposition.specs.Samples.{labels_of}
+use Rattle.fm_text.specs.LabelPairs.{labels_of}
 use Rattle.fm_registry.specs.View.{seen_metric}
 use Rattle.fm_registry.specs.inside.TreeView.{seen_metrics, forest_of}
 use Rattle.fm_registry_model.specs.Listing.{Listed, listed_with, own_metrics, listed_forest, listed_tree}

@@ -1,7 +1,7 @@
 -- How contracts see the list of a tree's metrics.
 use Rattle.std.specs.Prelude.{List, map}
 use Rattle.std.specs.Option.{option_copied}
-use Rattle.fm_exposition.specs.Samples.{labels_of}
+use Rattle.fm_text.specs.LabelPairs.{labels_of}
 use Rattle.fm_registry_model.specs.Listing.{Listed}
 use Rattle.fm_registry.specs.View.{seen_metric}
 use Rattle.fm_registry.specs.declared.listed.ListedMetric.{ListedMetric}

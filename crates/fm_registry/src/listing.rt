@@ -1,7 +1,7 @@
 //! The metrics of a tree, in the order of the exposition.
 ghost use Rattle.std.specs.Prelude.{◌≡◌, ◌++◌, OnOk};
 ghost use Rattle.std.specs.Option.{option_copied};
-ghost use Rattle.fm_exposition.specs.Samples.{labels_of};
+ghost use Rattle.fm_text.specs.LabelPairs.{labels_of};
 ghost use Rattle.fm_registry_model.specs.Listing.{listed_with};
 ghost use Rattle.fm_registry.specs.inside.TreeView.{seen_metrics};
 ghost use Rattle.fm_registry.specs.Seen.{seen_list};

@@ -2,7 +2,7 @@
 ghost use Rattle.std.specs.Prelude.{◌≡◌, ◌⊎◌, [], None, Some, Err, OnOk, IfOk, IfErr, map, string_bytes};
 ghost use Rattle.std.specs.Option.{option_map};
 ghost use Rattle.std.specs.Io.KnownBytes.{Keeps};
-ghost use Rattle.fm_exposition.specs.Samples.{shown_label};
+ghost use Rattle.fm_text.specs.LabelPairs.{shown_label};
 ghost use Rattle.fm_exposition.specs.Written.{IsWritersFault};
 ghost use Rattle.fm_encode_error.specs.declared.EncodeError.{EncodeError};
 ghost use Rattle.fm_registry_model.specs.declared.RegistryError.TheVariants.{Memory};
@@ -14,17 +14,17 @@ ghost use Rattle.fm_core.specs.Admits.{AdmittedBy, Fault};
 ghost use Rattle.fm_core.specs.Encoded.{WritesAdmitted, BeginsAdmitted};
 ghost use Rattle.fm_registry.specs.Named.{named_metric};
 ghost use Rattle.fm_metric_kinds.specs.declared.Metric.TheVariants.{Own};
-ghost use Rattle.fm_root.specs.Roots.{AddsOrNot, AddsClone, Makes, Enters};
+ghost use Rattle.fm_registry_at.specs.Roots.{AddsOrNot, AddsClone, Makes, Enters};
 
 mod families;
 mod metrics;
 
-use crate::at::RegistryAt;
 use fm_core::format::text::{EncodeError, Exposition, collect, encode};
 use fm_encoder::EncodeMetric;
 use fm_metric_kinds::{Metric, Number};
 use fm_raw::{TryDefault, Unit};
 use fm_registry::{RegistryBuilder, RegistryError};
+use fm_registry_at::RegistryAt;
 use std::alloc::Global;
 use std::io::Write;
 use std::sync::Wait;

@@ -2,7 +2,8 @@
 //! lie, what `Debug` shows, and laws.
 #![tactic(auto)]
 
-pub mod cases;
+#[cfg(test)]
+mod cases;
 #[cfg(test)]
 mod clones;
 #[cfg(test)]
@@ -27,7 +28,8 @@ mod sources;
 mod states;
 #[cfg(test)]
 mod steps;
-pub mod support;
+#[cfg(test)]
+mod support;
 #[cfg(test)]
 mod threads;
 #[cfg(test)]

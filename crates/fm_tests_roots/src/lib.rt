@@ -16,9 +16,8 @@ mod refused;
 #[cfg(test)]
 mod refused_paths;
 #[cfg(test)]
-mod served;
-#[cfg(test)]
 mod single;
 #[cfg(test)]
 mod subsystems;
-pub mod support;
+#[cfg(test)]
+mod support;

@@ -4,9 +4,10 @@ ghost use Rattle.fm_grammar.specs.WellFormed.{AreLabels, IsSample};
 ghost use Rattle.fm_grammar.specs.declared.MetricType.TheVariants.{Counter};
 
 use fm_encode_error::EncodeError;
-use fm_exposition::{Exposition, LabelList, SampleStore, Value, make};
+use fm_exposition::{Exposition, SampleStore, Value, make};
 use fm_grammar::{MetricType, SampleKind};
 use fm_raw::fixed::Fixed;
+use fm_text::LabelList;
 use fm_writer::encode_exposition;
 use std::alloc::{AllocError, Global};
 use std::io::{self, ErrorKind, Write};

@@ -6,9 +6,8 @@ use Rattle.std.specs.List.{flat_map}
 use Rattle.std.proofs.Math.ListN.{drop_of_length-le, get_or-map}
 use Rattle.fm_grammar.specs.Exposition.{Text, Label}
 use Rattle.fm_grammar.specs.Spelling.{label_text, label_list_text, label_block_text, in_braces}
-use Rattle.fm_exposition.specs.inside.DocumentRows.{further_labels}
-use Rattle.fm_exposition.proofs.RowLemmas.{label_list_is, list_joined, list_back}
-use Rattle.fm_text.specs.inside.LabelTexts.{list_before}
+use Rattle.fm_text.specs.inside.LabelTexts.{further_labels, list_before}
+use Rattle.fm_text.proofs.ListLemmas.{label_list_is, list_joined, list_back}
 use Rattle.fm_text.specs.inside.Grown.{Grown, Grows, IsLeft, IsLeftOf, size_of}
 
 pub grown_then : (a b c : Text → Type 0) (first second : Text) → Grows a b first → Grows b c second → Grows a c (first ++ second)

@@ -11,12 +11,11 @@ use Rattle.std.proofs.lemmas.Bool.Decides.{nat_tests}
 use Rattle.std.specs.Option.{option_map}
 use Rattle.fm_grammar.specs.Exposition.{Text, Label}
 use Rattle.fm_grammar.specs.Spelling.{escaped, label_text, label_list_text}
-use Rattle.fm_exposition.proofs.RowLemmas.{list_joined}
+use Rattle.fm_text.proofs.ListLemmas.{list_joined}
 use Rattle.fm_text.specs.inside.Grown.{Grown}
 use Rattle.fm_text.specs.declared.spans.Part.{Part}
 use Rattle.fm_text.specs.declared.spans.LabelSpan.{LabelSpan}
-use Rattle.fm_text.specs.inside.LabelTexts.{list_before}
-use Rattle.fm_text.specs.inside.LabelTexts.{part_in, label_in, labels_in, names_in, IsPart, IsSpan, AreParts, AreWithin, IsListed, AreListed, name_in_list, LabelsState, whole_label, whole_span}
+use Rattle.fm_text.specs.inside.LabelTexts.{list_before, part_in, label_in, labels_in, names_in, IsPart, IsSpan, AreParts, AreWithin, IsListed, AreListed, name_in_list, LabelsState, whole_label, whole_span}
 
 -- a part of a text is the same part of a longer one
 same_between : (text more : Text) (i j : ℕ) → j ≤ length text → between i j (text ++ more) ≡ between i j text

@@ -7,19 +7,16 @@ use Rattle.std.specs.Bool.{OnTrue}
 use lib.Lanes.{chunk, mask_l, zip2, top}
 use Rattle.fm_grammar.specs.Exposition.{Text}
 use Rattle.fm_grammar.specs.Spelling.{escape, escaped}
-use Rattle.fm_text.specs.inside.Plain.{IsPlainBetween}
+use Rattle.fm_text.specs.inside.Plain.{is_special, IsPlainBetween}
 
 -- a lane of the comparison of two vectors
-abbrev hit : ℕ → ℕ → ℕ
+abbrev pub hit : ℕ → ℕ → ℕ
 hit a b = cond (a == b) 255 0
 
-abbrev has_escape : ℕ → Bool
-has_escape x = ((x == 10) || (x == 34)) || (x == 92)
-
-abbrev lane : ℕ → ℕ
+abbrev pub lane : ℕ → ℕ
 lane x = bit_or (bit_or (hit x 10) (hit x 34)) (hit x 92)
 
-abbrev lanes : List ℕ → ℕ → List ℕ
+abbrev pub lanes : List ℕ → ℕ → List ℕ
 lanes v n = zip2 bit_or (zip2 bit_or (zip2 hit v (replicate n 10)) (zip2 hit v (replicate n 34))) (zip2 hit v (replicate n 92))
 
 one_lane : (a b c : Bool) → top 7 (bit_or (bit_or (cond a 255 0) (cond b 255 0)) (cond c 255 0)) ≡ (a || b) || c
@@ -38,14 +35,14 @@ lanes_are v n long =
     (zip2_of_maps bit_or (λ x. hit x 10) (λ x. hit x 34) v (zip2_splat hit v n 10 long) (zip2_splat hit v n 34 long))
     (zip2_splat hit v n 92 long)
 
-mask_is : (v : List ℕ) (n : ℕ) → length v ≡ n → n ≤ 64 → mask_l (map (top 7) (lanes v n)) % 2 ^ 64 ≡ mask_l (map has_escape v)
+pub mask_is : (v : List ℕ) (n : ℕ) → length v ≡ n → n ≤ 64 → mask_l (map (top 7) (lanes v n)) % 2 ^ 64 ≡ mask_l (map is_special v)
 mask_is v n long few =
     ap (λ l. mask_l (map (top 7) l) % 2 ^ 64) (lanes_are v n long)
     ∙ ap (λ l. mask_l l % 2 ^ 64) (map-map (top 7) lane v)
     ∙ (λ i. mask_l (map (λ x. one_lane (x == 10) (x == 34) (x == 92) i) v) % 2 ^ 64)
-    ∙ mask_l-mod (map has_escape v) 64 (omega (arith, length-map v has_escape))
+    ∙ mask_l-mod (map is_special v) 64 (omega (arith, length-map v is_special))
 
-as_it_is : (x : ℕ) → has_escape x ≡ false → escape x ≡ x ∷ []
+pub as_it_is : (x : ℕ) → is_special x ≡ false → escape x ≡ x ∷ []
 unfolding escape
 as_it_is x none =
     let last = or_parts ((x == 10) || (x == 34)) (x == 92) none in
@@ -61,7 +58,7 @@ pub plain_from_lanes : (text : Text) (at n : ℕ) → at + n ≤ length text →
 plain_from_lanes text at n room few =
     let masked = mask_is (chunk at n text) n (length-chunk at n text room) few in
     let plain : mask_l (map (top 7) (lanes (chunk at n text) n)) % 2 ^ 64 == 0 ≡ true → IsPlainBetween text at (at + n) =
-    λ e k p q. as_it_is (get_or text k 0) (none_from_empty_mask has_escape text at n 0 room (sym masked ∙ eqb-true _ 0 e) k p q) in
+    λ e k p q. as_it_is (get_or text k 0) (none_from_empty_mask is_special text at n 0 room (sym masked ∙ eqb-true _ 0 e) k p q) in
     on_true _ _ plain
 
 whole_as_it_is : (text : Text) → IsPlainBetween text 0 (length text) → escaped text ≡ text

@@ -15,6 +15,9 @@ use std::mem;
 // How many bytes a block has room for, but for the first one, which grows up to this.
 const BLOCK: usize = 65_536;
 
+// How many bytes the first block has room for at first.
+const FIRST_ROOM: usize = 4_096;
+
 // From how many bytes on a block is full. The line that is appended last mostly fits into what is left.
 const FULL: usize = 64_512;
 
@@ -67,6 +70,16 @@ impl TextBlocks {
             write_text(writer, block.as_slice())?;
         }
         write_text(writer, self.last.as_slice())
+    }
+
+    // Takes room for the first lines of a text at once. Fails if memory runs out. The text stays as it is.
+    pub(crate) fn begin(&mut self) -> Result<(), AllocError>
+        ensures { self.new ≡ self.old }
+    {
+        if self.full.is_empty() && self.last.as_slice().is_empty() {
+            self.last = GrowingText::with_capacity(self.alloc, FIRST_ROOM)?;
+        }
+        Ok(())
     }
 
     // Begins another block if the last one is full. Fails if memory runs out. The text stays as it is.

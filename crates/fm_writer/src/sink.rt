@@ -1,7 +1,8 @@
 //! Where encoders put the samples of a family.
 ghost use Rattle.std.specs.Prelude.{◌≡◌, ◌++◌, None, Some, [], ◌∷◌, map, OnOk, OnErr, IfOk, IfSome, IsSome};
 ghost use Rattle.fm_exposition.specs.Rows.{head_rows};
-ghost use Rattle.fm_exposition.specs.Samples.{labels_of, shared_labels, shown_label};
+ghost use Rattle.fm_text.specs.LabelPairs.{labels_of, shown_label};
+ghost use Rattle.fm_exposition.specs.Samples.{shared_labels};
 ghost use Rattle.fm_text.specs.inside.Grown.{Grown};
 ghost use Rattle.fm_writer.specs.Heads.{headed};
 ghost use Rattle.fm_writer.specs.NewSamples.{new_sample, IsFrontOf};
@@ -12,8 +13,8 @@ use crate::front::append_row_after;
 use crate::heads::{FamilyHead, append_heads};
 use crate::new_sample::NewSample;
 use crate::rendering::{Reading, append_sample_row};
-use fm_exposition::{CommonLabels, LabelList, SampleStore};
-use fm_text::{GrowingText, LabelText};
+use fm_exposition::{CommonLabels, SampleStore};
+use fm_text::{GrowingText, LabelList, LabelText};
 use std::alloc::{AllocError, Global};
 use std::marker::Model;
 use std::sync::Arc;
@@ -34,14 +35,19 @@ fn shared(alloc: Global, labels: &LabelText) -> Result<CommonLabels, AllocError>
 }
 
 // Adds a sample to a store, whose next samples have its common labels.
-fn keep(alloc: Global, store: &mut SampleStore, sample: NewSample<'_>) -> Result<(), AllocError>
-    requires { store.old.common ≡ sample.common.now.labels }
+fn keep(
+    alloc: Global,
+    store: &mut SampleStore,
+    sample: &mut NewSample<'_>,
+) -> Result<(), AllocError>
+    requires { store.old.common ≡ sample.old.common.now.labels }
     ensures common { store.new.common ≡ store.old.common }
     ensures samples { OnOk result
-        (store.new.samples ≡ store.old.samples ++ new_sample sample.entry ∷ []) }
+        (store.new.samples ≡ store.old.samples ++ new_sample sample.old ∷ []) }
 {
     let own = sample.own.to_list(alloc)?;
-    store.push(sample.kind, own, sample.value, sample.time, sample.exemplar)
+    let exemplar = sample.exemplar.take();
+    store.push(sample.kind, own, sample.value, sample.time, exemplar)
 }
 
 // Appends the lines of a family that come before its samples, to a text in blocks.
@@ -52,6 +58,7 @@ fn append_heads_in_blocks(
 ) -> Result<(), AllocError>
     ensures { OnOk result (Grown blocks.old blocks.new (head_rows (headed name.now head.entry))) }
 {
+    blocks.begin()?;
     append_heads(&mut blocks.last, name, head)?;
     blocks.settle()
 }
@@ -163,24 +170,24 @@ impl Sink {
         }
     }
 
-    /// Takes a sample of the family with this printed name. Samples that are kept share one copy of their common labels, until others
-    /// come after `unshare`. The front of the sample's line may have been rendered before: samples of one kind with the same common
-    /// labels share it. A sink that keeps samples ignores it.
+    /// Takes a sample of the family with this printed name. One that is kept loses its exemplar to the sink. Samples that are kept share
+    /// one copy of their common labels, until others come after `unshare`. The front of the sample's line may have been rendered before:
+    /// samples of one kind with the same common labels share it. A sink that keeps samples ignores it.
     ///
     /// Fails if memory runs out; then the text may end in a part of a line.
     pub fn push(
         &mut self,
         name: &str,
-        sample: NewSample<'_>,
+        sample: &mut NewSample<'_>,
         front: Option<&GrowingText>,
     ) -> Result<(), AllocError>
-        requires shared { AreShared sample.common.now.labels self.old.shared }
-        requires front { IfSome front (λ f. IsFrontOf sample name.now f.now) }
-        ensures shared { AreShared sample.entry.common.now.labels self.new.shared }
+        requires shared { AreShared sample.old.common.now.labels self.old.shared }
+        requires front { IfSome front (λ f. IsFrontOf sample.old name.now f.now) }
+        ensures shared { AreShared sample.old.common.now.labels self.new.shared }
         ensures one_copy { OnOk result
-            (self.new.shared ≡ shared_by self.old.output sample.entry.common.now.labels) }
+            (self.new.shared ≡ shared_by self.old.output sample.old.common.now.labels) }
         ensures pushed { OnOk result
-            (self.new.output ≡ appended name.now self.old.output (new_sample sample.entry ∷ [])) }
+            (self.new.output ≡ appended name.now self.old.output (new_sample sample.old ∷ [])) }
     {
         match &mut self.form {
             Form::Samples(store, true) => keep(self.alloc, store, sample),
@@ -191,7 +198,7 @@ impl Sink {
                 *are_shared = true;
                 keep(self.alloc, store, sample)
             }
-            Form::Text(text) => append_row_in_blocks(text, name, &sample, front),
+            Form::Text(text) => append_row_in_blocks(text, name, sample, front),
         }
     }
 

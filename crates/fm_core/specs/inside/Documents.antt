@@ -6,7 +6,7 @@ use Rattle.fm_grammar.specs.Exposition.{Text, Family, Exposition}
 use Rattle.fm_grammar.specs.WellFormed.{IsFamily}
 use Rattle.fm_grammar.specs.Reading.{IsExposition}
 use Rattle.fm_exposition.specs.Rows.{head_rows}
-use Rattle.fm_exposition.specs.Samples.{labels_of}
+use Rattle.fm_text.specs.LabelPairs.{labels_of}
 use Rattle.fm_exposition.specs.inside.DocumentRows.{family_rows, families_rows}
 use Rattle.fm_raw.specs.declared.metadata.Metadata.{Metadata}
 use Rattle.fm_raw.specs.Units.{seen_unit}

@@ -190,7 +190,7 @@ impl PointEncoder {
         let Ok(own) = label_of_bucket(self.alloc, &mut self.bounds, index, bucket) else {
             return self.refused.refuse(EncodeError::Memory);
         };
-        let sample = NewSample {
+        let mut sample = NewSample {
             kind: SampleKind::Bucket,
             common: self.labels.text(),
             own,
@@ -200,7 +200,7 @@ impl PointEncoder {
         };
         keep!(
             self.refused,
-            self.sink.push(self.name.as_str(), sample, Some(front))
+            self.sink.push(self.name.as_str(), &mut sample, Some(front))
         )
     }
 }

@@ -1,16 +1,8 @@
--- The lines of a whole document, and labels that follow others, as loops write them.
+-- The lines of a whole document, as loops write them.
 use Rattle.std.specs.Prelude.{List, ◌++◌, codes}
 use Rattle.std.specs.List.{flat_map}
-use Rattle.fm_grammar.specs.Exposition.{Text, Label, Family, Exposition}
-use Rattle.fm_grammar.specs.Spelling.{label_text}
+use Rattle.fm_grammar.specs.Exposition.{Text, Family, Exposition}
 use Rattle.fm_exposition.specs.Rows.{sample_rows, head_rows}
-
--- a label after a comma
-abbrev pub further_label : Label → Text
-further_label label = codes "," ++ label_text label
-
-abbrev pub further_labels : List Label → Text
-further_labels labels = flat_map further_label labels
 
 abbrev pub family_rows : Family → Text
 family_rows family = head_rows family ++ sample_rows family.name family.samples

@@ -1,10 +1,10 @@
 -- How samples form points.
 use Rattle.std.specs.Prelude.{◌≡◌, ◌≤◌, ℕ, List, [], ◌∷◌, ◌++◌, length, take, drop, Bool, true}
 use Rattle.std.specs.List.{AllByRecursion}
-use Rattle.std.specs.Str.{IsUtf8}
 use Rattle.fm_grammar.specs.Exposition as grammar
 use Rattle.fm_grammar.specs.Exposition.{Label}
 use Rattle.fm_exposition.specs.declared.exposition.Sample.{Sample}
+use Rattle.fm_text.specs.inside.LabelLists.{AreUtf8Labels}
 use Rattle.fm_exposition.specs.Samples.{common_labels, own_labels}
 
 -- the samples have one list of common labels
@@ -31,10 +31,6 @@ pub record EndsInPoint (common : List Label) (counts : List ℕ) (samples : List
 pub record IsCut (common : List Label) (is_under_way : Bool) (counts : List ℕ) (samples : List Sample) : Type 0 where
   pub points : AreInPoints counts samples
   pub under_way : is_under_way ≡ true → EndsInPoint common counts samples
-
--- the values of labels are valid UTF-8
-abbrev pub AreUtf8Labels : List Label → Type 0
-AreUtf8Labels labels = AllByRecursion (λ label. IsUtf8 label.value) labels
 
 abbrev pub HaveUtf8Labels : List Sample → Type 0
 HaveUtf8Labels samples = AllByRecursion (λ sample. AreUtf8Labels (common_labels sample) × AreUtf8Labels (own_labels sample)) samples

@@ -7,8 +7,9 @@ ghost use Rattle.fm_reader.specs.inside.Samples.{read_sample_of};
 
 use crate::lines::labels::read_block;
 use crate::lines::values::read_values;
-use fm_exposition::{Exemplar, LabelList, Value};
+use fm_exposition::{Exemplar, Value};
 use fm_grammar::{MetricType, SampleKind};
+use fm_text::LabelList;
 use std::alloc::{AllocError, Global};
 
 /// A sample as it was read.

@@ -2,7 +2,8 @@
 ghost use Rattle.std.specs.Prelude.{◌≡◌, ◌+◌, ◌≤◌, length, drop, map};
 ghost use Rattle.std.specs.List.{prefix_len};
 ghost use Rattle.std.specs.Simd.Lanes.{mask_l};
-ghost use Rattle.fm_reader.specs.inside.Plain.{is_special, is_plain};
+ghost use Rattle.fm_text.specs.inside.Plain.{is_special};
+ghost use Rattle.fm_reader.specs.inside.Plain.{is_plain};
 
 use std::simd::prelude::*;
 

@@ -1,7 +1,7 @@
 //! Families by texts that a root makes and registers, a line each.
 ghost use Rattle.std.specs.Prelude.{◌≡◌, None, Some};
 ghost use Rattle.fm_registry.specs.Named.{named_metric};
-ghost use Rattle.fm_root.specs.Roots.{Makes};
+ghost use Rattle.fm_registry_at.specs.Roots.{Makes};
 ghost use Rattle.fm_metric_kinds.specs.declared.by_texts.ByTexts.TheVariants.{Counters, FixedCounters, Gauges, FixedGauges, Histograms, GaugeHistograms};
 ghost use Rattle.fm_metric_kinds.specs.declared.Metric.TheVariants.{ByTexts};
 

@@ -1,7 +1,7 @@
 //! Metrics that a root makes and registers, a line each.
 ghost use Rattle.std.specs.Prelude.{◌≡◌, None, Some};
 ghost use Rattle.fm_registry.specs.Named.{named_metric};
-ghost use Rattle.fm_root.specs.Roots.{Makes};
+ghost use Rattle.fm_registry_at.specs.Roots.{Makes};
 ghost use Rattle.fm_metric_kinds.specs.declared.number.Number.TheVariants as number;
 ghost use Rattle.fm_metric_kinds.specs.declared.Metric.TheVariants.{Number, Histogram, GaugeHistogram};
 

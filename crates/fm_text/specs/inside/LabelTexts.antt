@@ -1,10 +1,10 @@
 -- Labels in one text: where their parts are, and what contracts see of them.
 use Rattle.std.specs.Prelude.{◌≡◌, ◌++◌, ◌≤◌, codes, None, Bool, true, false, List, [], ◌∷◌, length, map, Option, Some, IfSome}
-use Rattle.std.specs.List.{between, AllByRecursion}
+use Rattle.std.specs.List.{between, flat_map, AllByRecursion}
 use Rattle.std.specs.Str.{IsUtf8}
 use Rattle.std.specs.Option.{option_map}
 use Rattle.fm_grammar.specs.Exposition.{Text, Label}
-use Rattle.fm_grammar.specs.Spelling.{escaped, label_list_text}
+use Rattle.fm_grammar.specs.Spelling.{escaped, label_text, label_list_text}
 use Rattle.fm_text.specs.declared.spans.Part.{Part}
 use Rattle.fm_text.specs.declared.spans.LabelSpan.{LabelSpan}
 
@@ -37,6 +37,13 @@ pub record AreParts (text : Text) (ps : List LabelSpan) (n v : Option Part) : Ty
   pub spans : AllByRecursion (IsSpan text) ps
   pub name : IfSome n (IsPart text)
   pub value : IfSome v (IsPart text)
+
+-- a label after a comma
+abbrev pub further_label : Label → Text
+further_label label = codes "," ++ label_text label
+
+abbrev pub further_labels : List Label → Text
+further_labels labels = flat_map further_label labels
 
 -- the list of the labels before, with a comma after it
 abbrev pub list_before : List Label → Text

@@ -1,5 +1,5 @@
 use Rattle.fm_exposition.specs.Written.{IsWritersFault}
-use Rattle.fm_exposition.proofs.ResultLemmas.{on_ok_more, if_err_more}
+use Rattle.fm_text.proofs.ResultLemmas.{on_ok_more, if_err_more}
 use Rattle.fm_exposition.proofs.RowLemmas.{document_written}
 use Rattle.fm_core.proofs.document.write_lines.Goals as goal
 

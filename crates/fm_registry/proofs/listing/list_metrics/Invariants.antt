@@ -1,6 +1,6 @@
 use Rattle.std.proofs.Common.{◌≡◌, ◌++◌, take}
 use Rattle.std.specs.Option.{option_copied}
-use Rattle.fm_exposition.specs.Samples.{labels_of}
+use Rattle.fm_text.specs.LabelPairs.{labels_of}
 use Rattle.fm_registry.specs.inside.TreeView.{seen_metrics}
 use Rattle.fm_registry.specs.Seen.{seen_list}
 use Rattle.fm_registry_model.specs.Listing.{listed_with}

@@ -1,6 +1,6 @@
 use Rattle.std.proofs.Common.{List, [], subst, sym, ◌∙◌}
 use Rattle.fm_grammar.specs.Exposition.{Label}
-use Rattle.fm_exposition.specs.Samples.{labels_of}
+use Rattle.fm_text.specs.LabelPairs.{labels_of}
 use Rattle.fm_labels.specs.Labels.{LabelsValid, emitted_again}
 use Rattle.fm_labels.proofs.LabelsLemmas.{written_again}
 use Rattle.fm_encoder.proofs.constants.ConstantLabels.new.Goals as goal

@@ -7,8 +7,8 @@ use Rattle.fm_labels.proofs.NameLemmas.{AreLabels-own}
 use Rattle.fm_encoder.proofs.BucketLemmas.{le_is_reserved, le_is_label_name, IsSample-bucket}
 use Rattle.fm_encoder.proofs.point.PointEncoder.push_bound.Goals as goal
 
-pub returns-in-Ok-keep : goal.returns-in-Ok-keep
-returns-in-Ok-keep c =
+pub returns : goal.returns
+returns c =
     let common = c.self.inside.labels.labels in
     let label = bound_label c.args.bucket.now.upper_bound in
     let buckets : HasBuckets c.self.inside.labels.metric_type = subst (λ (p : GatheredPoints). HasBuckets p.setting.metric_type) (sym c.self.view_is) c.requires.buckets in

@@ -1,6 +1,6 @@
 use Rattle.std.proofs.Common.{sym, ap, ◌∙◌, arith}
 use lib.Count.{count_trailing_zeros}
-use Rattle.fm_reader.specs.inside.Plain.{is_special}
+use Rattle.fm_text.specs.inside.Plain.{is_special}
 use Rattle.fm_reader.proofs.Runs.{run_bound, run_through, run_stops}
 use Rattle.fm_reader.proofs.parts.plain.plain_end.Goals as goal
 

@@ -1,5 +1,5 @@
 use Rattle.std.proofs.Common.{arith}
-use Rattle.fm_reader.proofs.PlainRuns.{mask_is}
+use Rattle.fm_text.proofs.PlainLemmas.{mask_is}
 use Rattle.fm_reader.proofs.parts.plain.specials.Goals as goal
 
 pub returns : goal.returns
