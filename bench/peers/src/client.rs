@@ -1,6 +1,6 @@
 //! The crate `prometheus-client`.
+use crate::peer::Peer;
 use crate::scenes::{self, CONST_LABELS, FAMILY, HELP, NAMESPACE};
-use crate::Peer;
 use prometheus_client::encoding::text::encode;
 use prometheus_client::encoding::EncodeLabelSet;
 use prometheus_client::metrics::counter::Counter;
@@ -13,51 +13,56 @@ pub struct Client;
 
 /// How a request was made, and of what.
 #[derive(Clone, Debug, PartialEq, Eq, Hash, EncodeLabelSet)]
-struct Request {
+pub struct Request {
     method: String,
     path: String,
 }
 
-fn labels(member: u64) -> Request {
-    Request {
-        method: scenes::method(member).to_string(),
-        path: scenes::path(member),
-    }
+fn labeled_registry() -> Registry {
+    let labels = CONST_LABELS.map(|(name, value)| (name.into(), value.into()));
+    Registry::with_prefix_and_labels(NAMESPACE, labels.into_iter())
 }
 
-fn registry_of(family: impl Metric) -> Registry {
-    let mut registry = Registry::default();
-    registry.register(FAMILY, HELP, family);
+/// The registry with a metric too.
+fn with(mut registry: Registry, metric: impl Metric) -> Registry {
+    registry.register(FAMILY, HELP, metric);
     registry
+}
+
+fn counter_family(members: u64) -> Family<Request, Counter> {
+    let family = Family::<Request, Counter>::default();
+    for member in 0..members {
+        let counter = family.get_or_create(&Client::labels(member));
+        counter.inc_by(scenes::value(member));
+    }
+    family
 }
 
 impl Peer for Client {
     const NAME: &'static str = "prometheus-client";
     type Registry = Registry;
-    type Counter = Counter;
+    type Labels = Request;
 
     fn counters(members: u64) -> Registry {
-        let family = Family::<Request, Counter>::default();
-        for member in 0..members {
-            let counter = family.get_or_create(&labels(member));
-            counter.inc_by(scenes::value(member));
-        }
-        registry_of(family)
+        with(Registry::default(), counter_family(members))
+    }
+
+    fn labeled(members: u64) -> Registry {
+        with(labeled_registry(), counter_family(members))
     }
 
     fn histograms(members: u64) -> Registry {
-        let new = || Histogram::new(scenes::bounds().into_iter());
+        let new = || Histogram::new(scenes::bounds(12).into_iter());
         let family = Family::<Request, Histogram, _>::new_with_constructor(new);
         for member in 0..members {
-            let histogram = family.get_or_create(&labels(member));
+            let histogram = family.get_or_create(&Self::labels(member));
             scenes::observations(member).for_each(|seen| histogram.observe(seen));
         }
-        registry_of(family)
+        with(Registry::default(), family)
     }
 
     fn gauges(members: u64) -> Registry {
-        let labels = CONST_LABELS.map(|(name, value)| (name.into(), value.into()));
-        let mut registry = Registry::with_prefix_and_labels(NAMESPACE, labels.into_iter());
+        let mut registry = labeled_registry();
         for member in 0..members {
             let gauge = Gauge::<i64>::default();
             gauge.set(scenes::value(member) as i64);
@@ -70,15 +75,36 @@ impl Peer for Client {
         encode(document, registry).unwrap();
     }
 
-    fn counter() -> Counter {
-        Counter::default()
+    fn inc() -> (Registry, impl Fn() + Sync) {
+        let counter = Counter::<u64>::default();
+        let registry = with(Registry::default(), counter.clone());
+        (registry, move || _ = counter.inc())
     }
 
-    fn inc(counter: &Counter) {
-        counter.inc();
+    fn set() -> (Registry, impl Fn(i64) + Sync) {
+        let gauge = Gauge::<i64>::default();
+        let registry = with(Registry::default(), gauge.clone());
+        (registry, move |value| _ = gauge.set(value))
     }
 
-    fn count(counter: &Counter) -> u64 {
-        counter.get()
+    fn observe(bounds: Vec<f64>) -> (Registry, impl Fn(f64) + Sync) {
+        let histogram = Histogram::new(bounds.into_iter());
+        let registry = with(Registry::default(), histogram.clone());
+        (registry, move |value| histogram.observe(value))
+    }
+
+    fn lookup() -> (Registry, impl Fn(&Request) + Sync) {
+        let family = Family::<Request, Counter>::default();
+        let registry = with(Registry::default(), family.clone());
+        (registry, move |labels| {
+            _ = family.get_or_create(labels).inc()
+        })
+    }
+
+    fn labels(member: u64) -> Request {
+        Request {
+            method: scenes::method(member).to_string(),
+            path: scenes::path(member),
+        }
     }
 }

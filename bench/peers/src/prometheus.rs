@@ -1,51 +1,66 @@
 //! The crate `prometheus`.
+use crate::peer::Peer;
 use crate::scenes::{self, CONST_LABELS, FAMILY, HELP, NAMESPACE};
-use crate::Peer;
 use ::prometheus::core::Collector;
-use ::prometheus::{HistogramOpts, HistogramVec, IntCounter, IntCounterVec, IntGauge};
+use ::prometheus::{Histogram, HistogramOpts, HistogramVec, IntCounter, IntCounterVec, IntGauge};
 use ::prometheus::{Opts, Registry, TextEncoder};
 
 pub struct Prometheus;
 
 const LABELS: [&str; 2] = ["method", "path"];
 
-fn registry_of(family: impl Collector + 'static) -> Registry {
-    let registry = Registry::new();
-    registry.register(Box::new(family)).unwrap();
+fn labeled_registry() -> Registry {
+    let labels = CONST_LABELS.map(|(name, value)| (name.into(), value.into()));
+    Registry::new_custom(Some(NAMESPACE.into()), Some(labels.into())).unwrap()
+}
+
+/// The registry with a metric too.
+fn with(registry: Registry, metric: impl Collector + 'static) -> Registry {
+    registry.register(Box::new(metric)).unwrap();
     registry
+}
+
+/// The crate adds no suffix to the names of counters.
+fn counter_opts() -> Opts {
+    Opts::new(format!("{FAMILY}_total"), HELP)
+}
+
+fn counter_family(members: u64) -> IntCounterVec {
+    let family = IntCounterVec::new(counter_opts(), &LABELS).unwrap();
+    for member in 0..members {
+        let labels = [scenes::method(member), &scenes::path(member)];
+        let counter = family.with_label_values(&labels);
+        counter.inc_by(scenes::value(member));
+    }
+    family
 }
 
 impl Peer for Prometheus {
     const NAME: &'static str = "prometheus";
     type Registry = Registry;
-    type Counter = IntCounter;
+    type Labels = [String; 2];
 
     fn counters(members: u64) -> Registry {
-        // The crate adds no suffix to the names of counters.
-        let opts = Opts::new(format!("{FAMILY}_total"), HELP);
-        let family = IntCounterVec::new(opts, &LABELS).unwrap();
-        for member in 0..members {
-            let labels = [scenes::method(member), &scenes::path(member)];
-            let counter = family.with_label_values(&labels);
-            counter.inc_by(scenes::value(member));
-        }
-        registry_of(family)
+        with(Registry::new(), counter_family(members))
+    }
+
+    fn labeled(members: u64) -> Registry {
+        with(labeled_registry(), counter_family(members))
     }
 
     fn histograms(members: u64) -> Registry {
-        let opts = HistogramOpts::new(FAMILY, HELP).buckets(scenes::bounds());
+        let opts = HistogramOpts::new(FAMILY, HELP).buckets(scenes::bounds(12));
         let family = HistogramVec::new(opts, &LABELS).unwrap();
         for member in 0..members {
             let labels = [scenes::method(member), &scenes::path(member)];
             let histogram = family.with_label_values(&labels);
             scenes::observations(member).for_each(|seen| histogram.observe(seen));
         }
-        registry_of(family)
+        with(Registry::new(), family)
     }
 
     fn gauges(members: u64) -> Registry {
-        let labels = CONST_LABELS.map(|(name, value)| (name.into(), value.into()));
-        let registry = Registry::new_custom(Some(NAMESPACE.into()), Some(labels.into())).unwrap();
+        let registry = labeled_registry();
         for member in 0..members {
             let gauge = IntGauge::new(scenes::gauge_name(member), HELP).unwrap();
             gauge.set(scenes::value(member) as i64);
@@ -60,15 +75,35 @@ impl Peer for Prometheus {
         TextEncoder::new().encode_utf8(&families, document).unwrap();
     }
 
-    fn counter() -> IntCounter {
-        IntCounter::new(FAMILY, HELP).unwrap()
+    fn inc() -> (Registry, impl Fn() + Sync) {
+        let counter = IntCounter::with_opts(counter_opts()).unwrap();
+        let registry = with(Registry::new(), counter.clone());
+        (registry, move || counter.inc())
     }
 
-    fn inc(counter: &IntCounter) {
-        counter.inc();
+    fn set() -> (Registry, impl Fn(i64) + Sync) {
+        let gauge = IntGauge::new(FAMILY, HELP).unwrap();
+        let registry = with(Registry::new(), gauge.clone());
+        (registry, move |value| gauge.set(value))
     }
 
-    fn count(counter: &IntCounter) -> u64 {
-        counter.get()
+    fn observe(bounds: Vec<f64>) -> (Registry, impl Fn(f64) + Sync) {
+        let opts = HistogramOpts::new(FAMILY, HELP).buckets(bounds);
+        let histogram = Histogram::with_opts(opts).unwrap();
+        let registry = with(Registry::new(), histogram.clone());
+        (registry, move |value| histogram.observe(value))
+    }
+
+    fn lookup() -> (Registry, impl Fn(&[String; 2]) + Sync) {
+        let family = IntCounterVec::new(counter_opts(), &LABELS).unwrap();
+        let registry = with(Registry::new(), family.clone());
+        let look_up = move |[method, path]: &[String; 2]| {
+            family.with_label_values(&[method, path]).inc();
+        };
+        (registry, look_up)
+    }
+
+    fn labels(member: u64) -> [String; 2] {
+        [scenes::method(member).to_string(), scenes::path(member)]
     }
 }
