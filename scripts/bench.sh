@@ -2,16 +2,16 @@
 # Runs the scenes of bench/. Their program is proved and built in a scratch copy, over the libraries that `rt ci` left in this repository (`bash
 # .ci/run`, or `rt ci fastmetrics`, comes first): the libraries are not proved again.
 #
-#   scripts/bench.sh [-d FOLDER] [SCENE..]      scenes: hand counters labeled histograms gauges inc lookup observe register read; all without one
+#   scripts/bench.sh [-d FOLDER] [SCENE..]      scenes: hand counters labeled histograms gauges updates lookup observe register read; all without one
 #
 # The folder (else /tmp/fastmetrics-bench) is kept, so that only what changed is proved again. Prints a line for each figure: scene, members
-# (threads for `inc`), what was measured, nanoseconds a sample line or a call; of one `encode` also the requests for memory, a line, and the most bytes
+# (threads for `inc` and `set`), what was measured, nanoseconds a sample line or a call; of one `encode` also the requests for memory, a line, and the most bytes
 # at once, over those of the document. docs/PERFORMANCE.md says how to compare. Run it on a machine that does nothing else.
 set -eu
 top=$(cd "$(dirname "$0")/.." && pwd)
 folder=/tmp/fastmetrics-bench
 [[ ${1:-} == -d ]] && { folder=$2; shift 2; }
-[[ $# -gt 0 ]] || set -- hand counters labeled histograms gauges inc lookup observe register read
+[[ $# -gt 0 ]] || set -- hand counters labeled histograms gauges updates lookup observe register read
 
 . "$top/scripts/scratch.sh"
 . "$top/scripts/memory.sh"

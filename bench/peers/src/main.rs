@@ -5,8 +5,7 @@
 //! for a call by four threads at once. The members of `inc` and `set` are threads, those of
 //! `observe12` and the like bounds; `_same` scenes observe one value over and over.
 //!
-//! As in the bench, the time of four threads is that until the last has ended, for each call of
-//! one thread: four that don't hinder each other take as long as one.
+//! As in the bench, the time of four threads is that until the last has ended, over all their calls.
 mod client;
 mod documents;
 mod peer;

@@ -59,7 +59,7 @@ fn inc<P: Peer>() {
         }
     });
     report::<P>("inc", 1, "call", one, STEPS);
-    report::<P>("inc", THREADS, "call", four, STEPS);
+    report::<P>("inc", THREADS, "call", four, THREADS * STEPS);
     assert_eq!(sum::<P>(&registry, "_total"), TURNS * STEPS);
 }
 
@@ -72,7 +72,7 @@ fn set<P: Peer>() {
         }
     });
     report::<P>("set", 1, "call", one, STEPS);
-    report::<P>("set", THREADS, "call", four, STEPS);
+    report::<P>("set", THREADS, "call", four, THREADS * STEPS);
     assert_eq!(sum::<P>(&registry, ""), STEPS);
 }
 
@@ -86,7 +86,7 @@ fn observe<P: Peer>(scene: &str, bounds: u64, values: &[f64]) {
         }
     });
     report::<P>(scene, bounds, "call", one, steps);
-    report::<P>(scene, bounds, "call_by_4", four, steps);
+    report::<P>(scene, bounds, "call_by_4", four, THREADS * steps);
     assert_eq!(sum::<P>(&registry, "_count"), TURNS * steps);
 }
 
@@ -106,7 +106,7 @@ fn lookup<P: Peer>() {
     turn();
     let (one, four) = times(turn);
     report::<P>("lookup", KEYS, "call", one, PASSES * KEYS);
-    report::<P>("lookup", KEYS, "call_by_4", four, PASSES * KEYS);
+    report::<P>("lookup", KEYS, "call_by_4", four, THREADS * PASSES * KEYS);
     assert_eq!(sum::<P>(&registry, "_total"), (1 + TURNS) * PASSES * KEYS);
 }
 
