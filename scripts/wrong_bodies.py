@@ -66,7 +66,7 @@ class Function:
         # Whether a copy may stand beside it: it is no method of a trait, and doesn't call itself.
         self.block = "\n".join([block, *(it for it in lines[above:fn] if it.startswith("    ghost use "))]) if head else ""
         self.text = "\n".join(lines[self.first : self.last + 1])
-        is_alone = is_within and len(re.findall(rf"\b{self.name}(?:::<.*?>)?\(", self.text)) < 2
+        is_alone = is_within and not re.search(rf"(?<!fn )\b{self.name}(?:::<.*?>)?\(", self.text)
         self.may_be_copied = is_alone and (not indent or head is not None and not head[1])
         # What --only takes: the end of the function's path, or the module.
         path = [self.owner, self.name] if head else [*module, self.name] if is_within and not indent else module
@@ -126,7 +126,10 @@ class WrongBody:
         text = f"{function.block}\n{text}\n}}" if function.block else text
         with open(f"{folder}/{self.file}", "a", encoding="utf-8") as file:
             file.write(f"\n{text}\n")
+        # A method's proof stands in the module of its type, which may be above that of the function.
         path = [*function.module, *[function.owner] * (function.owner != ""), function.name]
+        while function.owner and len(path) > 2 and not os.path.isdir(f"{folder}/proofs/{'/'.join(path)}"):
+            path.pop(-3)
         proof = f"{folder}/proofs/{'/'.join(path)}"
         for file in sorted(os.listdir(proof)) if os.path.isdir(proof) else []:
             os.makedirs(f"{os.path.dirname(proof)}/{name}", exist_ok=True)
@@ -200,7 +203,8 @@ class Crate:
         for crate in self.below(crates):
             words += ["-L", f"dependency={os.path.dirname(rlib(crate.name))}"]
         words += ["--antt-project", f"{KIT}/rattle/logic/antt-project.json", "--logic-built", f"{KIT}/logic_built"]
-        return [*words, "--links", f"{self.name}=", "--jobs", "1"]
+        # What stands in a crate of tests is a part of the tests.
+        return [*words, *["--test"] * self.name.startswith("fm_tests_"), "--links", f"{self.name}=", "--jobs", "1"]
 
     def checked_with(self, wrongs, crates, run, proved):
         """What a check of the functions of these wrong bodies says of a copy in which they stand, and the functions of each. What is proved is kept for
@@ -232,7 +236,7 @@ class Crate:
             return [], []
         with tempfile.TemporaryDirectory(prefix="copies-kept-") as proved:
             said, functions = self.checked_with(wrongs, crates, run, proved)
-        is_proved = lambda it: re.search(rf"^fn \S*\b{it.name}: proved$", said, re.M) is not None
+        is_proved = lambda it: re.search(rf"^fn \S*\b{it.name}: proved(?:, may wait)?$", said, re.M) is not None
         return [it for it, in functions], [it for it, in functions if not is_proved(it)]
 
     def tried(self, crates, run):

@@ -7,7 +7,7 @@ use fastmetrics::metrics::state_set::{StateSet, StateSetValue};
 use std::alloc::Global;
 
 /// How far a task is.
-#[derive(Clone, Copy, Debug, PartialEq, Eq)]
+#[derive(Clone, Copy, PartialEq, Eq)]
 pub enum Progress {
     /// It waits.
     Pending,

@@ -18,7 +18,7 @@ use std::hash::{BuildHasherDefault, FoldHasher};
 use std::sync::Wait;
 
 /// How a request was made.
-#[derive(Clone, Copy, Debug, PartialEq, Eq, Hash)]
+#[derive(Clone, Copy, PartialEq, Eq, Hash)]
 pub enum Method {
     /// It reads.
     Get,
@@ -44,7 +44,7 @@ impl EncodeLabelValue for Method {
 }
 
 /// The method of a request and the status of its response.
-#[derive(Clone, Copy, Debug, PartialEq, Eq, Hash)]
+#[derive(Clone, Copy, PartialEq, Eq, Hash)]
 pub struct Request {
     method: Method,
     status: u16,

@@ -7,7 +7,8 @@ mod bounds;
 mod exemplar_histograms;
 #[cfg(test)]
 mod histograms;
-pub mod own_buckets;
+#[cfg(test)]
+mod own_buckets;
 #[cfg(test)]
 mod search;
 #[cfg(test)]

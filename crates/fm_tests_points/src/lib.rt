@@ -13,7 +13,8 @@ mod gauge_histograms;
 mod kinds;
 #[cfg(test)]
 mod own_labels;
-pub mod points;
+#[cfg(test)]
+mod points;
 #[cfg(test)]
 mod sources;
 #[cfg(test)]

@@ -14,7 +14,8 @@ mod deciding;
 mod deep;
 #[cfg(test)]
 mod global_registering;
-pub mod global_support;
+#[cfg(test)]
+mod global_support;
 #[cfg(test)]
 mod names;
 #[cfg(test)]
