@@ -7,8 +7,7 @@ mod bounds;
 mod exemplar_histograms;
 #[cfg(test)]
 mod histograms;
-#[cfg(test)]
-mod own_buckets;
+pub mod own_buckets;
 #[cfg(test)]
 mod search;
 #[cfg(test)]

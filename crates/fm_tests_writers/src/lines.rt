@@ -1,7 +1,7 @@
 //! A document of 100,000 sample lines, for which there is memory.
 //!
 //! The first piece of each line has more than 64 bytes, so that the blocks of the document's text are filled up in steps that don't end
-//! where a block does (fm_writer's list of bodies that tests refuse).
+//! where a block does (fm_text's list of bodies that tests refuse).
 
 use fm_test_support::members::OneMember;
 use fm_test_support::parts::Word;
