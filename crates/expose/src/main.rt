@@ -7,6 +7,8 @@ mod output;
 mod scene;
 mod states;
 mod tally;
+#[cfg(test)]
+mod tests;
 mod tree;
 
 use calls::{all_accepted, one_metric};

@@ -19,7 +19,7 @@ use std::alloc::Global;
 use std::io::Write;
 
 /// Why there is no document.
-#[derive(Clone, Copy)]
+#[derive(Clone, Copy, Debug, PartialEq, Eq)]
 pub enum Fault {
     /// The words name no scene.
     UnknownScene,
