@@ -63,11 +63,10 @@ class Function:
         head = IMPL.match(re.sub(r"<dyn (\w+)>", r"Dyn\1", block))
         # The type and the trait of a method, as a check joins them; nothing where they have parameters.
         self.owner = head[2][:1].upper() + head[2][1:] + (head[1] or "") if head else ""
-        # Whether a copy may stand beside it: it is no method of a trait, and doesn't call itself.
+        # Whether a copy may stand beside it, unless it calls itself: it is no method of a trait.
         self.block = "\n".join([block, *(it for it in lines[above:fn] if it.startswith("    ghost use "))]) if head else ""
         self.text = "\n".join(lines[self.first : self.last + 1])
-        is_alone = is_within and not re.search(rf"(?<!fn )\b{self.name}(?:::<.*?>)?\(", self.text)
-        self.may_be_copied = is_alone and (not indent or head is not None and not head[1])
+        self.may_be_copied = is_within and (not indent or head is not None and not head[1])
         # What --only takes: the end of the function's path, or the module.
         path = [self.owner, self.name] if head else [*module, self.name] if is_within and not indent else module
         self.path = "::".join(path)
@@ -166,6 +165,10 @@ class Crate:
     def __init__(self, name, libraries):
         self.name, self.libraries, self.folder = name, libraries, f"{TOP}/crates/{name}"
 
+    def calls_itself(self, function):
+        """Whether a function calls itself: then its proof, which has to say what decreases, stands in a folder of its own kind."""
+        return any(f"+{function.name}" in folders for _, folders, _ in os.walk(f"{self.folder}/proofs"))
+
     def batches(self):
         """Its wrong bodies, in lists of which none has two of one function, but in copies of it."""
         found = []
@@ -173,7 +176,8 @@ class Crate:
             functions = wrong.functions()
             fits = lambda taken: not any(one.may_be(other) for one in functions for other in taken)
             taken, batch = next((it for it in found if fits(it[0])), ([], []))
-            if found and batch is not found[0][1] and len({it.path for it in functions}) == 1 and functions[0].may_be_copied:
+            is_second = found and batch is not found[0][1] and len({it.path for it in functions}) == 1
+            if is_second and functions[0].may_be_copied and not self.calls_itself(functions[0]):
                 wrong.copy = len(found[0][1]) + 1
                 found[0][1].append(wrong)
                 continue

@@ -1,6 +1,6 @@
 //! The scenes, and the words that name them.
 ghost use Rattle.std.specs.Prelude.{◌≡◌};
-ghost use Rattle.expose.specs.Scenes.{scene_named};
+ghost use Rattle.expose.specs.Scenes.{scene_called, scene_named};
 
 /// What the program shows.
 #[derive(Clone, Copy, Debug, PartialEq, Eq)]
@@ -17,16 +17,26 @@ pub enum Scene {
     Tree,
 }
 
+// The scene that a word names.
+fn scene_of(word: &str) -> Option<Scene>
+    ensures { result ≡ scene_called word.now }
+{
+    match word {
+        "empty" => Some(Scene::Empty),
+        "tally" => Some(Scene::Tally),
+        "histogram" => Some(Scene::Histogram),
+        "states" => Some(Scene::States),
+        "tree" => Some(Scene::Tree),
+        _ => None,
+    }
+}
+
 /// The scene that just one word names.
 pub fn choose(words: &[String]) -> Option<Scene>
     ensures { result ≡ scene_named words.now }
 {
     match words {
-        [word] if word.as_str() == "empty" => Some(Scene::Empty),
-        [word] if word.as_str() == "tally" => Some(Scene::Tally),
-        [word] if word.as_str() == "histogram" => Some(Scene::Histogram),
-        [word] if word.as_str() == "states" => Some(Scene::States),
-        [word] if word.as_str() == "tree" => Some(Scene::Tree),
+        [word] => scene_of(word.as_str()),
         _ => None,
     }
 }
