@@ -49,7 +49,6 @@ grep -q Net "$folder/HANDLES" || echo "A server that opens sockets adds Net to $
 cat <<END
 $folder/crates/$name/src/main.rt is a copy of crates/first_use. Next:
 
-  cd $folder/crates/$name
-  rt try      runs it with run-time checks; nothing is proved
-  rt run      proves it, and what of the library isn't proved yet, and runs it
+  cd $folder/crates/$name && rt try    runs it with run-time checks; nothing is proved
+  cd $folder && rt ci $name            proves it, and what of the library isn't proved yet, and runs it
 END
