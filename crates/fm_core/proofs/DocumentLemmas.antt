@@ -1,16 +1,18 @@
 -- One metric more in the text of a document.
-use Rattle.std.proofs.Common.{◌≡◌, ℕ, ◌<◌, ◌+◌, List, [], ◌∷◌, ◌++◌, map, Option, Some, None, Result, Ok, Err, MatchResult, ◌⊎◌, length, get_or, take, inl, inr, refl, sym, ap, subst, ◌∙◌, append_assoc, append-nil, codes}
+use Rattle.std.proofs.Common.{◌≡◌, ℕ, ◌+◌, List, [], ◌∷◌, ◌++◌, map, Option, Some, None, Result, Ok, Err, MatchResult, ◌⊎◌, take, inl, inr, refl, sym, ap, subst, ◌∙◌, append_assoc, append-nil, codes, slice_get}
+use Rattle.std.specs.List.{AllByRecursion}
 use Rattle.std.specs.Option.{option_map, option_copied}
 use Rattle.std.specs.String.{string_bytes}
 use Rattle.std.proofs.lemmas.Grind.{flat_map-append}
-use Rattle.fm_grammar.specs.Exposition.{Text, Sample, Family}
+use Rattle.fm_grammar.specs.Exposition.{Text, Sample, Family, Exposition}
 use Rattle.fm_grammar.specs.Names.{AllDifferent}
-use Rattle.fm_grammar.specs.Reading.{IsNewName}
-use Rattle.fm_grammar.proofs.States.{exposition_push}
+use Rattle.fm_grammar.specs.WellFormed.{IsFamily}
+use Rattle.fm_grammar.specs.Reading.{IsExposition}
+use Rattle.fm_grammar.proofs.Runs.{all_append}
 use Rattle.fm_raw.specs.Units.{seen_unit}
 use Rattle.fm_registry_model.specs.Texts.{prefixed_name, suffixed_name, printed_name}
 use Rattle.fm_registry_model.specs.Registration.{printed_unit}
-use Rattle.fm_registry_model.specs.Listing.{listed_name, IsListable}
+use Rattle.fm_registry_model.specs.Listing.{Listed, listed_name, IsListable}
 use Rattle.fm_exposition.specs.Rows.{sample_rows}
 use Rattle.fm_exposition.specs.inside.DocumentRows.{family_rows, families_rows}
 use Rattle.fm_encode_error.specs.declared.EncodeError.{EncodeError}
@@ -18,13 +20,14 @@ use Rattle.fm_encode_error.specs.declared.EncodeError.TheVariants.{Memory}
 use Rattle.fm_writer.specs.Output.{Output, OutputText, appended, with_lines}
 use Rattle.fm_encoder.specs.Points.{Member}
 use Rattle.fm_encoder.specs.Gathered.{GatheredMembers}
-use Rattle.fm_registry.specs.Seen.{seen_list, seen_listed}
+use Rattle.fm_registry.specs.Seen.{seen_listed}
 use Rattle.fm_registry.specs.declared.listed.ListedMetric.{ListedMetric}
 use Rattle.fm_core.specs.Families.{Heading, FaultUnder}
 use Rattle.fm_core.specs.inside.Offered.{Offered}
-use Rattle.fm_core.specs.inside.Documents.{heading_rows, text_so_far, HasLines, AddsRows, AddsNextRows, IsTextOf}
+use Rattle.fm_core.specs.inside.Documents.{heading_rows, text_so_far, HasLines, AddsRows, AddsNextRows, AddsRowsOf}
 use Rattle.fm_core.proofs.OfferedLemmas.{Makes}
-use Rattle.fm_core.proofs.CollectLemmas.{Admits-next, next_new}
+use Rattle.fm_core.specs.Admits.{Admits}
+use Rattle.fm_core.proofs.CollectLemmas.{Admits-++, take_at, families_differ}
 
 -- a name in the exposition is the tail after the namespace
 printed-tail : (namespace : Option Text) (name : Text) (unit : Option Text) → prefixed_name namespace (suffixed_name name unit) ≡ printed_name namespace name unit
@@ -69,24 +72,30 @@ family_added Offers Stamps MayBeEmpty MayFault heading old new (Ok x) heads line
 family_added Offers Stamps MayBeEmpty MayFault heading old new (Err k) heads lines h = h
 
 module _ {M : Type 0} (Offers : M → Option ℕ → List Member → Type 0) (Stamps : M → Option ℕ → Type 0) (Empty : M → Type 0) where
-  pub IsTextOf-none : IsTextOf Offers Stamps Empty [] []
-  IsTextOf-none = record { exposition = []; admitted = refl; is_exposition = record { well_formed = tt; different = tt }; rows = refl }
+  pub AddsRowsOf-none : (text : Text) → AddsRowsOf Offers Stamps Empty [] text text
+  AddsRowsOf-none text = ([], refl, tt, sym (append-nil text))
 
-  -- the next metric of the list
-  pub IsTextOf-next : (xs : List (ListedMetric M)) (i : ℕ) (x : ListedMetric M) (old new : Text) → i < length xs → x ≡ get_or xs i x → AllDifferent (map listed_name (seen_list xs)) → IsTextOf Offers Stamps Empty (seen_list (take i xs)) old → AddsNextRows Offers Stamps Empty (seen_listed x) old new
-      → IsTextOf Offers Stamps Empty (seen_list (take (i + 1) xs)) new
-  IsTextOf-next xs i x old new within is differ h (inl (empty, same)) = record {
-    exposition = h.exposition;
-    admitted = Admits-next Offers Stamps Empty xs i x h.exposition h.exposition within is h.admitted (inl (empty, refl));
-    is_exposition = h.is_exposition;
-    rows = same ∙ h.rows;
+  AddsRowsOf-one : (l : Listed M) (old new : Text) → AddsNextRows Offers Stamps Empty l old new → AddsRowsOf Offers Stamps Empty (l ∷ []) old new
+  AddsRowsOf-one l old new (inl (empty, same)) = ([], inl (empty, refl), tt, same ∙ sym (append-nil old))
+  AddsRowsOf-one l old new (inr (f, own, formed, longer)) = (f ∷ [], inr (f, [], refl, own, refl), (formed, tt), longer ∙ ap (λ (rows : Text). old ++ rows) (sym (append-nil (family_rows f))))
+
+  pub AddsRowsOf-++ : (ls ms : List (Listed M)) (a b c : Text) → AddsRowsOf Offers Stamps Empty ls a b → AddsRowsOf Offers Stamps Empty ms b c → AddsRowsOf Offers Stamps Empty (ls ++ ms) a c
+  AddsRowsOf-++ ls ms a b c (d, first, formed, is) (e, second, forms, longer) =
+      let rows : families_rows (d ++ e) ≡ families_rows d ++ families_rows e = flat_map-append family_rows d e in (
+        d ++ e,
+        Admits-++ Offers Stamps Empty ls ms d e first second,
+        all_append IsFamily d e formed forms,
+        longer ∙ ap (λ (t : Text). t ++ families_rows e) is ∙ append_assoc a (families_rows d) (families_rows e) ∙ ap (λ (t : Text). a ++ t) (sym rows),
+      )
+
+  -- the next metric of a list
+  pub AddsRowsOf-next : (ls : List (Listed M)) (i : ℕ) (l : Listed M) (a b c : Text) → slice_get ls i ≡ Some l → AddsRowsOf Offers Stamps Empty (take i ls) a b → AddsNextRows Offers Stamps Empty l b c → AddsRowsOf Offers Stamps Empty (take (i + 1) ls) a c
+  AddsRowsOf-next ls i l a b c at before next =
+      subst (λ ms. AddsRowsOf Offers Stamps Empty ms a c) (sym (take_at ls i l at)) (AddsRowsOf-++ (take i ls) (l ∷ []) a b c before (AddsRowsOf-one l b c next))
+
+  -- if all listed names differ, the families make an exposition
+  pub exposition_of : (ls : List (Listed M)) (e : Exposition) → Admits Offers Stamps Empty ls e → AllByRecursion IsFamily e → AllDifferent (map listed_name ls) → IsExposition e
+  exposition_of ls e admits formed differ = record {
+    well_formed = formed;
+    different = subst AllDifferent (append-nil (map (λ family. family.name) e)) (families_differ Offers Stamps Empty ls e [] admits (subst AllDifferent (sym (append-nil (map listed_name ls))) differ));
   }
-  IsTextOf-next xs i x old new within is differ h (inr (f, own, formed, longer)) =
-      let e = h.exposition in
-      let rows : families_rows (e ++ f ∷ []) ≡ families_rows e ++ (family_rows f ++ []) = flat_map-append family_rows e (f ∷ []) in
-      record {
-        exposition = e ++ f ∷ [];
-        admitted = Admits-next Offers Stamps Empty xs i x e (e ++ f ∷ []) within is h.admitted (inr (f, refl, own));
-        is_exposition = exposition_push e f h.is_exposition formed (subst (λ n. IsNewName n e) (sym own.0) (next_new Offers Stamps Empty xs i x e within is differ h.admitted));
-        rows = longer ∙ ap (λ (t : Text). t ++ family_rows f) h.rows ∙ ap (λ (t : Text). families_rows e ++ t) (sym (append-nil (family_rows f))) ∙ sym rows;
-      }

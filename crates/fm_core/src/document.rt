@@ -1,17 +1,18 @@
 // The text of a registry's document, which is rendered while its metrics are visited.
 ghost use Rattle.std.specs.Prelude.{◌≡◌, ◌⊎◌, ◌++◌, None, codes, MatchResult, IfOk, IfErr, OnOk};
+ghost use Rattle.std.specs.List.{AllByRecursion};
 ghost use Rattle.std.specs.String.{string_bytes};
 ghost use Rattle.fm_grammar.specs.Exposition.{Exposition};
 ghost use Rattle.fm_grammar.specs.Reading.{IsExposition};
 ghost use Rattle.fm_encode_error.specs.declared.EncodeError.{EncodeError};
 ghost use Rattle.fm_exposition.specs.inside.DocumentRows.{document_rows};
 ghost use Rattle.fm_exposition.specs.Written.{AppendsDocument, AppendsBeginningOfDocument, IsWritersFault};
-ghost use Rattle.fm_registry_model.specs.Listing.{listed_name, order, IsListable};
+ghost use Rattle.fm_registry_model.specs.Listing.{listed_name, own_metrics, order, IsListable};
 ghost use Rattle.fm_registry_model.specs.Tree.{Shows};
 ghost use Rattle.fm_registry.specs.Seen.{seen_listed};
 ghost use Rattle.fm_registry.specs.HasHistory.{HasHistory};
 ghost use Rattle.fm_core.specs.Admits.{AdmittedBy, FaultOf, Fault};
-ghost use Rattle.fm_core.specs.inside.Documents.{text_so_far, HasLines, AddsNextRows};
+ghost use Rattle.fm_core.specs.inside.Documents.{text_so_far, HasLines, AddsNextRows, AddsRowsOf};
 
 use crate::family::join_name;
 use crate::taking::take_family;
@@ -29,7 +30,8 @@ fn print_name<M>(text: &mut String, listed: &ListedMetric<'_, M>) -> Result<(), 
     join_name(text, listed.namespace, listed.tail, None)
 }
 
-// Appends the lines of a listed metric's family, unless the metric is empty, or returns the first refusal.
+// Appends the lines of the family of a listed metric, unless the metric is empty, or returns the first refusal. The encoder has the
+// constant labels of the metric's registry.
 fn add_listed<M: EncodeMetric>(
     alloc: Global,
     encoder: &mut MetricEncoder,
@@ -38,7 +40,9 @@ fn add_listed<M: EncodeMetric>(
 ) -> Result<(), EncodeError>
     requires listable { IsListable (seen_listed listed.now) }
     requires lines { HasLines encoder.old }
-    ensures { MatchResult result
+    requires constants { encoder.old.context.constants ≡ (seen_listed listed.now).labels }
+    ensures constants { OnOk result (encoder.new.context.constants ≡ encoder.old.context.constants) }
+    ensures added { MatchResult result
         (λ _. HasLines encoder.new
         × AddsNextRows (λ m. M.offers m) (λ m. M.stamps m) (λ m. M.may_be_empty m)
         (seen_listed listed.now)
@@ -51,14 +55,33 @@ fn add_listed<M: EncodeMetric>(
         return Ok(());
     }
     print_name(name, listed)?;
-    take_family(
-        encoder,
-        alloc,
-        name,
-        listed.metadata,
-        listed.const_labels,
-        metric,
-    )
+    take_family(encoder, alloc, name, listed.metadata, metric)
+}
+
+// Appends the lines of the families of a registry's own metrics, or returns the first refusal.
+fn add_registry<M: EncodeMetric>(
+    alloc: Global,
+    encoder: &mut MetricEncoder,
+    name: &mut String,
+    registry: &Registry<M>,
+) -> Result<(), EncodeError>
+    requires listable { AllByRecursion IsListable (own_metrics registry.now.facts) }
+    requires lines { HasLines encoder.old }
+    ensures { MatchResult result
+        (λ _. HasLines encoder.new
+        × AddsRowsOf (λ m. M.offers m) (λ m. M.stamps m) (λ m. M.may_be_empty m)
+        (own_metrics registry.now.facts)
+        (text_so_far encoder.old.output) (text_so_far encoder.new.output))
+        (λ k. (k ≡ EncodeError.Memory)
+        ⊎ Fault k (λ m. M.offers m) (λ m. M.stamps m) (λ m. M.may_fault m) (own_metrics registry.now.facts)) }
+{
+    collector::enter(encoder, alloc, registry.constant_labels())?;
+    for index in 0..registry.metric_count() {
+        if let Some(listed) = registry.metric_at(index) {
+            add_listed(alloc, encoder, name, &listed)?;
+        }
+    }
+    Ok(())
 }
 
 // The lines of an encoder, with the last one of a document.
@@ -94,8 +117,8 @@ pub(crate) fn document_lines<M: EncodeMetric>(
     };
     let mut encoder = collector::for_lines(alloc);
     let mut name = String::new(alloc);
-    for listed in &list {
-        add_listed(alloc, &mut encoder, &mut name, listed)?;
+    for registry in &list {
+        add_registry(alloc, &mut encoder, &mut name, registry)?;
     }
     Ok(ended_lines(encoder)?)
 }

@@ -137,7 +137,8 @@ fn samples_of_metric<M: EncodeMetric>(
         (string_bytes name.old)
         metadata.now.metric_type (labels_of constants.now)) }
 {
-    take_family(encoder, alloc, name, metadata, constants, metric)?;
+    collector::enter(encoder, alloc, constants)?;
+    take_family(encoder, alloc, name, metadata, metric)?;
     Ok(collector::take_samples(encoder)?)
 }
 

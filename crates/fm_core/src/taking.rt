@@ -3,7 +3,6 @@ ghost use Rattle.std.specs.Prelude.{◌≡◌, ◌⊎◌, None, MatchResult, IfE
 ghost use Rattle.fm_grammar.specs.Names.{IsSnakeCase};
 ghost use Rattle.fm_grammar.specs.WellFormed.{AreMillis};
 ghost use Rattle.fm_encode_error.specs.declared.EncodeError.{EncodeError};
-ghost use Rattle.fm_text.specs.LabelPairs.{labels_of};
 ghost use Rattle.fm_writer.specs.Output.{with_lines};
 ghost use Rattle.fm_encoder.specs.Offers.{MetricHasFault, context_at};
 ghost use Rattle.fm_core.specs.inside.Documents.{rows_before};
@@ -16,21 +15,20 @@ use fm_raw::Metadata;
 use fm_writer::FamilyHead;
 use std::alloc::Global;
 
-// Goes on to the family of a metric with this printed name, this metadata and these constant labels. A text gets the lines that come
+// Goes on to the family of a metric with this printed name and this metadata, in the encoder's registry. A text gets the lines that come
 // before its samples.
 fn begin_family(
     encoder: &mut MetricEncoder,
     alloc: Global,
     name: &mut String,
     metadata: &Metadata,
-    constants: &[(String, String)],
     time: Option<u128>,
 ) -> Result<(), EncodeError>
     requires name { IsSnakeCase (string_bytes name.old) }
     requires time { IfSome time AreMillis }
     requires accepting { encoder.old.refused ≡ None }
     ensures begun { OnOk result (encoder.new ≡ record {
-      context = context_at (string_bytes name.old) metadata.now.metric_type (labels_of constants.now) time;
+      context = context_at (string_bytes name.old) metadata.now.metric_type encoder.old.context.constants time;
       output = with_lines encoder.old.output (rows_before (string_bytes name.old) metadata.now);
       refused = None;
     }) }
@@ -41,33 +39,33 @@ fn begin_family(
         help: metadata.help(),
         unit: text_of(metadata.unit()),
     };
-    collector::begin_family(encoder, alloc, name, head, constants, time)
+    collector::begin_family(encoder, alloc, name, head, time)
 }
 
-// Takes the family of a metric with this printed name, this metadata and these constant labels, or returns the first refusal. The name
-// is swapped with that of the family before.
+// Takes the family of a metric with this printed name and this metadata, in the encoder's registry, or returns the first refusal. The
+// name is swapped with that of the family before.
 pub(crate) fn take_family<M: EncodeMetric>(
     encoder: &mut MetricEncoder,
     alloc: Global,
     name: &mut String,
     metadata: &Metadata,
-    constants: &[(String, String)],
     metric: &M,
 ) -> Result<(), EncodeError>
     requires name { IsSnakeCase (string_bytes name.old) }
     requires accepting { encoder.old.refused ≡ None }
-    ensures { MatchResult result
+    ensures constants { OnOk result (encoder.new.context.constants ≡ encoder.old.context.constants) }
+    ensures taken { MatchResult result
         (λ _. (encoder.new.refused ≡ None)
         × Offered (M.offers metric.now) (M.stamps metric.now)
-        (string_bytes name.old) metadata.now.metric_type (labels_of constants.now)
+        (string_bytes name.old) metadata.now.metric_type encoder.old.context.constants
         (with_lines encoder.old.output (rows_before (string_bytes name.old) metadata.now))
         encoder.new.output)
         (λ k. (k ≡ EncodeError.Memory)
         ⊎ MetricHasFault k (M.offers metric.now) (M.stamps metric.now) (M.may_fault metric.now)
-        (string_bytes name.old) metadata.now.metric_type (labels_of constants.now)) }
+        (string_bytes name.old) metadata.now.metric_type encoder.old.context.constants) }
 {
     let time = whole_millis(metric.timestamp());
-    begin_family(encoder, alloc, name, metadata, constants, time)?;
+    begin_family(encoder, alloc, name, metadata, time)?;
     let visited = metric.encode(encoder);
     collector::outcome(encoder, visited)
 }

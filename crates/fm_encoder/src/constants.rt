@@ -1,37 +1,68 @@
-// The constant labels of a family.
-ghost use Rattle.std.specs.Prelude.{◌≡◌, ◌⊎◌, ◌++◌, [], None, OnOk, OnErr, IfOk, IfErr, IfSome, MatchResult};
+// The constant labels of a registry.
+ghost use Rattle.std.specs.Prelude.{◌≡◌, ◌⊎◌, ◌++◌, [], map, None, OnOk, OnErr, IfOk, IfErr, IfSome, MatchResult};
 ghost use Rattle.fm_encode_error.specs.declared.EncodeError.{EncodeError};
-ghost use Rattle.fm_text.specs.LabelPairs.{labels_of};
+ghost use Rattle.fm_text.specs.LabelPairs.{labels_of, shown_label};
+ghost use Rattle.fm_labels.specs.LabelEncoders.{EmitsLabels};
 ghost use Rattle.fm_labels.specs.Labels.{LabelsValid, LabelsFault, all_written, emitted_again};
 ghost use Rattle.fm_labels.specs.Refusals.{OwnRefusal, NoFault};
 ghost use Rattle.fm_labels.specs.WrittenLabels.{AreWritten};
-ghost use Rattle.fm_encoder.specs.inside.Constants.{AreTested};
+ghost use Rattle.fm_encoder.specs.inside.Constants.{AreTested, reserved_by};
 
 use fm_encode_error::EncodeError;
 use fm_grammar::MetricType;
 use fm_labels::gathered::read_labels;
 use fm_labels::label::LabelSetEncoder;
-use fm_labels::label_set::{EncodeLabelSet, encode_written};
+use fm_labels::label_set::{EncodeLabelSet, encode_all};
 use fm_labels::written_labels::WrittenLabels;
 use fm_text::LabelText;
 use std::alloc::Global;
 use std::marker::Model;
 
-// Copies of the labels, if each of them is allowed in a family of this type.
-fn tested(
+// Emits borrowed labels again.
+fn encode_again(labels: &[(&str, &str)], encoder: &mut LabelSetEncoder) -> Result<(), EncodeError>
+    ensures { EmitsLabels (emitted_again (map shown_label labels.now)) NoFault encoder.old encoder.new result }
+{
+    encode_all(labels, encoder)
+}
+
+// Tests whether each of the labels is allowed in a family of this type.
+fn test(alloc: Global, metric_type: MetricType, labels: &LabelText) -> Result<(), EncodeError>
+    ensures { MatchResult result
+        (λ _. LabelsValid metric_type [] (emitted_again labels.now.labels))
+        (λ k. OwnRefusal NoFault k ⊎ LabelsFault k metric_type [] (emitted_again labels.now.labels)) }
+{
+    let pairs = labels.pairs(alloc, 0)?;
+    let mut encoder = LabelSetEncoder::new(alloc, metric_type);
+    let visited = encode_again(pairs.as_slice(), &mut encoder);
+    encoder.outcome(visited)
+}
+
+// Why no point is accepted under these labels in a family of this type, if one of them is not valid. Fails if memory runs out.
+fn refusal_of(
     alloc: Global,
     metric_type: MetricType,
-    labels: &[(String, String)],
-) -> Result<LabelText, EncodeError>
-    ensures { MatchResult result
-        (λ ls. LabelsValid metric_type [] (emitted_again (labels_of labels.now))
-        × (ls.labels ≡ all_written (emitted_again (labels_of labels.now))))
-        (λ k. OwnRefusal NoFault k ⊎ LabelsFault k metric_type [] (emitted_again (labels_of labels.now))) }
+    labels: &LabelText,
+) -> Result<Option<EncodeError>, EncodeError>
+    ensures tested { IfOk result (λ refusal.
+        AreTested metric_type (record { labels = labels.now.labels; refusal = refusal })) }
+    ensures memory { IfErr result (λ e. e ≡ EncodeError.Memory) }
 {
-    let mut encoder = LabelSetEncoder::new(alloc, metric_type);
-    let visited = encode_written(labels, &mut encoder);
-    encoder.outcome(visited)?;
-    Ok(encoder.into_text())
+    match test(alloc, metric_type, labels) {
+        Ok(()) => Ok(None),
+        Err(EncodeError::Memory) => Err(EncodeError::Memory),
+        Err(error) => Ok(Some(error)),
+    }
+}
+
+// Which name a type reserves, as a number: none, `le` or `quantile`.
+fn reserving(metric_type: MetricType) -> u8
+    ensures { result ≡ reserved_by metric_type }
+{
+    match metric_type {
+        MetricType::Histogram | MetricType::GaugeHistogram => 1,
+        MetricType::Summary => 2,
+        _ => 0,
+    }
 }
 
 // Adds the labels that a label set emits, after those that the encoder has. Kept labels are copied, unless one of them has the name of a
@@ -58,7 +89,7 @@ fn add_labels<LS: EncodeLabelSet>(
     read_labels(encoder, labels)
 }
 
-// The constant labels of a family, which are tested once for its type.
+// The constant labels of a registry, tested for the type of its current family.
 #[derive(Drop)]
 pub(crate) struct ConstantLabels {
     labels: LabelText,
@@ -85,49 +116,45 @@ impl ConstantLabels {
         }
     }
 
-    // Copies of these labels, tested for a family of this type.
-    fn new(
+    // Goes on to these labels, tested for a family of this type, unless they are those before. Fails if memory runs out, and then changes
+    // nothing.
+    pub(crate) fn enter(
+        &mut self,
         alloc: Global,
         metric_type: MetricType,
         labels: &[(String, String)],
-    ) -> Result<ConstantLabels, EncodeError>
-        ensures tested { IfOk result (AreTested metric_type) }
-        ensures made { IfOk result (λ constants. constants.labels ≡ labels_of labels.now) }
+    ) -> Result<(), EncodeError>
+        requires tested { AreTested metric_type self.old }
+        ensures tested { OnOk result (AreTested metric_type self.new) }
+        ensures entered { OnOk result (self.new.labels ≡ labels_of labels.now) }
+        ensures kept { OnErr result (self.new ≡ self.old) }
         ensures memory { IfErr result (λ e. e ≡ EncodeError.Memory) }
     {
-        match tested(alloc, metric_type, labels) {
-            Ok(labels) => Ok(ConstantLabels {
-                labels,
-                refusal: None,
-            }),
-            Err(EncodeError::Memory) => Err(EncodeError::Memory),
-            Err(error) => match LabelText::of(alloc, labels) {
-                Ok(labels) => Ok(ConstantLabels {
-                    labels,
-                    refusal: Some(error),
-                }),
-                Err(_) => Err(EncodeError::Memory),
-            },
+        if self.labels.are(labels) {
+            return Ok(());
         }
+        let labels = LabelText::of(alloc, labels)?;
+        let refusal = refusal_of(alloc, metric_type, &labels)?;
+        *self = ConstantLabels { labels, refusal };
+        Ok(())
     }
 
-    // Goes on from a family of the type before to one of this type under these labels. They are tested, unless the family before has the
-    // same labels and the same type. Fails if memory runs out, and then changes nothing.
+    // Goes on from a family of the type before to one of this type, for which the labels are tested, unless they were valid for a type
+    // that reserves the same name. Fails if memory runs out, and then changes nothing.
     pub(crate) fn begin(
         &mut self,
         alloc: Global,
         before: MetricType,
         metric_type: MetricType,
-        labels: &[(String, String)],
     ) -> Result<(), EncodeError>
         requires tested { AreTested before self.old }
         ensures tested { OnOk result (AreTested metric_type self.new) }
-        ensures begun { OnOk result (self.new.labels ≡ labels_of labels.now) }
+        ensures labels { self.new.labels ≡ self.old.labels }
         ensures kept { OnErr result (self.new ≡ self.old) }
         ensures memory { IfErr result (λ e. e ≡ EncodeError.Memory) }
     {
-        if metric_type != before || !self.labels.are(labels) {
-            *self = ConstantLabels::new(alloc, metric_type, labels)?;
+        if self.refusal.is_some() || reserving(metric_type) != reserving(before) {
+            self.refusal = refusal_of(alloc, metric_type, &self.labels)?;
         }
         Ok(())
     }

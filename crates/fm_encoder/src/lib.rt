@@ -14,7 +14,8 @@ pub mod value;
 pub mod collector {
     //! What the collector and families call, and no metric.
     pub use crate::metric::collector::{
-        begin_family, encode_member, for_lines, for_samples, into_sink, outcome, take_samples,
+        begin_family, encode_member, enter, for_lines, for_samples, into_sink, outcome,
+        take_samples,
     };
     pub use fm_labels::WrittenLabels;
 }

@@ -1,33 +1,35 @@
--- A list of metrics grows as the tree is walked.
-use Rattle.std.proofs.Common.{◌≡◌, ℕ, ◌+◌, ◌<◌, List, [], ◌∷◌, ◌++◌, length, get_or, take, Some, slice_get, sym, ap, ◌∙◌, append_assoc, append-nil}
-use Rattle.std.specs.Option.{option_copied}
-use Rattle.std.proofs.lemmas.List.{take_more, map-append}
-use Rattle.std.proofs.lemmas.Option.{get_or_from_slice_get, slice_get_within}
-use Rattle.fm_text.specs.LabelPairs.{labels_of}
+-- The list of registries grows as the tree is walked.
+use Rattle.std.proofs.Common.{◌≡◌, ℕ, ◌+◌, ◌<◌, List, [], ◌∷◌, ◌++◌, length, get_or, slice_get, take, Option, Some, Bor, sym, ap, ◌∙◌, append_assoc, append-nil}
+use Rattle.std.specs.Option.{option_map}
+use Rattle.std.proofs.lemmas.List.{take_more}
+use Rattle.std.proofs.lemmas.Option.{slice_get-map}
+use Rattle.std.proofs.lemmas.Grind.{flat_map-append}
+use Rattle.fm_raw.specs.declared.metadata.Metadata.{Metadata}
+use Rattle.fm_registry_model.specs.Texts.{Text, Labels}
+use Rattle.fm_registry_model.specs.Registration.{Registration}
+use Rattle.fm_registry_model.specs.Tree.{Tree}
+use Rattle.fm_registry_model.specs.Listing.{Listed, listed_with, own_metrics, listed_forest, listed_tree}
 use Rattle.fm_registry.specs.View.{seen_metric}
 use Rattle.fm_registry.specs.inside.TreeView.{seen_metrics, forest_of}
-use Rattle.fm_registry_model.specs.Listing.{Listed, listed_with, own_metrics, listed_forest, listed_tree}
-use Rattle.fm_registry.specs.Seen.{seen_list, seen_listed}
-use Rattle.fm_registry.specs.declared.listed.ListedMetric.{ListedMetric}
+use Rattle.fm_registry.specs.Seen.{listed_in}
 use Rattle.fm_registry.specs.declared.names.Tailed.{Tailed}
 use Rattle.fm_registry.specs.declared.registry.Subsystem.{Subsystem}
 
 module _ {M : Type 0} where
-  pub listed-metric : (news olds : List (ListedMetric M)) (m : ListedMetric M) (base : List (Listed M)) (es : List (Tailed × M)) (i : ℕ) (k : Tailed)
-      → news ≡ olds ++ m ∷ [] → seen_list olds ≡ base ++ listed_with (option_copied m.namespace) (labels_of m.const_labels.now) (seen_metrics (take i es))
-      → slice_get es i ≡ Some (k, m.metric.now) → m.metadata.now ≡ k.metadata
-      → seen_list news ≡ base ++ listed_with (option_copied m.namespace) (labels_of m.const_labels.now) (seen_metrics (take (i + 1) es))
-  listed-metric news olds m base es i k new before at same =
-      let e : Tailed × M = (k, m.metric.now) in
-      let listed : List (Tailed × M) → List (Listed M) = λ xs. listed_with (option_copied m.namespace) (labels_of m.const_labels.now) (seen_metrics xs) in
-      let more : take (i + 1) es ≡ take i es ++ e ∷ [] = take_more es i e (slice_get_within es i e at) ∙ ap (λ (x : Tailed × M). take i es ++ x ∷ []) (get_or_from_slice_get es i e e at) in
-      let here : Listed M = record { namespace = option_copied m.namespace; labels = labels_of m.const_labels.now; registration = seen_metric k.metadata m.metric.now } in
-      let split : listed (take i es ++ e ∷ []) ≡ listed (take i es) ++ here ∷ [] =
-      ap (λ rs. listed_with (option_copied m.namespace) (labels_of m.const_labels.now) rs) (map-append (λ (x : Tailed × M). seen_metric x.0.metadata x.1) (take i es) (e ∷ []))
-      ∙ map-append _ (seen_metrics (take i es)) (seen_metric k.metadata m.metric.now ∷ []) in
-      let seen : seen_listed m ≡ here = ap (λ d. record { namespace = option_copied m.namespace; labels = labels_of m.const_labels.now; registration = seen_metric d m.metric.now }) same in
-      ap seen_list new ∙ map-append seen_listed olds (m ∷ []) ∙ ap (λ ms. ms ++ seen_listed m ∷ []) before
-      ∙ append_assoc base (listed (take i es)) (seen_listed m ∷ []) ∙ ap (λ (l : Listed M). base ++ (listed (take i es) ++ l ∷ [])) seen ∙ ap (λ ms. base ++ ms) (sym (ap listed more ∙ split))
+  -- the metric at an index
+  pub listed-at : (namespace : Option Text) (labels : Labels) (d : Metadata) (m : M) (es : List (Tailed × M)) (i : ℕ) (k : Tailed) → slice_get es i ≡ Some (k, m) → d ≡ k.metadata
+      → Some (record { namespace = namespace; labels = labels; registration = seen_metric d m }) ≡ slice_get (listed_with namespace labels (seen_metrics es)) i
+  listed-at namespace labels d m es i k at same =
+      let Listing : Registration M → Listed M = λ r. record { namespace = namespace; labels = labels; registration = r } in
+      let Seen : Tailed × M → Registration M = λ e. seen_metric e.0.metadata e.1 in
+      ap (λ (x : Metadata). Some (Listing (seen_metric x m))) same
+      ∙ sym (slice_get-map Listing (seen_metrics es) i ∙ ap (option_map Listing) (slice_get-map Seen es i ∙ ap (option_map Seen) at))
+
+  -- one registry more
+  pub listed_in-push : (registries : List (Bor (Tree M))) (r : Bor (Tree M)) → listed_in (registries ++ r ∷ []) ≡ listed_in registries ++ own_metrics r.now.facts
+  listed_in-push registries r =
+      flat_map-append (λ (x : Bor (Tree M)). own_metrics x.now.facts) registries (r ∷ [])
+      ∙ ap (λ (ms : List (Listed M)). listed_in registries ++ ms) (append-nil (own_metrics r.now.facts))
 
   listed_forest-++ : (ss : List (Subsystem M)) (s : Subsystem M) → listed_forest (forest_of (ss ++ s ∷ [])) ≡ listed_forest (forest_of ss) ++ listed_tree s.registry
   listed_forest-++ [] s = ap (λ ms. own_metrics s.registry.facts ++ ms) (append-nil (listed_forest s.registry.children))

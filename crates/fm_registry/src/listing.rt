@@ -1,39 +1,35 @@
-//! The metrics of a tree, in the order of the exposition.
-ghost use Rattle.std.specs.Prelude.{◌≡◌, ◌++◌, OnOk};
-ghost use Rattle.std.specs.Option.{option_copied};
+//! The metrics of one registry, as a collector receives them.
+ghost use Rattle.std.specs.Prelude.{◌≡◌, slice_get};
+ghost use Rattle.std.specs.Option.{option_copied, option_map};
 ghost use Rattle.fm_text.specs.LabelPairs.{labels_of};
 ghost use Rattle.fm_registry_model.specs.Listing.{listed_with};
 ghost use Rattle.fm_registry.specs.inside.TreeView.{seen_metrics};
-ghost use Rattle.fm_registry.specs.Seen.{seen_list};
+ghost use Rattle.fm_registry.specs.Seen.{seen_listed};
 
 use crate::listed::ListedMetric;
 use crate::names::Tailed;
 use indexmap::IndexMap;
-use std::alloc::AllocError;
 
-// Adds the metrics of one registry to the list.
-pub(crate) fn list_metrics<'a, M>(
+// The metric at an index in a registry with this namespace and these labels.
+pub(crate) fn metric_in<'a, M>(
     namespace: Option<&'a str>,
     const_labels: &'a [(String, String)],
     metrics: &'a IndexMap<Tailed, M>,
-    list: &mut Vec<ListedMetric<'a, M>>,
-) -> Result<(), AllocError>
-    ensures { OnOk result
-        (seen_list list.new.items
-        ≡ seen_list list.old.items
-        ++ listed_with (option_copied namespace.entry) (labels_of const_labels.now)
-        (seen_metrics metrics.now.entries)) }
+    index: usize,
+) -> Option<ListedMetric<'a, M>>
+    ensures { option_map seen_listed result
+        ≡ slice_get
+        (listed_with (option_copied namespace.entry) (labels_of const_labels.now) (seen_metrics metrics.now.entries))
+        index }
 {
-    for index in 0..metrics.len() {
-        if let Some((key, metric)) = metrics.get_index(index) {
-            list.push(ListedMetric {
-                namespace,
-                const_labels,
-                tail: key.tail(),
-                metadata: key.metadata(),
-                metric,
-            })?;
-        }
-    }
-    Ok(())
+    let Some((key, metric)) = metrics.get_index(index) else {
+        return None;
+    };
+    Some(ListedMetric {
+        namespace,
+        const_labels,
+        tail: key.tail(),
+        metadata: key.metadata(),
+        metric,
+    })
 }

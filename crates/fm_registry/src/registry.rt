@@ -8,7 +8,7 @@ mod subsystems;
 
 use crate::labels::labels_of_option;
 use crate::listed::ListedMetric;
-use crate::listing::list_metrics;
+use crate::listing::metric_in;
 use crate::names::Tailed;
 pub use builder::RegistryBuilder;
 use fm_encoder::EncodeMetric;
@@ -90,7 +90,7 @@ impl<M> Debug for Registry<M> {
 }
 
 impl<M> Registry<M> {
-    ghost use Rattle.std.specs.Prelude.{◌≡◌, ◌++◌, [], OnOk, IfOk, IfErr};
+    ghost use Rattle.std.specs.Prelude.{◌≡◌, ◌++◌, [], length, slice_get, OnOk, IfOk, IfErr};
     ghost use Rattle.std.specs.Option.{option_map};
     ghost use Rattle.fm_text.specs.LabelPairs.{labels_of};
     ghost use Rattle.fm_registry_model.specs.History.{namespace_at, labels_at};
@@ -98,7 +98,7 @@ impl<M> Registry<M> {
     ghost use Rattle.fm_registry_model.specs.Listing.{own_metrics, listed_tree, order};
     ghost use Rattle.fm_registry_model.specs.declared.RegistryError.{RegistryError};
     ghost use Rattle.fm_registry.specs.HasHistory.{HasHistory};
-    ghost use Rattle.fm_registry.specs.Seen.{seen_list};
+    ghost use Rattle.fm_registry.specs.Seen.{seen_listed, listed_in};
 
     /// The prefix of the names of this registry's metrics: the root's namespace and the names of the subsystems down to
     /// this one, joined by underscores.
@@ -121,23 +121,32 @@ impl<M> Registry<M> {
         labels_of_option(&self.const_labels)
     }
 
-    // Adds the metrics that are registered in this registry.
-    fn list_here<'a>(&'a self, list: &mut Vec<ListedMetric<'a, M>>) -> Result<(), AllocError>
-        ensures { OnOk result
-            (seen_list list.new.items ≡ seen_list list.old.items ++ own_metrics self.now.facts) }
+    /// How many metrics are registered in this registry, without those of its subsystems.
+    pub fn metric_count(&self) -> usize
+        ensures { result ≡ length (own_metrics self.now.facts) }
     {
         match &self.metrics {
-            Some(metrics) => list_metrics(self.namespace(), self.constant_labels(), metrics, list),
-            None => Ok(()),
+            Some(metrics) => metrics.len(),
+            None => 0,
         }
     }
 
-    // Adds the metrics of this registry, and then those of each subsystem, depth first.
-    fn list_into<'a>(&'a self, list: &mut Vec<ListedMetric<'a, M>>) -> Result<(), AllocError>
-        ensures { OnOk result
-            (seen_list list.new.items ≡ seen_list list.old.items ++ listed_tree self.now) }
+    /// The metric at an index in this registry's order of registration, or `None` if fewer are registered in it.
+    pub fn metric_at(&self, index: usize) -> Option<ListedMetric<'_, M>>
+        ensures { option_map seen_listed result ≡ slice_get (own_metrics self.now.facts) index }
     {
-        self.list_here(list)?;
+        match &self.metrics {
+            Some(metrics) => metric_in(self.namespace(), self.constant_labels(), metrics, index),
+            None => None,
+        }
+    }
+
+    // Adds this registry, and then each subsystem, depth first.
+    fn list_into<'a>(&'a self, list: &mut Vec<&'a Registry<M>>) -> Result<(), AllocError>
+        ensures { OnOk result
+            (listed_in list.new.items ≡ listed_in list.old.items ++ listed_tree self.now) }
+    {
+        list.push(self)?;
         if let Some(subsystems) = &self.subsystems {
             for subsystem in subsystems {
                 subsystem.registry.list_into(list)?;
@@ -146,14 +155,14 @@ impl<M> Registry<M> {
         Ok(())
     }
 
-    /// The metrics in the order of the exposition, each with its registry's namespace and labels: first those of this
-    /// registry in order of registration, then those of each subsystem in order of creation. For collectors. It
-    /// allocates the list only. Fails with `Memory` if memory runs out.
-    pub fn listing(&self, alloc: Global) -> Result<Vec<ListedMetric<'_, M>>, RegistryError>
-        ensures tree { IfOk result (λ list. seen_list list.items ≡ listed_tree self.now) }
+    /// This registry and all below it, in the order of the exposition: a registry comes before its subsystems, and these in order
+    /// of creation, each with what is below it. The metrics of each (`metric_at`), one registry after the other, are all metrics. For
+    /// collectors. It allocates the list only. Fails with `Memory` if memory runs out.
+    pub fn listing(&self, alloc: Global) -> Result<Vec<&Registry<M>>, RegistryError>
+        ensures tree { IfOk result (λ list. listed_in list.items ≡ listed_tree self.now) }
         ensures history { IfOk result
             (λ list. HasHistory self.now → (b : _) → Shows self.now b
-            → seen_list list.items ≡ order b) }
+            → listed_in list.items ≡ order b) }
         ensures memory { IfErr result (λ e. e ≡ RegistryError.Memory) }
     {
         let mut list = Vec::new(alloc);

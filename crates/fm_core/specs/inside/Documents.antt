@@ -1,10 +1,10 @@
 -- The text of a document, as it grows metric by metric.
 use Rattle.std.specs.Prelude.{◌≡◌, ℕ, List, [], ◌++◌, Option, None, ◌⊎◌}
+use Rattle.std.specs.List.{AllByRecursion}
 use Rattle.std.specs.Option.{option_copied, option_map}
 use Rattle.std.specs.String.{string_bytes}
 use Rattle.fm_grammar.specs.Exposition.{Text, Family, Exposition}
 use Rattle.fm_grammar.specs.WellFormed.{IsFamily}
-use Rattle.fm_grammar.specs.Reading.{IsExposition}
 use Rattle.fm_exposition.specs.Rows.{head_rows}
 use Rattle.fm_text.specs.LabelPairs.{labels_of}
 use Rattle.fm_exposition.specs.inside.DocumentRows.{family_rows, families_rows}
@@ -57,12 +57,13 @@ module _ {M : Type 0} (Offers : M → Option ℕ → List Member → Type 0) (St
       (Empty listed.registration.metric × (new ≡ old))
       ⊎ ((family : Family) × IsFamilyOf Offers Stamps listed family × IsFamily family × (new ≡ old ++ family_rows family))
 
-  -- the text is that of an exposition that the listed metrics admit
-  pub record IsTextOf (ls : List (Listed M)) (text : Text) : Type 0 where
-    pub exposition : Exposition
-    pub admitted : Admits Offers Stamps Empty ls exposition
-    pub is_exposition : IsExposition exposition
-    pub rows : text ≡ families_rows exposition
+  -- the listed metrics add the lines of families that they admit, each well formed
+  abbrev pub AddsRowsOf : List (Listed M) → Text → Text → Type 0
+  AddsRowsOf ls old new = (e : Exposition) × Admits Offers Stamps Empty ls e × AllByRecursion IsFamily e × (new ≡ old ++ families_rows e)
+
+  -- the listed metrics add families that they admit
+  abbrev pub AddsFamilies : List (Listed M) → Exposition → Exposition → Type 0
+  AddsFamilies ls old new = (e : Exposition) × Admits Offers Stamps Empty ls e × (new ≡ old ++ e)
 
 -- what one metric adds under a heading
 abbrev pub AddsRows : (Option ℕ → List Member → Type 0) → (Option ℕ → Type 0) → Type 0 → Heading → Text → Text → Type 0

@@ -1,17 +1,19 @@
 //! The OpenMetrics text format: collecting a registry, writing its document, and reading documents back.
-ghost use Rattle.std.specs.Prelude.{◌≡◌, ◌⊎◌, None, OnOk, IfOk, IfErr};
+ghost use Rattle.std.specs.Prelude.{◌≡◌, ◌⊎◌, ◌++◌, map, None, OnOk, IfOk, IfErr};
 ghost use Rattle.std.specs.Io.KnownBytes.{Keeps};
+ghost use Rattle.std.specs.List.{AllByRecursion};
+ghost use Rattle.fm_grammar.specs.Names.{AllDifferent};
 ghost use Rattle.fm_grammar.specs.Reading.{IsNewName};
 ghost use Rattle.fm_encode_error.specs.declared.EncodeError.{EncodeError};
 ghost use Rattle.fm_exposition.specs.Written.{IsWritersFault};
-ghost use Rattle.fm_registry_model.specs.Listing.{listed_name, order, IsListable};
+ghost use Rattle.fm_registry_model.specs.Listing.{listed_name, own_metrics, order, IsListable};
 ghost use Rattle.fm_registry_model.specs.Tree.{Shows};
 ghost use Rattle.fm_registry.specs.Seen.{seen_listed};
 ghost use Rattle.fm_registry.specs.HasHistory.{HasHistory};
 ghost use Rattle.fm_core.specs.Families.{AddsFamily, FaultUnder};
 ghost use Rattle.fm_core.specs.Admits.{AdmittedBy, AdmitsNext, FaultOf, Fault};
 ghost use Rattle.fm_core.specs.Encoded.{WritesAdmitted, BeginsAdmitted};
-ghost use Rattle.fm_core.specs.inside.Documents.{heading_within};
+ghost use Rattle.fm_core.specs.inside.Documents.{heading_within, AddsFamilies};
 
 use crate::document::{document_lines, write_lines};
 use crate::family::MetricFamilyEncoder;
@@ -78,6 +80,32 @@ fn encode_listed<'a, M: EncodeMetric>(
     encode_under(encoder, scope, listed.metadata, listed.metric)
 }
 
+// Takes a registry's own metrics, whose names are new.
+fn encode_registry<'a, M: EncodeMetric>(
+    encoder: &mut MetricFamilyEncoder<'a>,
+    registry: &'a Registry<M>,
+) -> Result<(), EncodeError>
+    requires listable { AllByRecursion IsListable (own_metrics registry.now.facts) }
+    requires new_names { AllDifferent
+        (map (λ family. family.name) encoder.old.families
+        ++ map listed_name (own_metrics registry.now.facts)) }
+    requires accepting { encoder.old.refused ≡ None }
+    ensures accepting { OnOk result (encoder.new.refused ≡ None) }
+    ensures ok { OnOk result
+        (AddsFamilies (λ m. M.offers m) (λ m. M.stamps m) (λ m. M.may_be_empty m)
+        (own_metrics registry.now.facts) encoder.old.families
+        encoder.new.families) }
+    ensures err { IfErr result (λ k. (k ≡ EncodeError.Memory)
+        ⊎ Fault k (λ m. M.offers m) (λ m. M.stamps m) (λ m. M.may_fault m) (own_metrics registry.now.facts)) }
+{
+    for index in 0..registry.metric_count() {
+        if let Some(listed) = registry.metric_at(index) {
+            encode_listed(encoder, &listed)?;
+        }
+    }
+    Ok(())
+}
+
 /// The exposition of a registry and all below it: a family for each metric that isn't empty, a registry's metrics by
 /// registration and then its subsystems by creation, depth first.
 ///
@@ -101,8 +129,8 @@ pub fn collect<M: EncodeMetric>(
         return Err(EncodeError::Memory);
     };
     let mut encoder = MetricFamilyEncoder::new(alloc)?;
-    for listed in &list {
-        encode_listed(&mut encoder, listed)?;
+    for registry in &list {
+        encode_registry(&mut encoder, registry)?;
     }
     encoder.end()
 }

@@ -1,4 +1,4 @@
-//! What the collector and families call, and no metric: encoders are made, told the next family, and taken apart.
+//! What the collector and families call, and no metric: encoders are made, told the next registry and family, and taken apart.
 ghost use Rattle.std.specs.Prelude.{◌≡◌, [], ◌⊎◌, None, Some, IfSome, IsSome, OnOk, OnErr, IfOk, IfErr, Err, string_bytes};
 ghost use Rattle.fm_grammar.specs.Names.{IsSnakeCase};
 ghost use Rattle.fm_grammar.specs.WellFormed.{AreMillis};
@@ -51,7 +51,27 @@ pub fn for_lines(alloc: Global) -> MetricEncoder
     over(alloc, Sink::text(alloc, TextBlocks::new(alloc)))
 }
 
-/// Goes on to the family with this printed name, this head and these constant labels, and appends the lines that come before
+/// Goes on to a registry with these constant labels: the families that begin next have them. Fails with `Memory` if memory runs out;
+/// then nothing changes.
+pub fn enter(
+    encoder: &mut MetricEncoder,
+    alloc: Global,
+    constants: &[(String, String)],
+) -> Result<(), EncodeError>
+    ensures entered { OnOk result (encoder.new ≡ record encoder.old {
+      context = record {
+        setting = encoder.old.context.setting;
+        constants = labels_of constants.now;
+      };
+    }) }
+    ensures kept { OnErr result (encoder.new ≡ encoder.old) }
+    ensures memory { IfErr result (λ e. e ≡ EncodeError.Memory) }
+{
+    let metric_type = encoder.points.metric_type();
+    encoder.constants.enter(alloc, metric_type, constants)
+}
+
+/// Goes on to the family with this printed name and this head, in the current registry, and appends the lines that come before
 /// its samples, unless the encoder keeps samples. The timestamp, in milliseconds, is written on each sample. `name` is swapped
 /// with the name of the family before. Fails with `Memory` if memory runs out; then that is the encoder's refusal, and the text
 /// may end in a part of these lines. An encoder that has refused something stays as it is, and returns that refusal.
@@ -60,7 +80,6 @@ pub fn begin_family(
     alloc: Global,
     name: &mut String,
     head: FamilyHead<'_>,
-    constants: &[(String, String)],
     time: Option<u128>,
 ) -> Result<(), EncodeError>
     requires name { IsSnakeCase (string_bytes name.old) }
@@ -72,7 +91,7 @@ pub fn begin_family(
           metric_type = head.entry.metric_type;
           time = time;
         };
-        constants = labels_of constants.now;
+        constants = encoder.old.context.constants;
       };
       output = with_lines encoder.old.output
           (head_rows (headed (string_bytes name.old) head.entry));
@@ -88,10 +107,7 @@ pub fn begin_family(
         return Err(error);
     }
     let before = encoder.points.metric_type();
-    if let Err(error) = encoder
-        .constants
-        .begin(alloc, before, head.metric_type, constants)
-    {
+    if let Err(error) = encoder.constants.begin(alloc, before, head.metric_type) {
         return encoder.points.refuse(error);
     }
     encoder.points.begin_family(name, head, time)

@@ -2,8 +2,8 @@ use Rattle.std.proofs.Common.{sym, subst}
 use Rattle.fm_core.proofs.OfferedLemmas.{offered_made}
 use Rattle.fm_core.proofs.taking.take_family.Goals as goal
 
-pub returns : goal.returns
-returns g c =
+pub returns-clause-taken : goal.returns-clause-taken
+returns-clause-taken g c =
     let declared = g.M.EncodeMetric in
     let stamps = declared.stamps c.args.metric.now in
     let stamped = subst stamps (sym c.whole_millis-time.ensures.value) c.timestamp.ensures in
