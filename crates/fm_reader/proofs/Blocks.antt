@@ -44,7 +44,7 @@ one_braces_front text ks ls s t found are e =
 pub empty_block : (text rest : Text) (labels : List Label) → text ≡ 32 ∷ rest → labels ≡ [] → IsBlockFront text (Some (labels, rest))
 empty_block text rest labels e none = subst (λ ls. IsBlockFront text (Some (ls, rest))) (sym none) (record { names = tt; different = tt }, e)
 
-block_first : (label : Label) (labels : List Label) (rest : Text) → label_block_text (label ∷ labels) ++ (32 ∷ rest) ≡ 123 ∷ (label_list_text (label ∷ labels) ++ (125 ∷ 32 ∷ rest))
+pub block_first : (label : Label) (labels : List Label) (rest : Text) → label_block_text (label ∷ labels) ++ (32 ∷ rest) ≡ 123 ∷ (label_list_text (label ∷ labels) ++ (125 ∷ 32 ∷ rest))
 block_first label labels rest = braces_then (label ∷ labels) (32 ∷ rest)
 
 pub no_block : (text : Text) → ((rest : Text) → text ≢ 32 ∷ rest) → ((rest : Text) → text ≢ 123 ∷ rest) → IsBlockFront text None

@@ -21,7 +21,7 @@ commas_append (l ∷ ls) label s =
     commas_then l (ls ++ (label ∷ [])) s ∙ ap (λ z. label_text l ++ (44 ∷ z)) (commas_append ls label s) ∙ sym (commas_then l ls (label_text label ++ (44 ∷ s)))
 
 -- a last label has no comma after it
-list_last : (ls : List Label) (label : Label) (s : Text) → label_list_text (ls ++ (label ∷ [])) ++ s ≡ with_commas ls ++ (label_text label ++ s)
+pub list_last : (ls : List Label) (label : Label) (s : Text) → label_list_text (ls ++ (label ∷ [])) ++ s ≡ with_commas ls ++ (label_text label ++ s)
 list_last [] label s = refl
 list_last (l ∷ []) label s = append_assoc (label_text l) (44 ∷ label_text label) s ∙ sym (commas_then l [] (label_text label ++ s))
 list_last (l ∷ m ∷ ls) label s =

@@ -61,7 +61,7 @@ holds_more old new key texts h holds q = by (bytes_eq key.now q) refl
 
 -- names that differ
 
-different_push : (texts : List Text) (last : Text) → AllDifferent texts → IsFresh last texts → AllDifferent (texts ++ (last ∷ []))
+pub different_push : (texts : List Text) (last : Text) → AllDifferent texts → IsFresh last texts → AllDifferent (texts ++ (last ∷ []))
 different_push [] last d f = (tt, tt)
 different_push (x ∷ texts) last d f = (all_append (λ other. other ≢ x) texts (last ∷ []) d.0 ((λ e. f.0 (sym e)), tt), different_push texts last d.1 f.1)
 

@@ -1,5 +1,5 @@
 -- Where a line leads a reader, and that it leads nowhere.
-use Rattle.std.proofs.Common.{◌≡◌, List, [], ◌∷◌, ◌++◌, refl, sym, ap, subst, ◌∙◌, Option, Some, None, Result, Ok, Err, IfOk, codes, arith}
+use Rattle.std.proofs.Common.{◌≡◌, List, [], ◌∷◌, ◌++◌, refl, sym, ap, subst, ◌∙◌, Bool, true, Option, Some, None, Result, Ok, Err, IfOk, codes, arith}
 use Rattle.fm_grammar.specs.declared.MetricType.{MetricType}
 use Rattle.fm_grammar.specs.Exposition.{Text, Sample, Family}
 use Rattle.fm_grammar.specs.Names.{IsSnakeCase}
@@ -7,13 +7,13 @@ use Rattle.fm_grammar.specs.WellFormed.{UnitFits, UnitAllowed, IsSample}
 use Rattle.fm_grammar.specs.Document.{IsTypeLine, IsHelpLine, IsUnitLine, IsSampleLine}
 use Rattle.fm_grammar.specs.inside.Words.{IsLastLine}
 use Rattle.fm_grammar.specs.Reading.{IsNewName}
-use Rattle.fm_grammar.specs.inside.Lines.{State, Open, Headed, Ended, closed, with_unit, with_sample, Follows, type_line, help_line, unit_line, sample_line, last_line}
+use Rattle.fm_grammar.specs.inside.Lines.{State, Open, Headed, Ended, closed, with_unit, Follows, type_line, help_line, unit_line, sample_line, last_line}
 use Rattle.fm_grammar.proofs.Runs.{one_run}
 use Rattle.fm_grammar.proofs.FamilyNames.{IsNameByte, snake_case_bytes}
 use Rattle.fm_grammar.specs.Kinds.{type_word}
 use Rattle.std.proofs.lemmas.List.{append_cancel_left}
-use Rattle.fm_reader.specs.inside.Lines.{FoundHelp, FoundUnit, FoundSample}
-use Rattle.fm_reader.specs.inside.Steps.{reading_state, IsStep, IsStepWithin, FoundNewType}
+use Rattle.fm_reader.specs.inside.Lines.{FoundHelp, FoundUnit}
+use Rattle.fm_reader.specs.inside.Steps.{reading_state, IsStep, IsStepWithin, IsSampleAdded, FoundNewType}
 use Rattle.fm_reader.specs.declared.machine.Reading.{Reading}
 use Rattle.fm_reader.specs.declared.error.ReadError.{ReadError}
 
@@ -65,22 +65,10 @@ unit_follows finished f lent m unit text line new e kind same more bare found =
     subst (λ g. Follows (Open finished (Some f)) line (Open finished (Some g))) (sym (more ∙ ap (with_unit f) same))
     (unit_line is.0 bare.0 bare.1 is.1 is.2)
 
-pub sample_follows : (finished : List Family) (f : Family) (lent : Text) (m : MetricType) (found : Option Sample) (sample : Sample) (line : Text) (new : Family) → lent ≡ f.name → m ≡ f.metric_type → found ≡ Some sample → new ≡ with_sample f sample → FoundSample line lent m found
-    → Follows (Open finished (Some f)) line (Open finished (Some new))
-sample_follows finished f lent m found sample line new e same some more h =
-    let is : FoundSample line f.name f.metric_type (Some sample) = subst (λ n. FoundSample line n f.metric_type (Some sample)) e (subst (λ k. FoundSample line lent k (Some sample)) same (subst (FoundSample line lent m) some h)) in
-    subst (λ g. Follows (Open finished (Some f)) line (Open finished (Some g))) (sym more) (sample_line is.0 is.1)
-
--- if the line is no sample line, and no unit line where one may come
-pub within_refuses : (f : Family) (line lent lent' : Text) (m m' : MetricType) (found : Option Text) (found' : Option Sample) → (f.unit ≡ None → f.samples ≡ [] → (lent ≡ f.name) × (m ≡ f.metric_type) × (found ≡ None) × FoundUnit line lent m found)
-    → lent' ≡ f.name → m' ≡ f.metric_type → found' ≡ None → FoundSample line lent' m' found' → RefusesWithin f line
-within_refuses f line lent lent' m m' found found' units e same none h = (
-  λ unit p nothing empty fits allowed.
-      let u = units nothing empty in
-      let is : FoundUnit line f.name f.metric_type None = subst (λ n. FoundUnit line n f.metric_type None) u.0 (subst (λ k. FoundUnit line lent k None) u.1 (subst (FoundUnit line lent m) u.2 u.3)) in
-      is unit p fits allowed,
-  subst (λ n. FoundSample line n f.metric_type None) e (subst (λ k. FoundSample line lent' k None) same (subst (FoundSample line lent' m') none h)),
-)
+pub sample_follows : (finished : List Family) (f : Family) (line : Text) (read : Bool) (new : Family) → read ≡ true → IsSampleAdded f line read new → Follows (Open finished (Some f)) line (Open finished (Some new))
+sample_follows finished f line read new is_read h =
+    let added : IsSampleAdded f line true new = subst (λ r. IsSampleAdded f line r new) is_read h in
+    subst (λ g. Follows (Open finished (Some f)) line (Open finished (Some g))) (sym added.2) (sample_line added.1.0 added.1.1)
 
 -- a type line whose name is taken
 

@@ -5,6 +5,7 @@ pub mod Cuts
 pub mod Fronts
 pub mod Lines
 pub mod Parts
+pub mod Shared
 pub mod Samples
 pub mod Names
 pub mod Steps

@@ -6,6 +6,7 @@ mod lines;
 mod machine;
 mod parts;
 mod reading;
+mod samples;
 
 pub use error::ReadError;
 pub use reading::read;

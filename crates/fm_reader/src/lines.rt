@@ -4,4 +4,5 @@ mod exemplar;
 pub(crate) mod heads;
 mod labels;
 pub(crate) mod sample;
+pub(crate) mod shared;
 mod values;

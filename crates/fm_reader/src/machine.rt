@@ -1,38 +1,35 @@
 //! The state of a reader after each line of a document.
-ghost use Rattle.std.specs.Prelude.{◌≡◌, ◌↔◌, IsTrue, IfOk, IfErr, IfSome, OnOk, None, [], string_bytes};
+ghost use Rattle.std.specs.Prelude.{◌≡◌, ◌↔◌, IsTrue, IfOk, IfErr, IfSome, None, [], string_bytes};
 ghost use Rattle.std.specs.Option.{option_map};
 ghost use Rattle.fm_grammar.specs.inside.Words.{IsLastLine};
 ghost use Rattle.fm_reader.specs.inside.Lines.{shown_type};
-ghost use Rattle.fm_reader.specs.inside.Samples.{read_sample_of};
-ghost use Rattle.fm_grammar.specs.inside.Lines.{closed, with_unit, with_sample, Open as OpenState, Headed as HeadedState};
-ghost use Rattle.fm_reader.specs.inside.Steps.{reading_state, IsStep, IsStepWithin, IsEnding};
+ghost use Rattle.fm_grammar.specs.inside.Lines.{closed, with_unit, Open as OpenState, Headed as HeadedState};
+ghost use Rattle.fm_reader.specs.inside.Steps.{reading_state, IsStep, IsStepWithin, IsSampleAdded, IsEnding};
 ghost use Rattle.fm_reader.specs.inside.Names.{names_of, state_names, HasNames, IsNoted, FoundNoted};
 ghost use Rattle.fm_reader.specs.declared.error.ReadError.TheVariants.{Memory};
 
 use crate::error::ReadError;
 use crate::lines::heads::{read_help, read_type, read_unit};
-use crate::lines::sample::{ReadSample, read_sample};
-use fm_exposition::{FamilySamples, SampleStore, make};
+use crate::lines::sample::read_sample;
+use crate::samples::ReadSamples;
+use fm_exposition::{FamilySamples, make};
 use fm_grammar::MetricType;
-use fm_text::LabelList;
 use std::alloc::Global;
 use std::collections::BTreeSet;
 use std::marker::Model;
-use std::sync::Arc;
 
 /// A family that may get more samples.
 #[derive(Drop)]
-pub(crate) struct Pending {
+pub(crate) struct Pending<'a> {
     name: String,
     metric_type: MetricType,
     help: String,
     unit: Option<String>,
-    // No labels are shared.
-    samples: SampleStore,
+    samples: ReadSamples<'a>,
 }
 
-impl Model for Pending {
-    ghost use Rattle.std.specs.Prelude.{◌≡◌, [], string_bytes};
+impl<'a> Model for Pending<'a> {
+    ghost use Rattle.std.specs.Prelude.{string_bytes};
     ghost use Rattle.std.specs.Option.{option_map};
     ghost use Rattle.fm_grammar.specs.Exposition.{Family};
 
@@ -45,11 +42,9 @@ impl Model for Pending {
       unit = option_map string_bytes p.unit;
       samples = p.samples.samples;
     } };
-
-    ghost invariant = { λ p. p.samples.common ≡ [] };
 }
 
-impl Pending {
+impl<'a> Pending<'a> {
     // The family's name.
     fn name(&self) -> &str
         ensures { result.now ≡ self.now.name }
@@ -68,12 +63,12 @@ impl Pending {
     fn is_bare(&self) -> bool
         ensures { IsTrue result ↔ ((self.now.unit ≡ None) × (self.now.samples ≡ [])) }
     {
-        self.unit.is_none() && self.samples.as_slice().is_empty()
+        self.unit.is_none() && self.samples.is_empty()
     }
 
     // The family with this unit.
-    fn with_unit(self, unit: String) -> Pending
-        ensures { result ≡ with_unit self (string_bytes unit) }
+    fn with_unit(self, unit: String) -> Pending<'a>
+        ensures { result ≡ with_unit self.entry (string_bytes unit) }
     {
         Pending {
             name: self.name,
@@ -84,45 +79,41 @@ impl Pending {
         }
     }
 
-    // Adds a sample at the end. Fails with `Memory` if memory runs out.
-    fn push(&mut self, sample: ReadSample) -> Result<(), ReadError>
-        ensures pushed { OnOk result (self.new ≡ with_sample self.old (read_sample_of sample)) }
+    // Adds the sample on a line, and returns whether the line is a sample line of the family. Fails with `Memory` if
+    // memory runs out.
+    fn add_sample(&mut self, alloc: Global, line: &'a str) -> Result<bool, ReadError>
+        ensures added { IfOk result (λ read. IsSampleAdded self.old line.now read self.new) }
         ensures memory { IfErr result (λ e. e ≡ Memory) }
     {
-        let Ok(()) = self.samples.push(
-            sample.kind,
-            sample.labels,
-            sample.value,
-            sample.time,
-            sample.exemplar,
-        )
-        else {
-            return Err(ReadError::Memory);
+        let name = self.name.as_str();
+        let Some(sample) = read_sample(alloc, name, self.metric_type, &self.samples, line)? else {
+            return Ok(false);
         };
-        Ok(())
+        self.samples.push(sample)?;
+        Ok(true)
     }
 
     // The family with its samples.
     fn finish(self) -> FamilySamples
-        ensures { result ≡ self }
+        ensures { result ≡ self.entry }
     {
         make::family(
             self.name,
             self.metric_type,
             self.help,
             self.unit,
-            self.samples,
+            self.samples.into_store(),
         )
     }
 }
 
 /// The state of a reader after some lines.
 #[derive(Drop)]
-pub(crate) enum Reading {
+pub(crate) enum Reading<'a> {
     /// After a family's type line and help line, and maybe more of its lines; or at the start.
     Open {
         finished: Vec<FamilySamples>,
-        current: Option<Pending>,
+        current: Option<Pending<'a>>,
     },
     /// After a type line.
     Headed {
@@ -141,13 +132,13 @@ pub(crate) enum Reading {
 pub(crate) fn step<'a>(
     alloc: Global,
     names: &mut BTreeSet<&'a str>,
-    reading: Reading,
+    reading: Reading<'a>,
     line: &'a str,
-) -> Result<Option<Reading>, ReadError>
+) -> Result<Option<Reading<'a>>, ReadError>
     requires names { HasNames names.old (state_names (reading_state reading)) }
     ensures names { IfOk result
         (λ next. IfSome next (λ r. HasNames names.new (state_names (reading_state r)))) }
-    ensures step { IfOk result (λ next. IsStep (reading_state reading) line.now next) }
+    ensures step { IfOk result (λ next. IsStep (reading_state reading.entry) line.now next) }
     ensures memory { IfErr result (λ e. e ≡ Memory) }
 {
     match reading {
@@ -161,18 +152,19 @@ pub(crate) fn step<'a>(
     }
 }
 
-// Reads a line where a family may begin.
+// Reads a line where a family may begin. It is inlined, since a family takes long to move.
+#[inline(always)]
 fn step_open<'a>(
     alloc: Global,
     names: &mut BTreeSet<&'a str>,
     finished: Vec<FamilySamples>,
-    current: Option<Pending>,
+    current: Option<Pending<'a>>,
     line: &'a str,
-) -> Result<Option<Reading>, ReadError>
+) -> Result<Option<Reading<'a>>, ReadError>
     requires names { HasNames names.old (names_of (closed finished.items current)) }
     ensures names { IfOk result
         (λ next. IfSome next (λ r. HasNames names.new (state_names (reading_state r)))) }
-    ensures step { IfOk result (λ next. IsStep (OpenState finished.items current) line.now next) }
+    ensures step { IfOk result (λ next. IsStep (OpenState finished.items current.entry) line.now next) }
     ensures memory { IfErr result (λ e. e ≡ Memory) }
 {
     if is_last_line(line) {
@@ -195,13 +187,13 @@ fn step_open<'a>(
 }
 
 // Reads a family's help line.
-fn step_headed(
+fn step_headed<'a>(
     alloc: Global,
     finished: Vec<FamilySamples>,
     name: String,
     metric_type: MetricType,
     line: &str,
-) -> Result<Option<Reading>, ReadError>
+) -> Result<Option<Reading<'a>>, ReadError>
     ensures step { IfOk result
         (λ next. IsStep (HeadedState finished.items (string_bytes name) metric_type)
         line.now next) }
@@ -210,13 +202,13 @@ fn step_headed(
     let Some(help) = read_help(alloc, &name, line)? else {
         return Ok(None);
     };
-    let common = Arc::new(alloc, LabelList::new(alloc))?;
+    let samples = ReadSamples::new(alloc)?;
     let family = Pending {
         name,
         metric_type,
         help,
         unit: None,
-        samples: SampleStore::new(alloc, common),
+        samples,
     };
     Ok(Some(Reading::Open {
         finished,
@@ -224,14 +216,15 @@ fn step_headed(
     }))
 }
 
-// Reads a unit line or a sample line of a family. Returns None if the line is neither.
-fn step_within(
+// Reads a unit line or a sample line of a family. Returns None if the line is neither. It is inlined too.
+#[inline(always)]
+fn step_within<'a>(
     alloc: Global,
     finished: Vec<FamilySamples>,
-    family: Pending,
-    line: &str,
-) -> Result<Option<Reading>, ReadError>
-    ensures step { IfOk result (λ next. IsStepWithin finished.items family line.now next) }
+    family: Pending<'a>,
+    line: &'a str,
+) -> Result<Option<Reading<'a>>, ReadError>
+    ensures step { IfOk result (λ next. IsStepWithin finished.items family.entry line.now next) }
     ensures memory { IfErr result (λ e. e ≡ Memory) }
 {
     if family.is_bare() {
@@ -243,11 +236,10 @@ fn step_within(
             }));
         }
     }
-    let Some(sample) = read_sample(alloc, family.name(), family.metric_type(), line)? else {
-        return Ok(None);
-    };
     let mut family = family;
-    family.push(sample)?;
+    if !family.add_sample(alloc, line)? {
+        return Ok(None);
+    }
     Ok(Some(Reading::Open {
         finished,
         current: Some(family),
@@ -257,9 +249,9 @@ fn step_within(
 // The finished families, with the current one added as the last.
 fn close(
     finished: Vec<FamilySamples>,
-    current: Option<Pending>,
+    current: Option<Pending<'_>>,
 ) -> Result<Vec<FamilySamples>, ReadError>
-    ensures closed { IfOk result (λ families. families.items ≡ closed finished.items current) }
+    ensures closed { IfOk result (λ families. families.items ≡ closed finished.items current.entry) }
     ensures memory { IfErr result (λ e. e ≡ Memory) }
 {
     let mut families = finished;
@@ -303,8 +295,8 @@ fn note<'a>(names: &mut BTreeSet<&'a str>, name: &'a str) -> Result<bool, ReadEr
 }
 
 /// The families, if the last line was read.
-pub(crate) fn ended(reading: Reading) -> Option<Vec<FamilySamples>>
-    ensures { IsEnding (reading_state reading) result }
+pub(crate) fn ended(reading: Reading<'_>) -> Option<Vec<FamilySamples>>
+    ensures { IsEnding (reading_state reading.entry) result }
 {
     match reading {
         Reading::Ended { families } => Some(families),

@@ -52,6 +52,20 @@ fn worked_documents(rt: HostRuntime) -> Result<(), Fail> {
     Ok(())
 }
 
+// Points whose samples share labels, and lines that come close to it.
+#[test]
+fn labels_of_points(rt: HostRuntime) -> Result<(), Fail> {
+    let alloc = rt.alloc();
+    for text in [
+        "# TYPE h histogram\n# HELP h H\nh_bucket{a=\"1\",b=\"x\",le=\"0.5\"} 1\nh_bucket{a=\"1\",b=\"x\",le=\"+Inf\"} 2\nh_count{a=\"1\",b=\"x\"} 2\nh_sum{a=\"1\",b=\"x\"} 2.0\nh_bucket{a=\"12\",b=\"x\",le=\"0.5\"} 3\nh_bucket{a=\"12\",b=\"x\",le=\"+Inf\"} 4\nh_count{a=\"12\",b=\"x\"} 4\nh_sum{a=\"12\",b=\"x\"} 4.0\n# EOF\n",
+        "# TYPE s summary\n# HELP s H\ns_count{a=\"\\n\\\"\"} 1\ns{a=\"\\n\\\"\",quantile=\"0.5\"} 1.5\ns{a=\"\\n\\\"\",quantile=\"0.9\"} 2.5 1.000\ns_sum{a=\"\\n\\\"\"} 1\ns_sum 1\ns{quantile=\"0.5\"} 1\n# EOF\n",
+        "# TYPE h histogram\n# HELP h H\nh_bucket{a=\"1\",le=\"1.0\"} 1 # {le=\"1.0\"} 0.7\nh_bucket{a=\"1\",le=\"2.0\",b=\"1\"} 1\nh_bucket{a=\"1\",lex=\"2.0\",le=\"1.0\"} 1\nh_bucket{a=\"1\",b=\"2\",le=\"1.0\"} 1\nh_bucket{le=\"1.0\",a=\"1\"} 1\nh_bucket{a=\"1\",le=\"\\\\\"} 1\nh_bucket{a=\"1\"} 1\nh_count 1\n# EOF\n",
+    ] {
+        expect_written_again(alloc, text)?;
+    }
+    Ok(())
+}
+
 // The document of so many gauges.
 fn document_of_gauges(alloc: Global, count: u32) -> Result<String, Fail> {
     let mut text = String::new(alloc);

@@ -140,6 +140,34 @@ fn samples(rt: HostRuntime) -> Result<(), Fail> {
     Ok(())
 }
 
+// Whether a sample is refused after one of its point with two labels beside its own one.
+fn is_refused_in_point(alloc: Global, sample: &str) -> Result<bool, AllocError> {
+    let before = "# TYPE h histogram\n# HELP h H\nh_bucket{a=\"1\",b=\"2\",le=\"0.5\"} 1\n";
+    let text = format!(in alloc; "{before}{sample}\n# EOF\n")?;
+    Ok(is_refused_at(alloc, text.as_str(), 4))
+}
+
+#[test]
+fn after_shared_labels(rt: HostRuntime) -> Result<(), Fail> {
+    let alloc = rt.alloc();
+    for sample in [
+        "h_count{a=\"1\",b=\"2\",} 1",
+        "h_count{a=\"1\",b=\"2\"x} 1",
+        "h_count{a=\"1\",b=\"2\"}1",
+        "h_bucket{a=\"1\",b=\"2\"le=\"1\"} 1",
+        "h_bucket{a=\"1\",b=\"2\",a=\"1\"} 1",
+        "h_bucket{a=\"1\",b=\"2\",b=\"3\"} 1",
+        "h_bucket{a=\"1\",b=\"2\",le=\"1\",} 1",
+        "h_bucket{a=\"1\",b=\"2\",le=\"1\",le=\"2\"} 1",
+        "h_bucket{a=\"1\",a=\"2\",le=\"1\"} 1",
+        "h_bucket{a=\"1\",le=\"1\",le=\"1\"} 1",
+    ] {
+        let is_refused = is_refused_in_point(alloc, sample)?;
+        assert!(rt; is_refused, "{sample}");
+    }
+    Ok(())
+}
+
 #[test]
 fn counters(rt: HostRuntime) -> Result<(), Fail> {
     let alloc = rt.alloc();

@@ -1,11 +1,10 @@
 -- What is found in the parts of a sample line: a part and the text after it, or that the text does not begin with such
 -- a part.
-use Rattle.std.specs.Prelude.{◌≡◌, ◌≢◌, ◌⊎◌, ℕ, ◌^◌, ℤ, Bool, true, false, List, [], ◌∷◌, ◌++◌, ⊤, Option, Some, None, IfSome, Contains}
+use Rattle.std.specs.Prelude.{◌≡◌, ◌≢◌, ◌⊎◌, ℕ, ◌^◌, ℤ, List, [], ◌∷◌, ◌++◌, ⊤, Option, Some, None, IfSome, Contains}
 use Rattle.std.specs.Borrow.{Bor}
 use Rattle.std.specs.List.{AllByRecursion}
 use Rattle.fm_grammar.specs.declared.MetricType.{MetricType}
 use Rattle.fm_grammar.specs.declared.SampleKind.{SampleKind}
-use Rattle.fm_grammar.specs.declared.SampleKind.TheVariants.{Total, Bucket}
 use Rattle.fm_grammar.specs.Exposition.{Text, Label, Value, Millis, Exemplar}
 use Rattle.fm_grammar.specs.Kinds.{suffix_of}
 use Rattle.fm_grammar.specs.Numbers.{fixed_text}
@@ -28,6 +27,11 @@ IsAfterSuffix kind text (Some rest) = EndsName rest × (text ≡ suffix_of kind 
 abbrev pub seen_kind : Option (SampleKind × Bor Text) → Option (SampleKind × Text)
 seen_kind None = None
 seen_kind (Some (kind, rest)) = Some (kind, rest.now)
+
+-- the text is that of valid labels
+pub record IsListText (text : Text) (labels : List Label) : Type 0 where
+  pub is : text ≡ label_list_text labels
+  pub valid : AreLabels labels
 
 -- labels after an opening brace, then the closing brace and a space
 abbrev pub IsBracesFront : Text → Option (List Label × Text) → Type 0

@@ -1,5 +1,5 @@
 -- The states of a reader, and the state that a line leads to.
-use Rattle.std.specs.Prelude.{◌≡◌, List, Option, Some, None, string_bytes, []}
+use Rattle.std.specs.Prelude.{◌≡◌, Bool, true, false, List, Option, Some, None, string_bytes, []}
 use Rattle.std.specs.declared.alloc.Global.{Global}
 use Rattle.std.specs.declared.vec.Vec.{Vec}
 use Rattle.fm_exposition.specs.declared.exposition.FamilySamples.{FamilySamples}
@@ -9,8 +9,9 @@ use Rattle.fm_grammar.specs.Names.{IsSnakeCase}
 use Rattle.fm_grammar.specs.WellFormed.{UnitFits, UnitAllowed, IsSample}
 use Rattle.fm_grammar.specs.Document.{IsTypeLine, IsUnitLine, IsSampleLine}
 use Rattle.fm_grammar.specs.Reading.{IsNewName}
-use Rattle.fm_grammar.specs.inside.Lines.{State, Follows, IsEnded}
+use Rattle.fm_grammar.specs.inside.Lines.{State, Follows, IsEnded, with_sample}
 use Rattle.fm_grammar.specs.inside.Lines as grammar
+use Rattle.fm_reader.specs.inside.Lines.{FoundSample}
 use Rattle.fm_reader.specs.declared.machine.Reading.{Reading}
 use Rattle.fm_reader.specs.declared.machine.Reading.TheVariants.{Open, Headed, Ended}
 
@@ -30,6 +31,11 @@ IsStepWithin finished family line None =
     ((unit : Text) → IsUnitLine line family.name unit → family.unit ≡ None → family.samples ≡ [] → UnitFits family.name (Some unit) → UnitAllowed family.metric_type (Some unit) → ⊥)
     × ((sample : Sample) → IsSampleLine line family.name sample → IsSample family.metric_type sample → ⊥)
 IsStepWithin finished family line (Some reading) = Follows (grammar.Open finished (Some family)) line (reading_state reading)
+
+-- the line is a sample line of the family, which then has the sample as its last one, or it is none
+abbrev pub IsSampleAdded : Family → Text → Bool → Family → Type 0
+IsSampleAdded old line true new = (sample : Sample) × FoundSample line old.name old.metric_type (Some sample) × (new ≡ with_sample old sample)
+IsSampleAdded old line false new = FoundSample line old.name old.metric_type None
 
 -- a family's name and its type, if no other family has the name
 abbrev pub FoundNewType : List Family → Text → Option (Text × MetricType) → Type 0

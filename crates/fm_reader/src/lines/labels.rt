@@ -52,8 +52,9 @@ pub(crate) fn read_braces(
     Ok(Some((labels, rest)))
 }
 
-// Whether no name comes twice. Few names are compared with each other.
-fn are_different(alloc: Global, labels: &LabelList) -> Result<bool, AllocError>
+/// Whether no name comes twice. Few names are compared with each other.
+#[inline(always)]
+pub(crate) fn are_different(alloc: Global, labels: &LabelList) -> Result<bool, AllocError>
     ensures { IfOk result
         (λ different. IsTrue different
         ↔ AllDifferent (map (λ label. label.name) labels.now)) }
@@ -61,6 +62,16 @@ fn are_different(alloc: Global, labels: &LabelList) -> Result<bool, AllocError>
     if labels.len() <= FEW {
         return Ok(few_are_different(labels));
     }
+    many_are_different(alloc, labels)
+}
+
+// Whether no name comes twice, where a set has those before each.
+#[inline(never)]
+fn many_are_different(alloc: Global, labels: &LabelList) -> Result<bool, AllocError>
+    ensures { IfOk result
+        (λ different. IsTrue different
+        ↔ AllDifferent (map (λ label. label.name) labels.now)) }
+{
     let mut names = BTreeSet::new(alloc);
     for index in 0..labels.len() {
         if !names.insert(labels.at(index).0)? {
@@ -71,6 +82,7 @@ fn are_different(alloc: Global, labels: &LabelList) -> Result<bool, AllocError>
 }
 
 // Whether no name comes twice, where each is compared with those before it.
+#[inline(always)]
 fn few_are_different(labels: &LabelList) -> bool
     ensures { IsTrue result ↔ AllDifferent (map (λ label. label.name) labels.now) }
 {
@@ -82,8 +94,9 @@ fn few_are_different(labels: &LabelList) -> bool
     true
 }
 
-// Whether none of the labels before an index has this name.
-fn is_new(labels: &LabelList, before: usize, name: &str) -> bool
+/// Whether none of the labels before an index has this name.
+#[inline(always)]
+pub(crate) fn is_new(labels: &LabelList, before: usize, name: &str) -> bool
     requires { before ≤ length labels.now }
     ensures { IsTrue result
         ↔ AllByRecursion (λ other. other ≢ name.now)

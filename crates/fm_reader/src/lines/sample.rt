@@ -5,20 +5,20 @@ ghost use Rattle.fm_reader.specs.inside.Lines.{FoundSample};
 ghost use Rattle.fm_reader.specs.inside.Parts.{EndsName, IsAfterSuffix, IsKindFront, seen_kind};
 ghost use Rattle.fm_reader.specs.inside.Samples.{read_sample_of};
 
-use crate::lines::labels::read_block;
+use crate::lines::shared::{ReadLabels, own_start, read_shared};
 use crate::lines::values::read_values;
+use crate::samples::ReadSamples;
 use fm_exposition::{Exemplar, Value};
 use fm_grammar::{MetricType, SampleKind};
-use fm_text::LabelList;
 use std::alloc::{AllocError, Global};
 
 /// A sample as it was read.
 #[derive(Drop)]
-pub(crate) struct ReadSample {
+pub(crate) struct ReadSample<'a> {
     /// Its kind, which decides the suffix of its name.
     pub kind: SampleKind,
     /// Its labels in order.
-    pub labels: LabelList,
+    pub labels: ReadLabels<'a>,
     /// Its value.
     pub value: Value,
     /// Its timestamp in milliseconds, if it has one.
@@ -27,17 +27,20 @@ pub(crate) struct ReadSample {
     pub exemplar: Option<Exemplar>,
 }
 
-/// The sample on a line of the family with this name and type, or None if the text is not such a line.
+/// The sample on a line of the family with this name and type, or None if the text is not such a line. The samples
+/// before it are given, as it may share labels with the last of them.
 ///
 /// Fails if there is no memory.
-pub(crate) fn read_sample(
+pub(crate) fn read_sample<'a>(
     alloc: Global,
     name: &str,
     metric_type: MetricType,
-    line: &str,
-) -> Result<Option<ReadSample>, AllocError>
+    before: &ReadSamples<'a>,
+    line: &'a str,
+) -> Result<Option<ReadSample<'a>>, AllocError>
     ensures { IfOk result
-        (λ found. FoundSample line.now name.now metric_type (option_map read_sample_of found)) }
+        (λ found. FoundSample line.now name.now metric_type
+        (option_map (read_sample_of before.now.common) found)) }
 {
     let Some(after) = line.strip_prefix(name) else {
         return Ok(None);
@@ -45,7 +48,8 @@ pub(crate) fn read_sample(
     let Some((kind, block)) = read_kind(metric_type, after) else {
         return Ok(None);
     };
-    let Some((labels, text)) = read_block(alloc, block)? else {
+    let own_start = own_start(metric_type, kind);
+    let Some((labels, text)) = read_shared(alloc, before, own_start, block)? else {
         return Ok(None);
     };
     let Some(values) = read_values(alloc, kind, text)? else {

@@ -42,6 +42,7 @@ pub(crate) fn read_escaped(alloc: Global, text: &str) -> Result<Option<(String, 
 }
 
 // The text up to a quote, which has no escape, and the text after the quote; None if the text does not begin so.
+#[inline(always)]
 fn split_plain(text: &str) -> Option<(&str, &str)>
     ensures { IsPlainCut text.now result }
 {
@@ -53,6 +54,7 @@ fn split_plain(text: &str) -> Option<(&str, &str)>
 }
 
 /// Reads a label at the start and adds it to a list. Returns the text after it; None if the text does not begin with a label.
+#[inline(always)]
 pub(crate) fn read_label<'a>(
     alloc: Global,
     labels: &mut LabelList,

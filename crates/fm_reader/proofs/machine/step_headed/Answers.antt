@@ -9,4 +9,4 @@ returns-in_default-clause-step c =
 
 pub returns-clause-step : goal.returns-clause-step
 returns-clause-step c =
-    headed_follows _ (string_bytes c.args.name) c.deref.result.now (string_bytes c.in-Some.help) _ _ _ c.new-3.result.samples c.deref.ensures (ap (option_map string_bytes) c.in-Some.is) (ap (λ s. s.samples) c.new-3.ensures) c.in_ok-help.ensures
+    headed_follows _ (string_bytes c.args.name) c.deref.result.now (string_bytes c.in-Some.help) _ _ _ c.in_ok-samples.samples.samples c.deref.ensures (ap (option_map string_bytes) c.in-Some.is) (ap (λ s. s.samples) c.in_ok-samples.ensures) c.in_ok-help.ensures

@@ -1,7 +1,7 @@
 use Rattle.std.proofs.Common.{take}
 use Rattle.fm_grammar.specs.Names.{AllDifferent}
 use Rattle.fm_reader.proofs.NameSets.{Holds, names_of}
-use Rattle.fm_reader.proofs.lines.labels.are_different.Given as goal
+use Rattle.fm_reader.proofs.lines.labels.many_are_different.Given as goal
 
 -- the names so far differ, and the set has them
 abbrev pub invariant-loop-index : goal.invariant-loop-index

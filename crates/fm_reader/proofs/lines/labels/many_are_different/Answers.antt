@@ -1,7 +1,7 @@
-use Rattle.std.proofs.Common.{rules, [], ◌<◌, length, true≢false, sym, ◌∙◌, arith}
+use Rattle.std.proofs.Common.{rules, [], ◌<◌, length, true≢false, sym, arith}
 use Rattle.fm_text.specs.LabelPairs.{shown_label}
 use Rattle.fm_reader.proofs.NameSets.{names_of, names_at, names_length, name_twice, name_new, name_held}
-use Rattle.fm_reader.proofs.lines.labels.are_different.Goals as goal
+use Rattle.fm_reader.proofs.lines.labels.many_are_different.Goals as goal
 
 pub returns-then-not-branch : goal.returns-then-not-branch
 returns-then-not-branch c =
