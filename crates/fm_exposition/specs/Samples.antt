@@ -1,6 +1,8 @@
 -- How contracts see values, exemplars and samples.
 use Rattle.std.specs.Prelude.{List, ◌++◌, map}
 use Rattle.std.specs.Arc.{arc_value}
+use Rattle.std.specs.Box.{box_value}
+use Rattle.std.specs.Global.{Box}
 use Rattle.std.specs.Option.{option_map}
 use Rattle.std.specs.Borrow.{Bor}
 use Rattle.std.specs.declared.alloc.Global.{Global}
@@ -25,6 +27,10 @@ exemplar_of exemplar = record { labels = labels_of exemplar.labels.items; value 
 abbrev pub exemplar_at : Bor Exemplar → grammar.Exemplar
 exemplar_at exemplar = exemplar_of exemplar.now
 
+-- an exemplar in a box
+abbrev pub boxed_exemplar : Box Exemplar → grammar.Exemplar
+boxed_exemplar exemplar = exemplar_of (box_value exemplar)
+
 -- labels that samples share
 abbrev pub shared_labels : Arc (List Label) Global → List Label
 shared_labels shared = arc_value shared
@@ -42,7 +48,7 @@ sample_of sample = record {
   labels = common_labels sample ++ own_labels sample;
   value = value_of sample.value;
   time = sample.time;
-  exemplar = option_map exemplar_of sample.exemplar;
+  exemplar = option_map boxed_exemplar sample.exemplar;
 }
 
 abbrev pub samples_of : List Sample → List grammar.Sample

@@ -167,7 +167,7 @@ fn is_same_sample(one: &Sample, other: &Sample) -> bool
         && same_joined_labels(one, other)
         && one.value == other.value
         && one.time == other.time
-        && one.exemplar == other.exemplar
+        && one.exemplar() == other.exemplar()
 }
 
 // Whether two families have the same parts.

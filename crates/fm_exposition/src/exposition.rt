@@ -43,7 +43,8 @@ pub struct Sample {
     pub(crate) own: LabelList,
     pub(crate) value: Value,
     pub(crate) time: Option<u128>,
-    pub(crate) exemplar: Option<Exemplar>,
+    // Most samples have none, so it doesn't stand among them.
+    pub(crate) exemplar: Option<Box<Exemplar>>,
 }
 
 /// A family with its samples.
@@ -181,7 +182,7 @@ impl Sample {
     pub fn exemplar(&self) -> Option<&Exemplar>
         ensures { option_map exemplar_at result ≡ (sample_of self.now).exemplar }
     {
-        self.exemplar.as_ref()
+        self.exemplar.as_deref()
     }
 }
 

@@ -1,8 +1,8 @@
 //! The samples of a family while they are collected point by point.
-ghost use Rattle.std.specs.Prelude.{◌≡◌, ◌+◌, ◌^◌, ◌<◌, ℕ, List, [], ◌∷◌, ◌++◌, OnOk, OnErr, IfOk};
+ghost use Rattle.std.specs.Prelude.{◌≡◌, ◌+◌, ◌^◌, ◌<◌, ℕ, List, [], ◌∷◌, ◌++◌, length, OnOk, OnErr, IfOk};
 ghost use Rattle.std.specs.Option.{option_map};
 ghost use Rattle.fm_exposition.specs.inside.Points.{AreInPoints, HaveUtf8Labels};
-ghost use Rattle.fm_exposition.specs.Samples.{shared_labels, value_of, exemplar_of, samples_of};
+ghost use Rattle.fm_exposition.specs.Samples.{shared_labels, value_of, exemplar_of, boxed_exemplar, samples_of};
 
 use crate::exposition::{CommonLabels, Exemplar, Sample, Value};
 use fm_grammar::SampleKind;
@@ -14,6 +14,7 @@ use std::mem;
 /// The samples of points, in order. Those of one point share one list of common labels.
 #[derive(Debug, Drop)]
 pub struct SampleStore {
+    alloc: Global,
     samples: Vec<Sample>,
     // The number of samples of each point.
     counts: Vec<usize>,
@@ -42,6 +43,7 @@ impl SampleStore {
     {
         common.hold_utf8();
         SampleStore {
+            alloc,
             samples: Vec::new(alloc),
             counts: Vec::new(alloc),
             common,
@@ -102,19 +104,21 @@ impl SampleStore {
         ensures kept { OnErr result (self.new.samples ≡ self.old.samples) }
     {
         own.hold_utf8();
+        let exemplar = boxed(self.alloc, exemplar)?;
         if !self.is_under_way {
             self.counts.push(0)?;
             self.is_under_way = true;
         }
         let common = self.common.clone()?;
-        self.samples.push(Sample {
+        let sample = Sample {
             kind,
             common,
             own,
             value,
             time,
             exemplar,
-        })?;
+        };
+        push_sample(&mut self.samples, sample)?;
         count_one(&mut self.counts);
         Ok(())
     }
@@ -138,6 +142,29 @@ impl SampleStore {
     {
         (self.counts.as_slice(), self.samples.as_slice())
     }
+}
+
+// The exemplar in a box, if there is one.
+fn boxed(alloc: Global, exemplar: Option<Exemplar>) -> Result<Option<Box<Exemplar>>, AllocError>
+    ensures { IfOk result (λ boxed. option_map boxed_exemplar boxed ≡ option_map exemplar_of exemplar) }
+{
+    match exemplar {
+        Some(exemplar) => Ok(Some(Box::new(alloc, exemplar)?)),
+        None => Ok(None),
+    }
+}
+
+// Adds a sample at the end. The first one gets room for itself alone, since many families have no more.
+fn push_sample(samples: &mut Vec<Sample>, sample: Sample) -> Result<(), AllocError>
+    ensures pushed { OnOk result (samples.new.items ≡ samples.old.items ++ sample ∷ []) }
+    ensures kept { OnErr result (samples.new.items ≡ samples.old.items) }
+    ensures bound { length samples.new.items < 2 ^ 63 }
+{
+    if samples.as_slice().is_empty() {
+        samples.reserve_exact(1)?;
+    }
+    samples.push(sample)?;
+    Ok(())
 }
 
 // Counts one more sample of the last point.

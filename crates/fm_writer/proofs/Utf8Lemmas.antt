@@ -2,6 +2,8 @@
 use Rattle.std.proofs.Common.{◌≡◌, ℕ, zero, suc, ◌<◌, ◌≤◌, ◌+◌, add-one, List, [], ◌∷◌, ◌++◌, arith, refl, Option, Some, None, IfSome, codes, get_or, length, take, subst}
 use Rattle.std.proofs.lemmas.Str.{IsUtf8-append, IsUtf8-nil, IsUtf8-string_bytes}
 use Rattle.std.specs.List.{AllByRecursion}
+use Rattle.std.specs.Box.{box_value}
+use Rattle.std.specs.Global.{Box}
 use Rattle.std.specs.Option.{option_map}
 use Rattle.std.specs.Str.{IsUtf8}
 use Rattle.std.specs.declared.alloc.Global.{Global}
@@ -24,7 +26,7 @@ use Rattle.fm_grammar.proofs.Words.{IsWordByte, suffix_bytes, type_word_bytes}
 use Rattle.fm_exposition.specs.Rows.{sample_rows, unit_row, head_rows}
 use Rattle.fm_exposition.specs.inside.DocumentRows.{family_rows, families_rows, document_rows}
 use Rattle.fm_text.specs.LabelPairs.{labels_of}
-use Rattle.fm_exposition.specs.Samples.{exemplar_of, common_labels, own_labels, samples_of}
+use Rattle.fm_exposition.specs.Samples.{boxed_exemplar, common_labels, own_labels, samples_of}
 use Rattle.fm_exposition.specs.declared.exposition.Exemplar.{Exemplar as StoredExemplar}
 use Rattle.fm_exposition.specs.declared.exposition.Sample.{Sample as StoredSample}
 use Rattle.fm_text.specs.inside.LabelLists.{AreUtf8Labels}
@@ -134,9 +136,9 @@ labels_utf8 : (pairs : List (String Global × String Global)) → AreUtf8Labels 
 labels_utf8 [] = tt
 labels_utf8 (pair ∷ pairs) = (IsUtf8-string_bytes pair.1, labels_utf8 pairs)
 
-stored_exemplar : (x : Option StoredExemplar) → IfSome (option_map exemplar_of x) (λ exemplar. AreUtf8Labels exemplar.labels)
+stored_exemplar : (x : Option (Box StoredExemplar)) → IfSome (option_map boxed_exemplar x) (λ exemplar. AreUtf8Labels exemplar.labels)
 stored_exemplar None = tt
-stored_exemplar (Some x) = labels_utf8 x.labels.items
+stored_exemplar (Some x) = labels_utf8 (box_value x).labels.items
 
 -- samples as they are kept
 pub stored_samples : (samples : List StoredSample) → HaveUtf8Labels samples → AllByRecursion IsUtf8Sample (samples_of samples)

@@ -1,5 +1,5 @@
 -- The lines of a whole document, as loops write them.
-use Rattle.std.specs.Prelude.{List, ◌++◌, codes}
+use Rattle.std.specs.Prelude.{◌++◌, codes}
 use Rattle.std.specs.List.{flat_map}
 use Rattle.fm_grammar.specs.Exposition.{Text, Family, Exposition}
 use Rattle.fm_exposition.specs.Rows.{sample_rows, head_rows}

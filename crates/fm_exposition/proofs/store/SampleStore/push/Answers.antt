@@ -24,8 +24,8 @@ invariant_of-self-in_err-common c =
     ] in
     record { cut = rw has.0 has.1; common_utf8 = has.2; samples_utf8 = has.3 }
 
-pub invariant_of-self-in_err-push-2 : goal.invariant_of-self-in_err-push-2
-invariant_of-self-in_err-push-2 c =
+pub invariant_of-self-in_err-push_sample : goal.invariant_of-self-in_err-push_sample
+invariant_of-self-in_err-push_sample c =
     let inside = c.self.inside in
     let has : HasPoint c.if-not-self.self-inside = elim c.if-not-self.branch as (λ _. HasPoint c.if-not-self.self-inside) [
       | then-not-self+in_ok-push w ↦
@@ -35,7 +35,7 @@ invariant_of-self-in_err-push-2 c =
           (let begun : inside.is_under_way ≡ true = search rules in
           subst HasPoint (sym w.self-inside-is) (begun, rw begun at c.self.invariant.cut, c.self.invariant.common_utf8, c.self.invariant.samples_utf8))
     ] in
-    let same : c.push-2.new.self.items ≡ c.if-not-self.self-inside.samples.items = search rules in
+    let same : c.push_sample.new.samples.items ≡ c.if-not-self.self-inside.samples.items = search rules in
     record { cut = rw (has.0, same) has.1; common_utf8 = has.2; samples_utf8 = rw same has.3 }
 
 pub count_one-requires : goal.count_one-requires
@@ -67,7 +67,7 @@ invariant_of-self-2 c =
     let s = c.if-not-self.self-inside in
     let same : shared_labels c.in_ok-common.common ≡ shared_labels s.common = search rules in
     record {
-      cut = rw (has.0, c.in_ok-push-2.ensures.items) (cut_pushed (shared_labels s.common) s.counts.items c.count_one.new.counts.items s.samples.items _ has.1 same c.count_one.ensures);
+      cut = rw (has.0, c.in_ok-push_sample.ensures.pushed) (cut_pushed (shared_labels s.common) s.counts.items c.count_one.new.counts.items s.samples.items _ has.1 same c.count_one.ensures);
       common_utf8 = has.2;
-      samples_utf8 = rw c.in_ok-push-2.ensures.items (utf8_pushed s.samples.items _ has.3 (subst AreUtf8Labels (sym same) has.2) c.hold_utf8.ensures);
+      samples_utf8 = rw c.in_ok-push_sample.ensures.pushed (utf8_pushed s.samples.items _ has.3 (subst AreUtf8Labels (sym same) has.2) c.hold_utf8.ensures);
     }
