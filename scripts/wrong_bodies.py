@@ -63,9 +63,9 @@ class Function:
         head = IMPL.match(re.sub(r"<dyn (\w+)>", r"Dyn\1", block))
         # The type and the trait of a method, as a check joins them; nothing where they have parameters.
         self.owner = head[2][:1].upper() + head[2][1:] + (head[1] or "") if head else ""
-        # Whether a copy may stand beside it, unless it calls itself: it is no method of a trait.
         self.block = "\n".join([block, *(it for it in lines[above:fn] if it.startswith("    ghost use "))]) if head else ""
         self.text = "\n".join(lines[self.first : self.last + 1])
+        # Whether a copy may stand beside it, unless it calls itself: it is no method of a trait.
         self.may_be_copied = is_within and (not indent or head is not None and not head[1])
         # What --only takes: the end of the function's path, or the module.
         path = [self.owner, self.name] if head else [*module, self.name] if is_within and not indent else module
