@@ -5,7 +5,7 @@
 #
 # It runs the tests as they were proved and built (`rt ci` and `rt test` leave crates/NAME/out/NAME_tests) with scripts/memory.c loaded before the C library,
 # which counts the requests of a process and refuses the Nth. Each story is a pair of tests: `.._without_refusals`, whose requests
-# are counted and which has to fail whichever of them is refused, and `.._after_a_refusal`, which has to pass. A document of 1,000
+# are counted and which has to fail whichever of them is refused, and `.._after_a_refusal`, which has to pass. A document of 5,000
 # lines is written with at most two requests more than it is collected with. PROGRAMS=FOLDER takes FOLDER/NAME_tests instead.
 set -u
 
@@ -69,11 +69,11 @@ for crate; do
     done
 done
 
-# Writing a document of 1,000 lines asks for memory at most twice.
+# Writing a document of 5,000 lines asks for memory at most twice.
 if [[ -x $scratch/fm_tests_memory ]]; then
     all=$(count fm_tests_memory trees::lines::prints_without_refusals) &&
         before=$(count fm_tests_memory trees::lines::collects_without_refusals) || exit 1
-    echo "writing 1,000 lines asks for memory $((all - before)) times"
+    echo "writing 5,000 lines asks for memory $((all - before)) times"
     [[ $((all - before)) -le 2 ]] || { echo "FAILED: more than twice"; failed=1; }
 fi
 echo "$requests_in_all requests of $stories stories refused in turn: $([[ $failed == 0 ]] && echo all is well || echo FAILED)"
