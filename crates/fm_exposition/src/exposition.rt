@@ -43,7 +43,7 @@ pub struct Sample {
     pub(crate) own: LabelList,
     pub(crate) value: Value,
     pub(crate) time: Option<u128>,
-    // Most samples have none, so it doesn't stand among them.
+    // Most samples have none, so it stands in a box of its own.
     pub(crate) exemplar: Option<Box<Exemplar>>,
 }
 
