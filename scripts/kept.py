@@ -1,30 +1,45 @@
 """For the scripts beside it: what was refused on this machine before, by the checksum of all that the verdict rests on.
 
 A refusal is kept in ~/.cache/fastmetrics, or in the folder that FASTMETRICS_KEPT names; with FASTMETRICS_KEPT= nothing is kept, and all is tried.
-What was not refused is never kept. A verdict rests on the kit, on the scripts, on the crate with the bodies planted, and on all crates below it.
+What was not refused is never kept. A verdict rests on the kit, on scripts, on files of the crates, and on the bodies that are planted: where a check gives
+it, on the crate's own files and on the libraries below as they were built, which hold what a check may read of them; where a test does, on the sources of
+the crate and of all below it, without their comments.
 """
 import hashlib
 import json
 import os
+import re
 
 FOLDER = os.environ.get("FASTMETRICS_KEPT", os.path.expanduser("~/.cache/fastmetrics"))
 
 
-def files_of(folder):
-    """The files that a check or a compilation of a crate reads, in order."""
-    for part in ("src", "specs", "proofs"):
-        for at, folders, names in os.walk(f"{folder}/{part}"):
-            folders.sort()
+def files_in(folders):
+    """The files in these folders, in order."""
+    for folder in folders:
+        for at, below, names in os.walk(folder):
+            below.sort()
             yield from (f"{at}/{name}" for name in sorted(names))
 
 
-def sum_of(kit, scripts, crates, bodies):
-    """The checksum of a kit, of these scripts and crates, and of the bodies that are planted in them."""
+def name_of(path):
+    """A name of the file that is the same in each checkout."""
+    in_crates = re.search(r"/crates/(\w+/(?:src|specs|proofs)/.*)", path)
+    return in_crates[1] if in_crates else os.path.basename(path)
+
+
+def without_comments(data):
+    """A source without its lines of comments."""
+    return b"".join(line for line in data.splitlines(keepends=True) if not line.lstrip().startswith(b"//"))
+
+
+def sum_of(files, sources, bodies):
+    """The checksum of these files, of these sources without their comments, and of the bodies that are planted."""
     found = hashlib.sha256()
-    for path in [f"{kit}/KIT-ID", *scripts, *(path for crate in crates for path in files_of(crate.folder))]:
+    for path, is_source in [(it, False) for it in files] + [(it, True) for it in sources]:
         with open(path, "rb") as file:
-            found.update(f"{os.path.relpath(path, os.path.dirname(os.path.dirname(crates[0].folder)))}\n".encode())
-            found.update(hashlib.sha256(file.read()).digest())
+            data = without_comments(file.read()) if is_source else file.read()
+        found.update(f"{name_of(path)}\n".encode())
+        found.update(hashlib.sha256(data).digest())
     for body in bodies:
         found.update(json.dumps([body.crate.name, body.title, body.tests, body.file, body.pairs]).encode())
     return found.hexdigest()

@@ -162,7 +162,8 @@ def tried_or_kept(bodies, crates):
     if are_scripts(bodies[0]):
         scripts += sorted(glob.glob(f"{TOP}/scripts/*.sh") + glob.glob(f"{TOP}/bench/replay/**/*.*", recursive=True))
     scripts += [f"{crate.folder}/cases.toml"] * are_cases(bodies[0]) + [f"{crate.folder}/stdin"] * request_of(bodies[0]).isdigit()
-    key = kept.sum_of(KIT, scripts, [crate, *crate.below(crates)], bodies)
+    sources = kept.files_in(f"{it.folder}/src" for it in [crate, *crate.below(crates)])
+    key = kept.sum_of([f"{KIT}/KIT-ID", *scripts], sources, bodies)
     found = kept.given(key)
     if found:
         return [(body, failed, "") for body, failed in zip(bodies, found)]

@@ -243,12 +243,17 @@ class Crate:
         is_proved = lambda it: re.search(rf"^fn \S*\b{it.name}: proved(?:, may wait)?$", said, re.M) is not None
         return [it for it, in functions], [it for it, in functions if not is_proved(it)]
 
+    def rests_on(self, crates, run):
+        """The files that a verdict of a check rests on, beside the crate's sources. The format of a built library has a sum of all its files."""
+        built = [f"{run.rlibs(it)}/{it.name}.rlib/format" for it in self.below(crates)]
+        return [f"{KIT}/KIT-ID", os.path.realpath(__file__), *built, *kept.files_in([f"{self.folder}/specs", f"{self.folder}/proofs"])]
+
     def tried(self, crates, run):
         """Each of its wrong bodies, with the least that is said of it: the kind of what refuses it and its text, or None."""
         answers = []
         with tempfile.TemporaryDirectory(prefix="wrong-bodies-kept-") as proved:
             for batch in self.batches():
-                key = kept.sum_of(KIT, [os.path.realpath(__file__)], [self, *self.below(crates)], batch)
+                key = kept.sum_of(self.rests_on(crates, run), kept.files_in([f"{self.folder}/src"]), batch)
                 found = kept.given(key) or self.refusals_of(batch, crates, run, proved)
                 if all(it and it[0] < 2 for it in found):
                     kept.keep(key, found)
