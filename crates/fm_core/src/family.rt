@@ -25,6 +25,7 @@ use fm_exposition::{Exposition, FamilySamples, SampleStore, make};
 use fm_raw::{Metadata, Unit};
 use std::alloc::{AllocError, Global};
 use std::marker::Model;
+use std::mem;
 
 // The number of bytes that a text takes together with an underscore.
 fn room_of(text: Option<&str>) -> usize {
@@ -168,7 +169,6 @@ fn family_of<M: EncodeMetric>(
 }
 
 /// Gathers the families of a registry and all below it, one after the other. `collect` alone makes it.
-#[derive(Drop)]
 pub struct MetricFamilyEncoder<'a> {
     alloc: Global,
     scope: Scope<'a>,
@@ -196,6 +196,19 @@ impl<'a> Model for MetricFamilyEncoder<'a> {
     } };
 
     ghost invariant = { IsCollecting };
+}
+
+impl<'a> Drop for MetricFamilyEncoder<'a> {
+    fn drop(self) {
+        let MetricFamilyEncoder {
+            alloc: _,
+            scope: _,
+            families: _,
+            refused: _,
+            encoder: _,
+            name: _,
+        } = self;
+    }
 }
 
 impl<'a> MetricFamilyEncoder<'a> {
@@ -263,17 +276,14 @@ impl<'a> MetricFamilyEncoder<'a> {
     }
 
     // The families, or the first refusal.
-    pub(crate) fn end(self) -> Result<Exposition, EncodeError>
+    pub(crate) fn end(mut self) -> Result<Exposition, EncodeError>
         ensures { MatchResult result
             (λ e. (self.entry.refused ≡ None) × (e ≡ self.entry.families))
             (λ k. self.entry.refused ≡ Some k) }
     {
-        let MetricFamilyEncoder {
-            families,
-            refused,
-            ..
-        } = self;
-        match refused.error {
+        let none = Vec::new(self.alloc);
+        let families = mem::replace(&mut self.families, none);
+        match self.refused.error {
             Some(error) => Err(error),
             None => Ok(make::exposition(families)),
         }

@@ -19,13 +19,21 @@ pub(crate) fn is_below(name: &str, text: &str) -> bool
 
 // A metric's metadata with its tail, which alone is compared and hashed. The tail is the name, or the name, an
 // underscore and the unit.
-#[derive(Drop)]
 #[derive_where(PartialEq, Eq, Hash)]
 pub struct Tailed {
     tail: String,
     #[derive_where(skip(EqHashOrd))]
     metadata: Metadata,
     pub ghost fits: { string_bytes tail ≡ metadata_tail metadata },
+}
+
+impl Drop for Tailed {
+    fn drop(self) {
+        let Tailed {
+            tail: _,
+            metadata: _,
+        } = self;
+    }
 }
 
 impl Tailed {
@@ -59,6 +67,7 @@ impl Tailed {
     pub(crate) fn into_name(self) -> String
         ensures { result ≡ self.metadata.name }
     {
-        self.metadata.into_name()
+        let Tailed { tail: _, metadata } = self;
+        metadata.into_name()
     }
 }

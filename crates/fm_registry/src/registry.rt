@@ -20,16 +20,33 @@ use std::fmt::{self, Debug, Formatter};
 use std::marker::Model;
 pub use subsystem_builder::RegistrySubsystemBuilder;
 
+// A registry without what is below it.
+struct Facts<M> {
+    namespace: Option<String>,
+    const_labels: Option<Vec<(String, String)>>,
+    depth: usize,
+    metrics: Option<IndexMap<Tailed, M>>,
+}
+
+// By hand, since each function that has a registry of its own would list all parts of a derived one.
+impl<M: Drop> Drop for Facts<M> {
+    fn drop(self) {
+        let Facts {
+            namespace: _,
+            const_labels: _,
+            depth: _,
+            metrics: _,
+        } = self;
+    }
+}
+
 /// A registry of metrics, with its subsystems. Contracts see it as a `Tree`.
 ///
 /// An empty registry takes no memory.
 #[derive(Drop)]
 #[cycle(tree)]
 pub struct Registry<M = Box<dyn EncodeMetric>> {
-    namespace: Option<String>,
-    const_labels: Option<Vec<(String, String)>>,
-    depth: usize,
-    metrics: Option<IndexMap<Tailed, M>>,
+    facts: Facts<M>,
     subsystems: Option<Vec<Subsystem<M>>>,
 }
 
@@ -70,10 +87,12 @@ impl<M> Default for Registry<M> {
 
     fn default() -> Registry<M> {
         Registry {
-            namespace: None,
-            const_labels: None,
-            depth: 0,
-            metrics: None,
+            facts: Facts {
+                namespace: None,
+                const_labels: None,
+                depth: 0,
+                metrics: None,
+            },
             subsystems: None,
         }
     }
@@ -107,7 +126,7 @@ impl<M> Registry<M> {
         ensures history { (b : _) → Shows self.now b
             → option_map (λ namespace. namespace.now) result ≡ namespace_at b [] }
     {
-        match &self.namespace {
+        match &self.facts.namespace {
             Some(namespace) => Some(namespace.as_str()),
             None => None,
         }
@@ -118,14 +137,14 @@ impl<M> Registry<M> {
         ensures tree { labels_of result.now ≡ self.now.facts.labels }
         ensures history { (b : _) → Shows self.now b → labels_of result.now ≡ labels_at b [] }
     {
-        labels_of_option(&self.const_labels)
+        labels_of_option(&self.facts.const_labels)
     }
 
     /// How many metrics are registered in this registry, without those of its subsystems.
     pub fn metric_count(&self) -> usize
         ensures { result ≡ length (own_metrics self.now.facts) }
     {
-        match &self.metrics {
+        match &self.facts.metrics {
             Some(metrics) => metrics.len(),
             None => 0,
         }
@@ -135,7 +154,7 @@ impl<M> Registry<M> {
     pub fn metric_at(&self, index: usize) -> Option<ListedMetric<'_, M>>
         ensures { option_map seen_listed result ≡ slice_get (own_metrics self.now.facts) index }
     {
-        match &self.metrics {
+        match &self.facts.metrics {
             Some(metrics) => metric_in(self.namespace(), self.constant_labels(), metrics, index),
             None => None,
         }

@@ -28,7 +28,7 @@ module _ {M : Type 0} where
 
   -- a registry without what is below it
   abbrev pub facts_of : Inside M → Facts M
-  facts_of a = record { namespace = option_map string_bytes a.namespace; labels = seen_labels a.const_labels; depth = a.depth; metrics = metrics_in a.metrics }
+  facts_of a = record { namespace = option_map string_bytes a.facts.namespace; labels = seen_labels a.facts.const_labels; depth = a.facts.depth; metrics = metrics_in a.facts.metrics }
 
   -- a registry as a tree
   abbrev pub tree_of : Inside M → Tree M

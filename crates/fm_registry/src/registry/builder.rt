@@ -8,18 +8,26 @@ ghost use Rattle.fm_registry.specs.View.{seen_labels};
 ghost use Rattle.fm_registry.specs.inside.RootLabels.{takes_namespace, takes_labels};
 ghost use Rattle.fm_registry.specs.HasHistory.{IsNewRoot};
 
-use super::Registry;
+use super::{Facts, Registry};
 use crate::labels::tested_root_labels;
 use fm_raw::is_snake_case;
 use fm_registry_model::RegistryError;
 
 /// Sets up a root. The namespace and the labels are both optional.
-#[derive(Drop)]
 pub struct RegistryBuilder {
     namespace: Option<String>,
     const_labels: Option<Vec<(String, String)>>,
     pub ghost namespace_taken: { IsTrue (takes_namespace (option_map string_bytes namespace)) },
     pub ghost labels_taken: { IsTrue (takes_labels (seen_labels const_labels)) },
+}
+
+impl Drop for RegistryBuilder {
+    fn drop(self) {
+        let RegistryBuilder {
+            namespace: _,
+            const_labels: _,
+        } = self;
+    }
 }
 
 /// A builder with no namespace and no labels.
@@ -57,9 +65,13 @@ impl RegistryBuilder {
         if !is_snake_case(namespace.as_str()) {
             return Err(RegistryError::InvalidNamespace { namespace });
         }
+        let RegistryBuilder {
+            namespace: _,
+            const_labels,
+        } = self;
         Ok(RegistryBuilder {
             namespace: Some(namespace),
-            const_labels: self.const_labels,
+            const_labels,
         })
     }
 
@@ -77,8 +89,12 @@ impl RegistryBuilder {
         ensures answer { refusal_of result ≡ root_labels_refusal (labels_of labels.items) }
     {
         let labels = tested_root_labels(labels)?;
+        let RegistryBuilder {
+            namespace,
+            const_labels: _,
+        } = self;
         Ok(RegistryBuilder {
-            namespace: self.namespace,
+            namespace,
             const_labels: Some(labels),
         })
     }
@@ -98,11 +114,18 @@ impl RegistryBuilder {
         ensures { IsNewRoot (option_map string_bytes self.namespace)
             (seen_labels self.const_labels) result }
     {
-        Registry {
-            namespace: self.namespace,
-            const_labels: self.const_labels,
+        let RegistryBuilder {
+            namespace,
+            const_labels,
+        } = self;
+        let facts = Facts {
+            namespace,
+            const_labels,
             depth: 0,
             metrics: None,
+        };
+        Registry {
+            facts,
             subsystems: None,
         }
     }

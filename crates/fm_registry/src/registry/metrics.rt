@@ -139,7 +139,7 @@ impl<M: Drop> Registry<M> {
             return Err(RegistryError::Memory);
         };
         let is_below = self.is_below_child(key.tail());
-        insert_metric(&mut self.metrics, alloc, key, metric, is_below)
+        insert_metric(&mut self.facts.metrics, alloc, key, metric, is_below)
     }
 
     /// Registers a metric with the type that the caller has read from it. It fails as `register_metric` does. For

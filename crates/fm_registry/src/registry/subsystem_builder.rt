@@ -68,7 +68,7 @@ impl<M: Drop> Registry<M> {
         if !is_snake_case(name.as_str()) {
             return Err(RegistryError::InvalidSubsystemName { name });
         }
-        if self.depth >= DEPTH_LIMIT {
+        if self.facts.depth >= DEPTH_LIMIT {
             return Err(RegistryError::TooDeep { name });
         }
         let alloc = *name.allocator();

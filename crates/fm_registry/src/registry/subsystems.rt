@@ -19,7 +19,7 @@ ghost use Rattle.fm_registry.specs.Lends.{lends_registry, lends_subsystem};
 ghost use Rattle.fm_registry.specs.inside.LendsParts.{lends_subsystems, lends_nth};
 ghost use Rattle.fm_registry.specs.HasHistory.{HasHistory};
 
-use super::{Registry, Subsystem};
+use super::{Facts, Registry, Subsystem};
 use crate::labels::{merged_labels, subsystem_namespace, tested_labels};
 use crate::lists::{element_mut, push_to};
 use crate::names::{Tailed, is_below};
@@ -130,7 +130,7 @@ impl<M: Drop> Registry<M> {
         ensures { result
             ≡ list_any (λ tail. below_test name.now tail) (tails_of self.now.facts.metrics) }
     {
-        match &self.metrics {
+        match &self.facts.metrics {
             Some(metrics) => is_above_any(metrics, name),
             None => false,
         }
@@ -173,13 +173,16 @@ impl<M: Drop> Registry<M> {
         requires { self.now.facts.depth < 64 }
         ensures { IfOk result (λ t. t ≡ new_tree self.now.facts name.now (labels_of labels.items)) }
     {
-        let namespace = subsystem_namespace(alloc, &self.namespace, name)?;
-        let const_labels = merged_labels(alloc, &self.const_labels, labels)?;
-        Ok(Registry {
+        let namespace = subsystem_namespace(alloc, &self.facts.namespace, name)?;
+        let const_labels = merged_labels(alloc, &self.facts.const_labels, labels)?;
+        let facts = Facts {
             namespace: Some(namespace),
             const_labels,
-            depth: self.depth + 1,
+            depth: self.facts.depth + 1,
             metrics: None,
+        };
+        Ok(Registry {
+            facts,
             subsystems: None,
         })
     }
@@ -255,7 +258,7 @@ impl<M: Drop> Registry<M> {
         if !is_snake_case(name.as_str()) {
             return Err(RegistryError::InvalidSubsystemName { name });
         }
-        if self.depth >= DEPTH_LIMIT {
+        if self.facts.depth >= DEPTH_LIMIT {
             return Err(RegistryError::TooDeep { name });
         }
         let labels = tested_labels(labels)?;
