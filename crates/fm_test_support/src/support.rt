@@ -1,7 +1,8 @@
 //! What the tests share: writers that stop, patience with refused memory, and documents of registries.
+ghost use Rattle.std.specs.Prelude.{IfOk};
 ghost use Rattle.fm_registry.specs.HasHistory.{HasHistory};
 
-use crate::trees::register_with;
+use crate::trees::labels;
 use fastmetrics::encoder::EncodeMetric;
 use fastmetrics::format::text::{EncodeError, collect, encode, encode_exposition};
 use fastmetrics::raw::Unit;
@@ -81,10 +82,10 @@ pub fn text_of(bytes: Vec<u8>) -> Result<String, Fail> {
 }
 
 // What encoding returns, and what a writer with this line then holds: straight, and by collecting first. Both are the same.
-fn encoded_both_ways(
+fn encoded_both_ways<M: EncodeMetric>(
     alloc: Global,
     before: &str,
-    registry: &Registry,
+    registry: &Registry<M>,
 ) -> Result<(Result<(), EncodeError>, String), Fail>
     requires { HasHistory registry.now }
 {
@@ -102,7 +103,7 @@ fn encoded_both_ways(
 }
 
 /// The document of a registry.
-pub fn document_of(alloc: Global, registry: &Registry) -> Result<String, Fail>
+pub fn document_of<M: EncodeMetric>(alloc: Global, registry: &Registry<M>) -> Result<String, Fail>
     requires { HasHistory registry.now }
 {
     let (answer, document) = encoded_both_ways(alloc, "", registry)?;
@@ -120,44 +121,54 @@ pub fn expect_text(text: &str, want: &str) -> Result<(), Fail> {
 }
 
 /// Fails if this is not the document of a registry.
-pub fn expect_document_of(alloc: Global, registry: &Registry, want: &str) -> Result<(), Fail>
+pub fn expect_document_of<M: EncodeMetric>(
+    alloc: Global,
+    registry: &Registry<M>,
+    want: &str,
+) -> Result<(), Fail>
     requires { HasHistory registry.now }
 {
     let document = document_of(alloc, registry)?;
     expect_text(document.as_str(), want)
 }
 
-// What encoding a metric under this name and the help `H` returns, and what a writer with this line then holds.
-fn encoded_after(
+/// A registry with these constant labels and one metric, under this name and the help `H`. It isn't boxed: that would cost each
+/// test the proof that its type may be.
+pub fn registry_of<M: EncodeMetric + Drop>(
     alloc: Global,
-    before: &str,
+    constants: &[(&str, &str)],
     name: &str,
     unit: Option<Unit>,
-    metric: Box<dyn EncodeMetric>,
-) -> Result<(Result<(), EncodeError>, String), Fail> {
-    let mut registry = Registry::default();
-    register_with(alloc, &mut registry, name, "H", unit, metric)?;
-    encoded_both_ways(alloc, before, &registry)
+    metric: M,
+) -> Result<Registry<M>, Fail>
+    ensures { IfOk result (λ registry. HasHistory registry) }
+{
+    let builder = Registry::builder().with_const_labels(labels(alloc, constants)?)?;
+    let mut registry = builder.build_root::<M>();
+    let name = String::from_str(alloc, name)?;
+    let help = String::from_str(alloc, "H")?;
+    let metric_type = metric.metric_type();
+    registry.add_metric(name, help, metric_type, unit, metric)?;
+    Ok(registry)
 }
 
 /// The document of a metric alone, under this name and the help `H`.
-pub fn document_alone(
+pub fn document_alone<M: EncodeMetric + Drop>(
     alloc: Global,
     name: &str,
     unit: Option<Unit>,
-    metric: Box<dyn EncodeMetric>,
+    metric: M,
 ) -> Result<String, Fail> {
-    let (answer, document) = encoded_after(alloc, "", name, unit, metric)?;
-    answer?;
-    Ok(document)
+    let registry = registry_of(alloc, &[], name, unit, metric)?;
+    document_of(alloc, &registry)
 }
 
 /// Fails if this is not the document of a metric alone, under this name and the help `H`.
-pub fn expect_document(
+pub fn expect_document<M: EncodeMetric + Drop>(
     alloc: Global,
     name: &str,
     unit: Option<Unit>,
-    metric: Box<dyn EncodeMetric>,
+    metric: M,
     want: &str,
 ) -> Result<(), Fail> {
     let document = document_alone(alloc, name, unit, metric)?;
@@ -165,7 +176,7 @@ pub fn expect_document(
 }
 
 /// The sample lines and the last line of a gauge `t`.
-pub fn lines_of(alloc: Global, metric: Box<dyn EncodeMetric>) -> Result<String, Fail> {
+pub fn lines_of<M: EncodeMetric + Drop>(alloc: Global, metric: M) -> Result<String, Fail> {
     let document = document_alone(alloc, "t", None, metric)?;
     match document
         .as_str()
@@ -176,31 +187,56 @@ pub fn lines_of(alloc: Global, metric: Box<dyn EncodeMetric>) -> Result<String, 
     }
 }
 
-/// Why a metric alone, under the name `t`, is refused. A refusal leaves what its writer held.
-pub fn refusal(alloc: Global, metric: Box<dyn EncodeMetric>) -> Result<EncodeError, Fail> {
-    match encoded_after(alloc, "before\n", "t", None, metric)? {
+/// Why a metric alone, under the name `t` and these constant labels, is refused. A refusal leaves what its writer held.
+pub fn refusal_under<M: EncodeMetric + Drop>(
+    alloc: Global,
+    constants: &[(&str, &str)],
+    metric: M,
+) -> Result<EncodeError, Fail> {
+    let registry = registry_of(alloc, constants, "t", None, metric)?;
+    match encoded_both_ways(alloc, "before\n", &registry)? {
         (Err(error), held) if held.as_str() == "before\n" => Ok(error),
         (Err(_), _) => Err(Fail::new("a refusal wrote something")),
         (Ok(()), _) => Err(Fail::new("nothing was refused")),
     }
 }
 
+/// Why a metric alone, under the name `t`, is refused.
+pub fn refusal<M: EncodeMetric + Drop>(alloc: Global, metric: M) -> Result<EncodeError, Fail> {
+    refusal_under(alloc, &[], metric)
+}
+
 /// Fails if these are not the sample lines and the last line of a gauge `t`.
-pub fn expect_lines(alloc: Global, metric: Box<dyn EncodeMetric>, want: &str) -> Result<(), Fail> {
+pub fn expect_lines<M: EncodeMetric + Drop>(
+    alloc: Global,
+    metric: M,
+    want: &str,
+) -> Result<(), Fail> {
     let lines = lines_of(alloc, metric)?;
     expect_text(lines.as_str(), want)
 }
 
-/// Fails if a metric alone, under the name `t`, is not refused by this error, or if a refusal wrote something.
-pub fn expect_refusal(
+/// Fails if a metric alone, under the name `t` and these constant labels, is not refused by this error, or if a refusal wrote
+/// something.
+pub fn expect_refusal_under<M: EncodeMetric + Drop>(
     alloc: Global,
-    metric: Box<dyn EncodeMetric>,
+    constants: &[(&str, &str)],
+    metric: M,
     want: EncodeError,
 ) -> Result<(), Fail> {
-    let error = refusal(alloc, metric)?;
+    let error = refusal_under(alloc, constants, metric)?;
     if error == want {
         Ok(())
     } else {
         Err(Fail::new(format_args!("the refusal is {error}, and not {want}")))
     }
+}
+
+/// Fails if a metric alone, under the name `t`, is not refused by this error, or if a refusal wrote something.
+pub fn expect_refusal<M: EncodeMetric + Drop>(
+    alloc: Global,
+    metric: M,
+    want: EncodeError,
+) -> Result<(), Fail> {
+    expect_refusal_under(alloc, &[], metric, want)
 }

@@ -1,43 +1,22 @@
 //! Families under constant labels.
 
 use fastmetrics::encoder::{EncodeError, EncodeMetric, StaticStr};
-use fastmetrics::format::text::encode;
 use fastmetrics::metrics::family::{PairFamily, with_pairs};
 use fastmetrics::metrics::gauge::Gauge;
 use fastmetrics::raw::TryDefault;
-use fastmetrics::registry::Registry;
-use fm_test_support::support::expect_document_of;
-use fm_test_support::trees::{labels, register};
+use fm_test_support::support::{expect_document_of, expect_refusal_under, registry_of};
 use std::alloc::Global;
 use std::test::Fail;
 
 // Fails if this is not the document of a metric alone, under these constant labels.
-fn expect_under(
+fn expect_under<M: EncodeMetric + Drop>(
     alloc: Global,
     constants: &[(&str, &str)],
-    metric: Box<dyn EncodeMetric>,
+    metric: M,
     want: &str,
 ) -> Result<(), Fail> {
-    let constants = labels(alloc, constants)?;
-    let mut registry = Registry::builder().with_const_labels(constants)?.build()?;
-    register(alloc, &mut registry, "f", metric)?;
+    let registry = registry_of(alloc, constants, "f", None, metric)?;
     expect_document_of(alloc, &registry, want)
-}
-
-// Fails if a metric under this constant label is not refused for a doubled name, or if the refusal writes something.
-fn expect_doubled_under(
-    alloc: Global,
-    constant: (&str, &str),
-    metric: Box<dyn EncodeMetric>,
-) -> Result<(), Fail> {
-    let constants = labels(alloc, &[constant])?;
-    let mut registry = Registry::builder().with_const_labels(constants)?.build()?;
-    register(alloc, &mut registry, "f", metric)?;
-    let mut bytes = Vec::new(alloc);
-    match encode(alloc, &mut bytes, &registry) {
-        Err(EncodeError::DuplicateLabel) if bytes.is_empty() => Ok(()),
-        _ => Err(Fail::new("it was not refused so, or wrote something")),
-    }
 }
 
 #[test]
@@ -54,7 +33,7 @@ fn escapes_in_constant_labels_and_members(rt: HostRuntime) -> Result<(), Fail> {
     expect_under(
         alloc,
         &[("env", "prod"), ("cell", "7")],
-        Box::new(alloc, pages.clone()?)?,
+        pages.clone()?,
         "# TYPE f gauge\n# HELP f H\n\
          f{env=\"prod\",cell=\"7\",path=\"/a\",zone=\"b\"} 1\n\
          f{env=\"prod\",cell=\"7\",path=\"a\\\\b\\\"c\\nd\",zone=\"\"} 1\n# EOF\n",
@@ -62,7 +41,7 @@ fn escapes_in_constant_labels_and_members(rt: HostRuntime) -> Result<(), Fail> {
     expect_under(
         alloc,
         &[("env", "\"\n\\"), ("cell", "7")],
-        Box::new(alloc, pages)?,
+        pages,
         "# TYPE f gauge\n# HELP f H\n\
          f{env=\"\\\"\\n\\\\\",cell=\"7\",path=\"/a\",zone=\"b\"} 1\n\
          f{env=\"\\\"\\n\\\\\",cell=\"7\",path=\"a\\\\b\\\"c\\nd\",zone=\"\"} 1\n# EOF\n",
@@ -80,12 +59,22 @@ fn a_second_member_with_the_name_of_a_constant_label(rt: HostRuntime) -> Result<
             |page| page.inc(),
         )?;
     }
-    expect_doubled_under(alloc, ("env", "dev"), Box::new(alloc, pages.clone()?)?)?;
-    expect_doubled_under(alloc, ("env", "prod"), Box::new(alloc, pages.clone()?)?)?;
+    expect_refusal_under(
+        alloc,
+        &[("env", "dev")],
+        pages.clone()?,
+        EncodeError::DuplicateLabel,
+    )?;
+    expect_refusal_under(
+        alloc,
+        &[("env", "prod")],
+        pages.clone()?,
+        EncodeError::DuplicateLabel,
+    )?;
     expect_under(
         alloc,
         &[("cell", "7")],
-        Box::new(alloc, pages)?,
+        pages,
         "# TYPE f gauge\n# HELP f H\nf{cell=\"7\",zone=\"b\"} 1\nf{cell=\"7\",env=\"prod\"} 1\n# EOF\n",
     )
 }

@@ -7,11 +7,9 @@ use fastmetrics::metrics::info::Info;
 use fastmetrics::metrics::state_set::ConstStateSet;
 use fastmetrics::metrics::unknown::Unknown;
 use fastmetrics::raw::{MetricError, TryDefault};
-use fastmetrics::registry::Registry;
 use fm_test_support::jobs::Job;
 use fm_test_support::replies::{Method, Outcome, Reply};
-use fm_test_support::support::expect_document_of;
-use fm_test_support::trees::register;
+use fm_test_support::support::{expect_document_of, registry_of};
 use std::alloc::Global;
 use std::hash::{BuildHasherDefault, FoldHasher};
 use std::sync::Wait;
@@ -91,9 +89,8 @@ fn four_threads_lose_nothing(rt: HostRuntime) -> Result<(), Fail> {
 }
 
 // Fails if this is not the document of a metric alone, each time that it is written.
-fn expect_twice(alloc: Global, metric: Box<dyn EncodeMetric>, want: &str) -> Result<(), Fail> {
-    let mut registry = Registry::default();
-    register(alloc, &mut registry, "m", metric)?;
+fn expect_twice<M: EncodeMetric + Drop>(alloc: Global, metric: M, want: &str) -> Result<(), Fail> {
+    let registry = registry_of(alloc, &[], "m", None, metric)?;
     expect_document_of(alloc, &registry, want)?;
     expect_document_of(alloc, &registry, want)
 }
@@ -109,7 +106,7 @@ fn gauges_by_labels(rt: HostRuntime) -> Result<(), Fail> {
     levels.with_or_new(&FAILED, |level| level.inc())?;
     expect_twice(
         alloc,
-        Box::new(alloc, levels)?,
+        levels,
         "# TYPE m gauge\n# HELP m H\nm{error=\"true\"} -6\n# EOF\n",
     )
 }
@@ -122,7 +119,7 @@ fn names_that_other_types_reserve(rt: HostRuntime) -> Result<(), Fail> {
     }
     expect_twice(
         rt.alloc(),
-        Box::new(rt.alloc(), counters)?,
+        counters,
         "# TYPE m counter\n# HELP m H\nm_total{le=\"1\"} 1\nm_total{quantile=\"1\"} 1\n# EOF\n",
     )
 }
@@ -138,7 +135,7 @@ fn constant_state_sets_by_labels(rt: HostRuntime) -> Result<(), Fail> {
     jobs.with_or_new(&FAILED, |_| ())?;
     expect_twice(
         alloc,
-        Box::new(alloc, jobs)?,
+        jobs,
         "# TYPE m stateset\n# HELP m H\n\
          m{error=\"true\",m=\"pending\"} 0\nm{error=\"true\",m=\"running\"} 0\n\
          m{error=\"true\",m=\"completed\"} 0\nm{error=\"true\",m=\"failed\"} 1\n# EOF\n",
@@ -154,7 +151,7 @@ fn information_by_labels(rt: HostRuntime) -> Result<(), Fail> {
     infos.with_or_new(&FAILED, |_| ())?;
     expect_twice(
         alloc,
-        Box::new(alloc, infos)?,
+        infos,
         "# TYPE m info\n# HELP m H\nm_info{error=\"true\"} 1\n# EOF\n",
     )
 }
@@ -168,7 +165,7 @@ fn values_without_a_type_by_labels(rt: HostRuntime) -> Result<(), Fail> {
     unknowns.with_or_new(&FAILED, |_| ())?;
     expect_twice(
         alloc,
-        Box::new(alloc, unknowns)?,
+        unknowns,
         "# TYPE m unknown\n# HELP m H\nm{error=\"true\"} -5\n# EOF\n",
     )
 }
@@ -182,7 +179,7 @@ fn constant_gauges_by_labels(rt: HostRuntime) -> Result<(), Fail> {
     levels.with_or_new(&FAILED, |_| ())?;
     expect_twice(
         alloc,
-        Box::new(alloc, levels)?,
+        levels,
         "# TYPE m gauge\n# HELP m H\nm{error=\"true\"} -5\n# EOF\n",
     )
 }
@@ -198,7 +195,7 @@ fn constant_counters_by_labels(rt: HostRuntime) -> Result<(), Fail> {
     counts.with_or_new(&FAILED, |_| ())?;
     expect_twice(
         alloc,
-        Box::new(alloc, counts)?,
+        counts,
         "# TYPE m counter\n# HELP m H\nm_total{error=\"true\"} 7\n# EOF\n",
     )
 }

@@ -67,7 +67,7 @@ fn texts_of_the_program(rt: HostRuntime) -> Result<(), Fail> {
         alloc,
         "build",
         None,
-        Box::new(alloc, build)?,
+        build,
         "# TYPE build info\n# HELP build H\nbuild_info{version=\"1.2\",commit=\"abc\"} 1\n# EOF\n",
     )
 }

@@ -6,10 +6,8 @@ use fastmetrics::metrics::family::{
     FamilyCore, PairFamily, TextFamily, remove_texts, with_pairs, with_texts,
 };
 use fastmetrics::raw::{MetricError, TryDefault};
-use fastmetrics::registry::Registry;
 use fm_test_support::replies::Outcome;
-use fm_test_support::support::{document_alone, document_of, expect_document, expect_text};
-use fm_test_support::trees::register;
+use fm_test_support::support::{document_alone, expect_document, expect_text};
 use std::alloc::Global;
 use std::hash::{BuildHasherDefault, FoldHasher};
 use std::sync::Wait;
@@ -51,12 +49,12 @@ const THREE: &str = "# TYPE f counter\n# HELP f H\n\
     f_total{shard=\"1\"} 1\nf_total{shard=\"2\"} 2\nf_total{shard=\"3\"} 3\n# EOF\n";
 
 // Fails if this is not the document of a family alone.
-fn expect_shards(alloc: Global, shards: Box<dyn EncodeMetric>, want: &str) -> Result<(), Fail> {
+fn expect_shards<M: EncodeMetric + Drop>(alloc: Global, shards: M, want: &str) -> Result<(), Fail> {
     expect_document(alloc, "f", None, shards, want)
 }
 
 // Fails if these are not the lines of a family alone after its heading.
-fn expect_lines(alloc: Global, shards: Box<dyn EncodeMetric>, want: &str) -> Result<(), Fail> {
+fn expect_lines<M: EncodeMetric + Drop>(alloc: Global, shards: M, want: &str) -> Result<(), Fail> {
     let document = document_alone(alloc, "f", None, shards)?;
     match document
         .as_str()
@@ -78,7 +76,7 @@ fn one_of_three_leaves(rt: HostRuntime) -> Result<(), Fail> {
         if !shards.remove(&shard(gone)) || shards.len() != 2 {
             return Err(Fail::new("it is still there"));
         }
-        expect_lines(rt.alloc(), Box::new(rt.alloc(), shards)?, want)?;
+        expect_lines(rt.alloc(), shards, want)?;
     }
     Ok(())
 }
@@ -91,7 +89,7 @@ fn one_that_comes_again_is_new_and_last(rt: HostRuntime) -> Result<(), Fail> {
     assert!(rt; shards.len() == 3);
     expect_lines(
         rt.alloc(),
-        Box::new(rt.alloc(), shards)?,
+        shards,
         "f_total{shard=\"2\"} 2\nf_total{shard=\"3\"} 3\nf_total{shard=\"1\"} 10\n# EOF\n",
     )
 }
@@ -100,7 +98,7 @@ fn one_that_comes_again_is_new_and_last(rt: HostRuntime) -> Result<(), Fail> {
 fn one_that_is_not_there(rt: HostRuntime) -> Result<(), Fail> {
     let shards = shards_of(rt, rt.alloc(), &[1, 2, 3])?;
     assert!(rt; !shards.remove(&shard(4)) && shards.len() == 3);
-    expect_shards(rt.alloc(), Box::new(rt.alloc(), shards)?, THREE)
+    expect_shards(rt.alloc(), shards, THREE)
 }
 
 #[test]
@@ -109,11 +107,7 @@ fn all_leave(rt: HostRuntime) -> Result<(), Fail> {
     shards.clear();
     assert!(rt; shards.len() == 0);
     count(&shards, 2, 5)?;
-    expect_lines(
-        rt.alloc(),
-        Box::new(rt.alloc(), shards)?,
-        "f_total{shard=\"2\"} 5\n# EOF\n",
-    )
+    expect_lines(rt.alloc(), shards, "f_total{shard=\"2\"} 5\n# EOF\n")
 }
 
 #[test]
@@ -122,7 +116,7 @@ fn those_with_odd_labels_leave(rt: HostRuntime) -> Result<(), Fail> {
     shards.retain(|labels, _| labels[0].1 % 2 == 0);
     expect_lines(
         rt.alloc(),
-        Box::new(rt.alloc(), shards)?,
+        shards,
         "f_total{shard=\"2\"} 2\nf_total{shard=\"4\"} 4\nf_total{shard=\"6\"} 6\n# EOF\n",
     )
 }
@@ -136,7 +130,7 @@ fn those_with_small_values_leave(rt: HostRuntime) -> Result<(), Fail> {
     count(&shards, 1, 10)?;
     expect_lines(
         rt.alloc(),
-        Box::new(rt.alloc(), shards)?,
+        shards,
         "f_total{shard=\"4\"} 4\nf_total{shard=\"5\"} 5\n\
          f_total{shard=\"6\"} 16\nf_total{shard=\"1\"} 10\n# EOF\n",
     )
@@ -151,14 +145,14 @@ fn each_is_seen_once_and_stays(rt: HostRuntime) -> Result<(), Fail> {
         true
     });
     assert!(rt; seen == 123);
-    expect_shards(rt.alloc(), Box::new(rt.alloc(), shards)?, THREE)
+    expect_shards(rt.alloc(), shards, THREE)
 }
 
 #[test]
 fn none_stays(rt: HostRuntime) -> Result<(), Fail> {
     let shards = shards_of(rt, rt.alloc(), &[1, 2, 3])?;
     shards.retain(|_, _| false);
-    expect_shards(rt.alloc(), Box::new(rt.alloc(), shards)?, "# EOF\n")
+    expect_shards(rt.alloc(), shards, "# EOF\n")
 }
 
 // A handle of the counter of a shard.
@@ -179,7 +173,7 @@ fn a_handle_of_one_that_left(rt: HostRuntime) -> Result<(), Fail> {
     assert!(rt; handle.total() == 2);
     expect_lines(
         rt.alloc(),
-        Box::new(rt.alloc(), shards)?,
+        shards,
         "f_total{shard=\"2\"} 2\nf_total{shard=\"1\"} 7\n# EOF\n",
     )
 }
@@ -207,7 +201,7 @@ fn one_leaves_by_texts(rt: HostRuntime) -> Result<(), Fail> {
     assert!(rt; remove_texts(alloc, &requests, &put) == Ok(true));
     assert!(rt; remove_texts(alloc, &requests, &put) == Ok(false));
     assert!(rt; remove_texts(alloc, &requests, &[]) == Ok(false));
-    let metric: Box<dyn EncodeMetric> = Box::new(alloc, requests)?;
+    let metric = requests;
     expect_document(
         alloc,
         "f",
@@ -267,9 +261,7 @@ fn one_thread_removes_what_another_counts(rt: HostRuntime) -> Result<(), Fail> {
     let shards = Shards::try_default(rt, alloc)?;
     let (counted, _) = thread::join(&rt, || count_often(&shards), || remove_often(&shards));
     counted?;
-    let mut registry = Registry::default();
-    register(alloc, &mut registry, "f", Box::new(alloc, shards)?)?;
-    let document = document_of(alloc, &registry)?;
+    let document = document_alone(alloc, "f", None, shards)?;
     let lines = document.as_str().lines();
     let samples = lines.filter(|line| line.starts_with("f_total{")).count();
     assert!(rt; samples <= 1);

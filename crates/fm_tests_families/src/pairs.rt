@@ -18,7 +18,7 @@ fn members_by_numbers(rt: HostRuntime) -> Result<(), Fail> {
     }
     expect_lines(
         alloc,
-        Box::new(alloc, levels)?,
+        levels,
         "t{status=\"200\",shard=\"7\"} 2\nt{status=\"404\",shard=\"7\"} 1\n# EOF\n",
     )
 }

@@ -59,7 +59,7 @@ fn no_texts_and_empty_ones(rt: HostRuntime) -> Result<(), Fail> {
         alloc,
         "requests",
         None,
-        Box::new(alloc, requests)?,
+        requests,
         "# TYPE requests counter\n# HELP requests H\nrequests_total 2\nrequests_total{path=\"\"} 4\n# EOF\n",
     )
 }

@@ -43,7 +43,7 @@ fn an_exemplar_in_the_first_bucket(rt: HostRuntime) -> Result<(), Fail> {
         alloc,
         "h",
         None,
-        Box::new(alloc, histogram)?,
+        histogram,
         "# TYPE h histogram\n# HELP h H\nh_bucket{le=\"1.0\"} 3 # {} 0.7\n\
          h_bucket{le=\"+Inf\"} 5\nh_count 5\nh_sum 12.5\n# EOF\n",
     )
@@ -71,7 +71,7 @@ fn each_bucket_keeps_its_last_exemplar(rt: HostRuntime) -> Result<(), Fail> {
         alloc,
         "h",
         None,
-        Box::new(alloc, histogram)?,
+        histogram,
         "# TYPE h histogram\n# HELP h H\n\
          h_bucket{le=\"1.0\"} 2 # {trace_id=\"b\"} 1.0 1.000\n\
          h_bucket{le=\"2.0\"} 2\n\
@@ -91,7 +91,7 @@ fn the_default_bounds(rt: HostRuntime) -> Result<(), Fail> {
         alloc,
         "h",
         None,
-        Box::new(alloc, histogram)?,
+        histogram,
         "# TYPE h histogram\n# HELP h H\nh_bucket{le=\"0.005\"} 0\nh_bucket{le=\"0.01\"} 0\n\
          h_bucket{le=\"0.025\"} 0\nh_bucket{le=\"0.05\"} 0\nh_bucket{le=\"0.1\"} 0\n\
          h_bucket{le=\"0.25\"} 0\nh_bucket{le=\"0.5\"} 0\nh_bucket{le=\"1.0\"} 0\n\

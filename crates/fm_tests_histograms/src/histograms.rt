@@ -1,20 +1,17 @@
 //! Histograms from the calls to the document: bounds, reserved labels, and buckets of a user's own.
 ghost use Rattle.std.specs.Prelude.{◌≡◌, [], ◌∷◌, None, pos};
 ghost use Rattle.fastmetrics.specs.Points.{HistogramPoint};
-ghost use Rattle.fm_registry.specs.HasHistory.{HasHistory};
 
 use crate::own_buckets::OwnBuckets;
 use fastmetrics::encoder::{EncodeMetric, EncodePoint, PointEncoder};
-use fastmetrics::format::text::{EncodeError, encode};
+use fastmetrics::format::text::EncodeError;
 use fastmetrics::metrics::histogram::{Histogram, HistogramSnapshot};
 use fastmetrics::raw::bucket::{Bound, Bucket, linear_buckets};
 use fastmetrics::raw::{Fixed, FixedSum, MetricError, MetricType};
-use fastmetrics::registry::Registry;
 use fm_test_support::histograms::whole;
 use fm_test_support::members::OneMember;
 use fm_test_support::parts::Faulty;
-use fm_test_support::support::{expect_document, expect_refusal};
-use fm_test_support::trees::{labels, register};
+use fm_test_support::support::{expect_document, expect_refusal, expect_refusal_under};
 use std::alloc::{AllocError, Global};
 use std::test::Fail;
 use std::time::Duration;
@@ -83,32 +80,18 @@ fn one_value_for_each_bound(rt: HostRuntime) -> Result<(), Fail> {
     Ok(())
 }
 
-// Fails where a registry's document is not refused for a reserved label, or where a refusal writes something.
-fn expect_reserved(alloc: Global, registry: &Registry) -> Result<(), Fail>
-    requires { HasHistory registry.now }
-{
-    let mut bytes = Vec::new(alloc);
-    match encode(alloc, &mut bytes, registry) {
-        Err(EncodeError::ReservedLabel) if bytes.is_empty() => Ok(()),
-        _ => Err(Fail::new("it was not refused so, or wrote something")),
-    }
-}
-
 // Fails where a metric under the constant label `le` is not refused for it, or where a refusal writes something.
-fn expect_reserved_le(alloc: Global, metric: Box<dyn EncodeMetric>) -> Result<(), Fail> {
-    let le = labels(alloc, &[("le", "5.0")])?;
-    let mut registry = Registry::builder().with_const_labels(le)?.build()?;
-    register(alloc, &mut registry, "t", metric)?;
-    expect_reserved(alloc, &registry)
+fn expect_reserved_le<M: EncodeMetric + Drop>(alloc: Global, metric: M) -> Result<(), Fail> {
+    expect_refusal_under(alloc, &[("le", "5.0")], metric, EncodeError::ReservedLabel)
 }
 
 #[test]
 fn constant_label_of_bounds(rt: HostRuntime) -> Result<(), Fail> {
     let bounds = [whole(1), whole(2)];
     let histogram = Histogram::new(rt, rt.alloc(), bounds.iter().copied())?;
-    expect_reserved_le(rt.alloc(), Box::new(rt.alloc(), histogram)?)?;
+    expect_reserved_le(rt.alloc(), histogram)?;
     let snapshot = HistogramSnapshot::new(rt.alloc(), bounds.iter().copied())?;
-    expect_reserved_le(rt.alloc(), Box::new(rt.alloc(), snapshot)?)
+    expect_reserved_le(rt.alloc(), snapshot)
 }
 
 // Buckets of the bounds 0.5 and `Inf` that count these numbers of values, with a slot each, under the label `room`.
@@ -137,7 +120,7 @@ fn own_buckets_as_they_are(rt: HostRuntime) -> Result<(), Fail> {
         alloc,
         "t",
         None,
-        Box::new(alloc, metric)?,
+        metric,
         "# TYPE t histogram\n# HELP t H\n\
         t_bucket{room=\"3\",le=\"0.5\"} 1\nt_bucket{room=\"3\",le=\"+Inf\"} 18446744073709551615\n\
         t_count{room=\"3\"} 7\nt_sum{room=\"3\"} -0.5\nt_created{room=\"3\"} 1.005\n# EOF\n",
@@ -154,7 +137,7 @@ fn expect_misfit(alloc: Global, misfit: Misfit) -> Result<(), Fail> {
     metric.metric_type = metric_type;
     metric.slots = slots;
     metric.label = String::from_str(alloc, label)?;
-    expect_refusal(alloc, Box::new(alloc, metric)?, error)
+    expect_refusal(alloc, metric, error)
 }
 
 const MOST: [u64; 2] = [18446744073709551615, 1];
@@ -215,7 +198,7 @@ fn expect_refused_slot(alloc: Global, counts: [u64; 2], want: EncodeError) -> Re
             buckets: [Bucket::new(bound, first), Bucket::new(Bound::Inf, second)],
         },
     };
-    expect_refusal(alloc, Box::new(alloc, metric)?, want)
+    expect_refusal(alloc, metric, want)
 }
 
 #[test]

@@ -72,7 +72,7 @@ impl EncodeLabelValue for Number {
 // Fails if the line of a gauge with these two values as labels is another one.
 fn expect_line(alloc: Global, least: Number, greatest: Number, want: &str) -> Result<(), Fail> {
     let labels = [(Word("least"), least), (Word("greatest"), greatest)];
-    let metric = Box::new(alloc, OneMember::gauge(labels, ConstGauge::new(5i64)))?;
+    let metric = OneMember::gauge(labels, ConstGauge::new(5i64));
     expect_lines(alloc, metric, want)
 }
 

@@ -1,16 +1,17 @@
 //! Labels of members: containers, wrappers, values of all types, and labels that write nothing.
 
 use fastmetrics::encoder::{EncodeMetric, MetricEncoder};
-use fastmetrics::format::text::{EncodeError, encode};
+use fastmetrics::format::text::EncodeError;
 use fastmetrics::metrics::counter::ConstCounter;
 use fastmetrics::metrics::gauge::ConstGauge;
 use fastmetrics::metrics::histogram::HistogramSnapshot;
 use fastmetrics::raw::{Fixed, MetricType};
-use fastmetrics::registry::Registry;
 use fm_test_support::members::OneMember;
 use fm_test_support::parts::{HalfAndTrue, Perhaps, TwoNames, Unvisited, Visited};
-use fm_test_support::support::{expect_document, expect_document_of, expect_lines, expect_refusal};
-use fm_test_support::trees::{labels, register};
+use fm_test_support::support::{
+    expect_document, expect_document_of, expect_lines, expect_refusal, expect_refusal_under,
+    registry_of,
+};
 use std::alloc::{AllocError, Global};
 use std::borrow::CowStr;
 use std::collections::{BTreeMap, LinkedList, VecDeque};
@@ -36,7 +37,7 @@ fn expect_stamped(alloc: Global, time: Option<Duration>, want: &str) -> Result<(
         labels: in_a_map(alloc)?,
         point: ConstGauge::new(5i64),
     };
-    expect_lines(alloc, Box::new(alloc, metric)?, want)
+    expect_lines(alloc, metric, want)
 }
 
 #[test]
@@ -128,7 +129,7 @@ fn containers(rt: HostRuntime) -> Result<(), Fail> {
 #[test]
 fn millionths_and_truth_values(rt: HostRuntime) -> Result<(), Fail> {
     let alloc = rt.alloc();
-    let metric = Box::new(alloc, OneMember::gauge(HalfAndTrue, ConstGauge::new(5i64)))?;
+    let metric = OneMember::gauge(HalfAndTrue, ConstGauge::new(5i64));
     expect_lines(alloc, metric, "t{x=\"0.5\",y=\"true\"} 5\n# EOF\n")
 }
 
@@ -159,7 +160,7 @@ fn labels_that_write_nothing(rt: HostRuntime) -> Result<(), Fail> {
         (written(true, true, false), "t{a=\"x\",b=\"x\"} 5\n# EOF\n"),
         (written(false, false, false), "t 5\n# EOF\n"),
     ] {
-        let metric = Box::new(alloc, OneMember::gauge(labels, ConstGauge::new(5i64)))?;
+        let metric = OneMember::gauge(labels, ConstGauge::new(5i64));
         expect_lines(alloc, metric, want)?;
     }
     Ok(())
@@ -168,7 +169,7 @@ fn labels_that_write_nothing(rt: HostRuntime) -> Result<(), Fail> {
 #[test]
 fn empty_sets_are_not_visited(rt: HostRuntime) -> Result<(), Fail> {
     let alloc = rt.alloc();
-    let metric = Box::new(alloc, OneMember::gauge(Unvisited, ConstGauge::new(5i64)))?;
+    let metric = OneMember::gauge(Unvisited, ConstGauge::new(5i64));
     expect_lines(alloc, metric, "t 5\n# EOF\n")
 }
 
@@ -184,7 +185,7 @@ fn sets_are_visited_once_a_point(rt: HostRuntime) -> Result<(), Fail> {
         },
         point: ConstCounter::with_created(7u64, Duration::from_millis(1005)),
     };
-    let metric = Box::new(alloc, metric)?;
+    let metric = metric;
     expect_document(
         alloc,
         "t",
@@ -240,34 +241,16 @@ fn lent_and_owned_texts(rt: HostRuntime) -> Result<(), Fail> {
     let method = String::from_str(alloc, "GET")?;
     expect_lines(
         alloc,
-        Box::new(alloc, LentAndOwned { method })?,
+        LentAndOwned { method },
         "t{method=\"GET\",code=\"\"} 5\n# EOF\n",
     )
-}
-
-// Fails where a metric under the constant label `le` is not refused by this error, or where a refusal writes something.
-fn expect_refused_under_le(
-    alloc: Global,
-    metric: Box<dyn EncodeMetric>,
-    want: EncodeError,
-) -> Result<(), Fail> {
-    let le = labels(alloc, &[("le", "1")])?;
-    let mut registry = Registry::builder().with_const_labels(le)?.build()?;
-    register(alloc, &mut registry, "t", metric)?;
-    let mut bytes = Vec::new(alloc);
-    match encode(alloc, &mut bytes, &registry) {
-        Err(error) if error == want && bytes.is_empty() => Ok(()),
-        _ => Err(Fail::new("it was not refused so, or wrote something")),
-    }
 }
 
 #[test]
 fn empty_sets_are_not_visited_after_constant_labels(rt: HostRuntime) -> Result<(), Fail> {
     let alloc = rt.alloc();
-    let metric = Box::new(alloc, OneMember::gauge(Unvisited, ConstGauge::new(5i64)))?;
-    let le = labels(alloc, &[("le", "1")])?;
-    let mut registry = Registry::builder().with_const_labels(le)?.build()?;
-    register(alloc, &mut registry, "t", metric)?;
+    let metric = OneMember::gauge(Unvisited, ConstGauge::new(5i64));
+    let registry = registry_of(alloc, &[("le", "1")], "t", None, metric)?;
     expect_document_of(
         alloc,
         &registry,
@@ -284,8 +267,8 @@ fn a_second_name_before_a_reserved_or_doubled_one(rt: HostRuntime) -> Result<(),
         labels: [TwoNames("a", "le")],
         point: HistogramSnapshot::new(alloc, [Fixed::ONE].iter().copied())?,
     };
-    expect_refusal(alloc, Box::new(alloc, metric)?, EncodeError::MalformedLabel)?;
+    expect_refusal(alloc, metric, EncodeError::MalformedLabel)?;
     let twice = [TwoNames("a", "le")];
-    let metric = Box::new(alloc, OneMember::gauge(twice, ConstGauge::new(5i64)))?;
-    expect_refused_under_le(alloc, metric, EncodeError::MalformedLabel)
+    let metric = OneMember::gauge(twice, ConstGauge::new(5i64));
+    expect_refusal_under(alloc, &[("le", "1")], metric, EncodeError::MalformedLabel)
 }

@@ -27,7 +27,7 @@ fn labels_of_a_struct(rt: HostRuntime) -> Result<(), Fail> {
     };
     expect_lines(
         alloc,
-        Box::new(alloc, metric)?,
+        metric,
         "t{method=\"PUT\",status=\"404\",failed=\"true\"} 2\n# EOF\n",
     )
 }
@@ -67,9 +67,5 @@ fn labels_of_numbers(rt: HostRuntime) -> Result<(), Fail> {
         labels,
         point: ConstGauge::<u64>::new(2),
     };
-    expect_lines(
-        alloc,
-        Box::new(alloc, metric)?,
-        "t{floor=\"12\",volts=\"1.5\"} 2\n# EOF\n",
-    )
+    expect_lines(alloc, metric, "t{floor=\"12\",volts=\"1.5\"} 2\n# EOF\n")
 }

@@ -126,7 +126,7 @@ fn unknown_metrics(rt: HostRuntime) -> Result<(), Fail> {
         alloc,
         "u",
         None,
-        Box::new(alloc, metric)?,
+        metric,
         "# TYPE u unknown\n# HELP u H\nu{a=\"1\"} -5\n# EOF\n",
     )
 }

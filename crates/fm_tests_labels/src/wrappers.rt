@@ -16,7 +16,7 @@ use std::sync::Arc;
 use std::test::Fail;
 
 // Fails where these are not the lines of a gauge of 5 with these labels.
-fn expect_five(alloc: Global, metric: Box<dyn EncodeMetric>, labels: &str) -> Result<(), Fail> {
+fn expect_five<M: EncodeMetric + Drop>(alloc: Global, metric: M, labels: &str) -> Result<(), Fail> {
     let want = format!(in alloc; "t{labels} 5\n# EOF\n")?;
     expect_lines(alloc, metric, want.as_str())
 }
@@ -25,10 +25,10 @@ fn expect_five(alloc: Global, metric: Box<dyn EncodeMetric>, labels: &str) -> Re
 fn sets_in_boxes(rt: HostRuntime) -> Result<(), Fail> {
     let alloc = rt.alloc();
     let labels = Box::new(alloc, Version { text: "x" })?;
-    let metric = Box::new(alloc, OneMember::gauge(labels, ConstGauge::new(5i64)))?;
+    let metric = OneMember::gauge(labels, ConstGauge::new(5i64));
     expect_five(alloc, metric, "{v=\"x\"}")?;
     let labels = Box::new(alloc, Unvisited)?;
-    let metric = Box::new(alloc, OneMember::gauge(labels, ConstGauge::new(5i64)))?;
+    let metric = OneMember::gauge(labels, ConstGauge::new(5i64));
     expect_five(alloc, metric, "")
 }
 
@@ -36,10 +36,10 @@ fn sets_in_boxes(rt: HostRuntime) -> Result<(), Fail> {
 fn sets_that_are_shared(rt: HostRuntime) -> Result<(), Fail> {
     let alloc = rt.alloc();
     let labels = Arc::new(alloc, Version { text: "x" })?;
-    let metric = Box::new(alloc, OneMember::gauge(labels, ConstGauge::new(5i64)))?;
+    let metric = OneMember::gauge(labels, ConstGauge::new(5i64));
     expect_five(alloc, metric, "{v=\"x\"}")?;
     let labels = Arc::new(alloc, Unvisited)?;
-    let metric = Box::new(alloc, OneMember::gauge(labels, ConstGauge::new(5i64)))?;
+    let metric = OneMember::gauge(labels, ConstGauge::new(5i64));
     expect_five(alloc, metric, "")
 }
 
@@ -56,7 +56,7 @@ fn in_an_ordered_set(alloc: Global) -> Result<BTreeSet<(StaticStr, u64)>, AllocE
 fn ordered_sets(rt: HostRuntime) -> Result<(), Fail> {
     let alloc = rt.alloc();
     let labels = in_an_ordered_set(alloc)?;
-    let metric = Box::new(alloc, OneMember::gauge(labels, ConstGauge::new(5i64)))?;
+    let metric = OneMember::gauge(labels, ConstGauge::new(5i64));
     expect_five(alloc, metric, "{a=\"1\",b=\"2\",c=\"3\"}")
 }
 
@@ -64,7 +64,7 @@ fn ordered_sets(rt: HostRuntime) -> Result<(), Fail> {
 fn an_ordered_set_without_labels(rt: HostRuntime) -> Result<(), Fail> {
     let alloc = rt.alloc();
     let labels: BTreeSet<(StaticStr, u64)> = BTreeSet::new(alloc);
-    let metric = Box::new(alloc, OneMember::gauge(labels, ConstGauge::new(5i64)))?;
+    let metric = OneMember::gauge(labels, ConstGauge::new(5i64));
     expect_five(alloc, metric, "")
 }
 
@@ -73,7 +73,7 @@ fn names_and_values_in_boxes(rt: HostRuntime) -> Result<(), Fail> {
     let alloc = rt.alloc();
     let name = Box::new(alloc, StaticStr("a"))?;
     let labels = vec![in alloc; (name, Box::new(alloc, 7u64)?)]?;
-    let metric = Box::new(alloc, OneMember::gauge(labels, ConstGauge::new(5i64)))?;
+    let metric = OneMember::gauge(labels, ConstGauge::new(5i64));
     expect_five(alloc, metric, "{a=\"7\"}")
 }
 
@@ -82,11 +82,11 @@ fn names_and_values_that_are_shared(rt: HostRuntime) -> Result<(), Fail> {
     let alloc = rt.alloc();
     let name = Arc::new(alloc, StaticStr("a"))?;
     let labels = vec![in alloc; (name, Arc::new(alloc, Some(7u64))?)]?;
-    let metric = Box::new(alloc, OneMember::gauge(labels, ConstGauge::new(5i64)))?;
+    let metric = OneMember::gauge(labels, ConstGauge::new(5i64));
     expect_five(alloc, metric, "{a=\"7\"}")?;
     let name = Arc::new(alloc, StaticStr("a"))?;
     let labels = vec![in alloc; (name, Arc::new(alloc, None::<u64>)?)]?;
-    let metric = Box::new(alloc, OneMember::gauge(labels, ConstGauge::new(5i64)))?;
+    let metric = OneMember::gauge(labels, ConstGauge::new(5i64));
     expect_five(alloc, metric, "")
 }
 
@@ -140,12 +140,12 @@ impl EncodeLabelSet for LentToChange {
 fn sets_by_reference(rt: HostRuntime) -> Result<(), Fail> {
     let alloc = rt.alloc();
     let labels = Counted { alloc, text: "x" };
-    let metric = Box::new(alloc, OneMember::gauge(labels, ConstGauge::new(5i64)))?;
+    let metric = OneMember::gauge(labels, ConstGauge::new(5i64));
     expect_five(alloc, metric, "{v=\"x\"}")?;
-    let metric = Box::new(alloc, OneMember::gauge(Lent("x"), ConstGauge::new(5i64)))?;
+    let metric = OneMember::gauge(Lent("x"), ConstGauge::new(5i64));
     expect_five(alloc, metric, "{v=\"x\"}")?;
     let labels = LentToChange("x");
-    let metric = Box::new(alloc, OneMember::gauge(labels, ConstGauge::new(5i64)))?;
+    let metric = OneMember::gauge(labels, ConstGauge::new(5i64));
     expect_five(alloc, metric, "{v=\"x\"}")
 }
 
@@ -191,9 +191,9 @@ impl EncodeLabelSet for ValueCounted {
 fn names_and_values_by_reference(rt: HostRuntime) -> Result<(), Fail> {
     let alloc = rt.alloc();
     let labels = NameCounted { alloc, value: 7 };
-    let metric = Box::new(alloc, OneMember::gauge(labels, ConstGauge::new(5i64)))?;
+    let metric = OneMember::gauge(labels, ConstGauge::new(5i64));
     expect_five(alloc, metric, "{a=\"7\"}")?;
     let labels = ValueCounted { alloc, value: 7 };
-    let metric = Box::new(alloc, OneMember::gauge(labels, ConstGauge::new(5i64)))?;
+    let metric = OneMember::gauge(labels, ConstGauge::new(5i64));
     expect_five(alloc, metric, "{a=\"7\"}")
 }

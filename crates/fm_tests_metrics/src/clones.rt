@@ -27,7 +27,7 @@ fn a_state_set_by_another_thread(rt: HostRuntime) -> Result<(), Fail> {
     let clone = job.clone()?;
     let (is_set, _) = thread::join(&rt, || clone.set(Job::Running).is_ok(), || ());
     assert!(rt; is_set && *job.get() == Job::Running);
-    expect_document(alloc, "s", None, Box::new(alloc, job)?, SECOND_STATE)
+    expect_document(alloc, "s", None, job, SECOND_STATE)
 }
 
 #[test]
@@ -46,7 +46,7 @@ fn a_clone_of_a_constant_state_set(rt: HostRuntime) -> Result<(), Fail> {
     let alloc = rt.alloc();
     let job = ConstStateSet::new(alloc, Job::Running)?.clone()?;
     assert!(rt; *job.get() == Job::Running);
-    expect_document(alloc, "s", None, Box::new(alloc, job)?, SECOND_STATE)
+    expect_document(alloc, "s", None, job, SECOND_STATE)
 }
 
 #[test]
@@ -56,7 +56,7 @@ fn a_metric_without_points(rt: HostRuntime) -> Result<(), Fail> {
         alloc,
         "s",
         None,
-        Box::new(alloc, Silent)?,
+        Silent,
         "# TYPE s gauge\n# HELP s H\n# EOF\n",
     )
 }

@@ -15,7 +15,7 @@ fn a_default_that_is_not_the_first_state(rt: HostRuntime) -> Result<(), Fail> {
         alloc,
         "s",
         None,
-        Box::new(alloc, light)?,
+        light,
         "# TYPE s stateset\n# HELP s H\ns{s=\"red\"} 0\ns{s=\"yellow\"} 1\ns{s=\"green\"} 0\n# EOF\n",
     )
 }

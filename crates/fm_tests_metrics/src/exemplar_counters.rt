@@ -32,7 +32,7 @@ fn the_last_exemplar_is_written(rt: HostRuntime) -> Result<(), Fail> {
         alloc,
         "x",
         None,
-        Box::new(alloc, counter.clone()?)?,
+        counter.clone()?,
         "# TYPE x counter\n# HELP x H\nx_total 2\n# EOF\n",
     )?;
     let before = counter.inc_by_with(1, traced(alloc, "first", 1_000_000, None)?)?;
@@ -45,7 +45,7 @@ fn the_last_exemplar_is_written(rt: HostRuntime) -> Result<(), Fail> {
         alloc,
         "x",
         None,
-        Box::new(alloc, counter)?,
+        counter,
         "# TYPE x counter\n# HELP x H\nx_total 5 # {trace_id=\"a\"} 0.5 1.005\n# EOF\n",
     )
 }
@@ -66,7 +66,7 @@ fn a_refused_increment_keeps_the_exemplar(rt: HostRuntime) -> Result<(), Fail> {
         alloc,
         "x",
         None,
-        Box::new(alloc, counter)?,
+        counter,
         "# TYPE x counter\n# HELP x H\nx_total 0.25 # {trace_id=\"a\"} 0.25\nx_created 3.000\n# EOF\n",
     )
 }
@@ -146,7 +146,7 @@ fn two_threads_count_with_exemplars(rt: HostRuntime) -> Result<(), Fail> {
         alloc,
         "x",
         None,
-        Box::new(alloc, counter)?,
+        counter,
         "# TYPE x counter\n# HELP x H\nx_total 20000 # {trace_id=\"a\"} 1.0\n# EOF\n",
     )
 }

@@ -17,12 +17,12 @@ use std::time::Duration;
 type Labels = Vec<(String, u64)>;
 
 // A gauge of two members, the first with labels of these names, each of value 1.
-fn forgetful(alloc: Global, names: &[&str]) -> Result<Box<Forgetful<Labels>>, AllocError> {
+fn forgetful(alloc: Global, names: &[&str]) -> Result<Forgetful<Labels>, AllocError> {
     let mut labels = Vec::new(alloc);
     for name in names {
         labels.push((String::from_str(alloc, name)?, 1))?;
     }
-    Ok(Box::new(alloc, Forgetful { labels })?)
+    Ok(Forgetful { labels })
 }
 
 #[test]
@@ -55,7 +55,7 @@ fn errors_of_metrics(rt: HostRuntime) -> Result<(), Fail> {
         (EncodeError::KindMismatch, EncodeError::MetricFault),
         (EncodeError::Memory, EncodeError::Memory),
     ] {
-        expect_refusal(alloc, Box::new(alloc, Failing(own))?, error)?;
+        expect_refusal(alloc, Failing(own), error)?;
     }
     Ok(())
 }
@@ -64,13 +64,13 @@ fn errors_of_metrics(rt: HostRuntime) -> Result<(), Fail> {
 fn types_that_change(rt: HostRuntime) -> Result<(), Fail> {
     let alloc = rt.alloc();
     let metric = Fickle::new(MetricType::Counter, MetricType::Gauge);
-    expect_refusal(alloc, Box::new(alloc, metric)?, EncodeError::KindMismatch)?;
+    expect_refusal(alloc, metric, EncodeError::KindMismatch)?;
     let metric = Fickle::new(MetricType::Gauge, MetricType::Counter);
     expect_document(
         alloc,
         "t",
         None,
-        Box::new(alloc, metric)?,
+        metric,
         "# TYPE t gauge\n# HELP t H\nt 5\n# EOF\n",
     )
 }
@@ -108,7 +108,7 @@ fn values_behind_locks(rt: HostRuntime) -> Result<(), Fail> {
         rt,
     };
     *metric.value.lock(&rt) = -5;
-    let metric = Box::new(alloc, metric)?;
+    let metric = metric;
     expect_document(
         alloc,
         "t",

@@ -25,7 +25,7 @@ fn counters_of_two_threads(rt: HostRuntime) -> Result<(), Fail> {
         },
     );
     assert!(rt; hits.total() == 2000);
-    expect_counter(alloc, Box::new(alloc, clone)?, "2000")
+    expect_counter(alloc, clone, "2000")
 }
 
 #[test]
@@ -43,7 +43,7 @@ fn gauges_of_two_threads(rt: HostRuntime) -> Result<(), Fail> {
         },
     );
     assert!(rt; level.get() == 2000);
-    expect_gauge(alloc, Box::new(alloc, clone)?, "2000")
+    expect_gauge(alloc, clone, "2000")
 }
 
 // Raises a counter to every second value from the first one on, and returns how often the total was below a value that it
@@ -73,11 +73,11 @@ const COUNTER: &str = "# TYPE c counter\n# HELP c H\nc_total ";
 const GAUGE: &str = "# TYPE g gauge\n# HELP g H\ng ";
 
 // Fails if the document of a metric is not this beginning and this number.
-fn expect_number(
+fn expect_number<M: EncodeMetric + Drop>(
     alloc: Global,
     name: &str,
     beginning: &str,
-    metric: Box<dyn EncodeMetric>,
+    metric: M,
     number: &str,
 ) -> Result<(), Fail> {
     let document = document_alone(alloc, name, None, metric)?;
@@ -89,12 +89,20 @@ fn expect_number(
 }
 
 // Fails if this is not the number of a counter's document.
-fn expect_counter(alloc: Global, metric: Box<dyn EncodeMetric>, number: &str) -> Result<(), Fail> {
+fn expect_counter<M: EncodeMetric + Drop>(
+    alloc: Global,
+    metric: M,
+    number: &str,
+) -> Result<(), Fail> {
     expect_number(alloc, "c", COUNTER, metric, number)
 }
 
 // Fails if this is not the number of a gauge's document.
-fn expect_gauge(alloc: Global, metric: Box<dyn EncodeMetric>, number: &str) -> Result<(), Fail> {
+fn expect_gauge<M: EncodeMetric + Drop>(
+    alloc: Global,
+    metric: M,
+    number: &str,
+) -> Result<(), Fail> {
     expect_number(alloc, "g", GAUGE, metric, number)
 }
 
@@ -103,10 +111,10 @@ fn clones_share_one_value(rt: HostRuntime) -> Result<(), Fail> {
     let alloc = rt.alloc();
     let hits = Counter::<u64>::try_default(rt, alloc)?;
     hits.clone()?.inc();
-    expect_counter(alloc, Box::new(alloc, hits)?, "1")?;
+    expect_counter(alloc, hits, "1")?;
     let level = Gauge::<i64>::new(alloc, 7)?;
     level.clone()?.set(-5);
-    expect_gauge(alloc, Box::new(alloc, level)?, "-5")
+    expect_gauge(alloc, level, "-5")
 }
 
 #[test]
@@ -115,7 +123,7 @@ fn gauges_that_wrap(rt: HostRuntime) -> Result<(), Fail> {
     let level = Gauge::<i32>::new(alloc, 0)?;
     level.clone()?.set(2147483647);
     assert!(rt; level.inc() == 2147483647 && level.get() == -2147483648);
-    expect_gauge(alloc, Box::new(alloc, level)?, "-2147483648")
+    expect_gauge(alloc, level, "-2147483648")
 }
 
 #[test]
@@ -124,7 +132,7 @@ fn counters_that_wrap(rt: HostRuntime) -> Result<(), Fail> {
     let hits = Counter::<u32>::try_default(rt, alloc)?;
     hits.set(4294967295)?;
     assert!(rt; hits.inc() == 4294967295 && hits.total() == 0);
-    expect_counter(alloc, Box::new(alloc, hits)?, "0")
+    expect_counter(alloc, hits, "0")
 }
 
 // Whether a word keeps the greater of its value and another, and returns the value before.

@@ -66,7 +66,7 @@ impl NumberSource<u64> for Hits {
 fn a_counter_asks_for_its_total(rt: HostRuntime) -> Result<(), Fail> {
     let alloc = rt.alloc();
     let document = "# TYPE hits counter\n# HELP hits H\nhits_total 41\n# EOF\n";
-    let counter = Box::new(alloc, SourceCounter::new(Hits))?;
+    let counter = SourceCounter::new(Hits);
     expect_document(alloc, "hits", None, counter, document)
 }
 
@@ -84,7 +84,7 @@ impl NumberSource<Fixed> for Half {
 fn a_counter_asks_for_millionths(rt: HostRuntime) -> Result<(), Fail> {
     let alloc = rt.alloc();
     let document = "# TYPE time counter\n# HELP time H\ntime_total 0.5\n# EOF\n";
-    let counter = Box::new(alloc, SourceCounter::new(Half))?;
+    let counter = SourceCounter::new(Half);
     expect_document(alloc, "time", None, counter, document)
 }
 
@@ -92,6 +92,6 @@ fn a_counter_asks_for_millionths(rt: HostRuntime) -> Result<(), Fail> {
 fn a_gauge_asks_for_millionths(rt: HostRuntime) -> Result<(), Fail> {
     let alloc = rt.alloc();
     let document = "# TYPE level gauge\n# HELP level H\nlevel 0.5\n# EOF\n";
-    let gauge = Box::new(alloc, SourceGauge::new(Half))?;
+    let gauge = SourceGauge::new(Half);
     expect_document(alloc, "level", None, gauge, document)
 }

@@ -64,7 +64,7 @@ fn a_gauge_histogram(rt: HostRuntime) -> Result<(), Fail> {
         alloc,
         "h",
         None,
-        Box::new(alloc, metric)?,
+        metric,
         "# TYPE h gaugehistogram\n# HELP h H\nh_bucket{le=\"-1.0\"} 3 # {trace_id=\"a\"} -3.0\n\
          h_bucket{le=\"+Inf\"} 5\nh_gcount 5\nh_gsum -12.5\n# EOF\n",
     )

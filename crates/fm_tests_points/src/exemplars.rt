@@ -41,7 +41,7 @@ fn no_exemplar(rt: HostRuntime) -> Result<(), Fail> {
         alloc,
         "x",
         None,
-        Box::new(alloc, five_with(()))?,
+        five_with(()),
         "# TYPE x counter\n# HELP x H\nx_total 5\n# EOF\n",
     )
 }
@@ -49,16 +49,16 @@ fn no_exemplar(rt: HostRuntime) -> Result<(), Fail> {
 #[test]
 fn half_labels(rt: HostRuntime) -> Result<(), Fail> {
     let alloc = rt.alloc();
-    let metric = Box::new(alloc, five_with(half([NameOnly])))?;
+    let metric = five_with(half([NameOnly]));
     expect_refusal(alloc, metric, EncodeError::MalformedLabel)?;
-    let metric = Box::new(alloc, five_with(half([ValueOnly])))?;
+    let metric = five_with(half([ValueOnly]));
     expect_refusal(alloc, metric, EncodeError::MalformedLabel)
 }
 
 #[test]
 fn labels_are_read_even_of_an_empty_set(rt: HostRuntime) -> Result<(), Fail> {
     let alloc = rt.alloc();
-    let metric = Box::new(alloc, five_with(half(Unvisited)))?;
+    let metric = five_with(half(Unvisited));
     expect_refusal(alloc, metric, EncodeError::MetricFault)
 }
 
@@ -69,8 +69,8 @@ fn errors_of_their_own(rt: HostRuntime) -> Result<(), Fail> {
         (EncodeError::ExemplarTooLong, EncodeError::MetricFault),
         (EncodeError::Memory, EncodeError::Memory),
     ] {
-        expect_refusal(alloc, Box::new(alloc, five_with(Faulty(own)))?, error)?;
-        expect_refusal(alloc, Box::new(alloc, five_with(half(Faulty(own))))?, error)?;
+        expect_refusal(alloc, five_with(Faulty(own)), error)?;
+        expect_refusal(alloc, five_with(half(Faulty(own))), error)?;
     }
     Ok(())
 }
@@ -78,10 +78,10 @@ fn errors_of_their_own(rt: HostRuntime) -> Result<(), Fail> {
 #[test]
 fn two_exemplars_of_one_object(rt: HostRuntime) -> Result<(), Fail> {
     let alloc = rt.alloc();
-    let metric = Box::new(alloc, five_with(TwoExemplars((), Fixed::ONE)))?;
+    let metric = five_with(TwoExemplars((), Fixed::ONE));
     expect_refusal(alloc, metric, EncodeError::ExemplarTwice)?;
     let twice_before_labels = TwoExemplars([NameOnly], Fixed::ONE);
-    let metric = Box::new(alloc, five_with(twice_before_labels))?;
+    let metric = five_with(twice_before_labels);
     expect_refusal(alloc, metric, EncodeError::ExemplarTwice)
 }
 
@@ -115,7 +115,7 @@ fn expect_buckets(
         value: Fixed::from_millionths(700_000),
         timestamp: None,
     };
-    let metric = Box::new(alloc, two_buckets(time, exemplar))?;
+    let metric = two_buckets(time, exemplar);
     expect_document(alloc, "h", None, metric, want)
 }
 
@@ -133,6 +133,6 @@ fn exemplar_of_a_bucket(rt: HostRuntime) -> Result<(), Fail> {
 #[test]
 fn two_exemplars_of_a_bucket(rt: HostRuntime) -> Result<(), Fail> {
     let alloc = rt.alloc();
-    let metric = Box::new(alloc, two_buckets(None, TwoExemplars((), Fixed::ONE)))?;
+    let metric = two_buckets(None, TwoExemplars((), Fixed::ONE));
     expect_refusal(alloc, metric, EncodeError::ExemplarTwice)
 }

@@ -47,7 +47,7 @@ fn member<LS, P>(metric_type: MetricType, labels: LS, point: P) -> OneMember<LS,
 fn type_before_slots(rt: HostRuntime) -> Result<(), Fail> {
     let alloc = rt.alloc();
     let metric = member(MetricType::Histogram, (), OneSlot(buckets(3, 2)));
-    expect_refusal(alloc, Box::new(alloc, metric)?, EncodeError::KindMismatch)
+    expect_refusal(alloc, metric, EncodeError::KindMismatch)
 }
 
 #[test]
@@ -59,11 +59,7 @@ fn slots_before_labels(rt: HostRuntime) -> Result<(), Fail> {
         labels(alloc, &[("1a", "1")])?,
         slots,
     );
-    expect_refusal(
-        alloc,
-        Box::new(alloc, metric)?,
-        EncodeError::ExemplarCountMismatch,
-    )
+    expect_refusal(alloc, metric, EncodeError::ExemplarCountMismatch)
 }
 
 #[test]
@@ -79,7 +75,7 @@ fn labels_before_the_sum(rt: HostRuntime) -> Result<(), Fail> {
             labels(alloc, &[(name, "1")])?,
             overflow,
         );
-        expect_refusal(alloc, Box::new(alloc, metric)?, error)?;
+        expect_refusal(alloc, metric, error)?;
     }
     Ok(())
 }
@@ -89,7 +85,7 @@ fn exemplar_of_a_bucket_before_the_sum_of_the_next(rt: HostRuntime) -> Result<()
     let alloc = rt.alloc();
     let point = two_buckets(18446744073709551615, 1, TwoExemplars((), Fixed::ONE));
     let metric = member(MetricType::Histogram, (), point);
-    expect_refusal(alloc, Box::new(alloc, metric)?, EncodeError::ExemplarTwice)
+    expect_refusal(alloc, metric, EncodeError::ExemplarTwice)
 }
 
 #[test]
@@ -101,7 +97,7 @@ fn number_before_the_exemplar(rt: HostRuntime) -> Result<(), Fail> {
             exemplar: Faulty(own),
         };
         let metric = member(MetricType::Counter, (), point);
-        expect_refusal(alloc, Box::new(alloc, metric)?, EncodeError::MissingValue)?;
+        expect_refusal(alloc, metric, EncodeError::MissingValue)?;
     }
     Ok(())
 }
@@ -114,11 +110,7 @@ fn labels_before_the_exemplar(rt: HostRuntime) -> Result<(), Fail> {
         exemplar: TwoExemplars((), Fixed::ONE),
     };
     let metric = member(MetricType::Counter, labels(alloc, &[("1a", "1")])?, point);
-    expect_refusal(
-        alloc,
-        Box::new(alloc, metric)?,
-        EncodeError::InvalidLabelName,
-    )
+    expect_refusal(alloc, metric, EncodeError::InvalidLabelName)
 }
 
 // An exemplar whose label has 121 letters and a name of eight, which is one more than there may be.
@@ -142,14 +134,14 @@ fn number_before_the_exemplars_of_a_counter(rt: HostRuntime) -> Result<(), Fail>
         total: Silent,
         exemplar,
     };
-    let metric = Box::new(alloc, member(MetricType::Counter, (), point))?;
+    let metric = member(MetricType::Counter, (), point);
     expect_refusal(alloc, metric, EncodeError::MissingValue)?;
     let exemplar = TwoExemplars((), Fixed::ONE);
     let point = CounterWith {
         total: Twice,
         exemplar,
     };
-    let metric = Box::new(alloc, member(MetricType::Counter, (), point))?;
+    let metric = member(MetricType::Counter, (), point);
     expect_refusal(alloc, metric, EncodeError::ValueTwice)
 }
 
@@ -160,19 +152,19 @@ fn number_before_the_length_of_an_exemplar(rt: HostRuntime) -> Result<(), Fail> 
         total: Silent,
         exemplar: too_long(alloc)?,
     };
-    let metric = Box::new(alloc, member(MetricType::Counter, (), point))?;
+    let metric = member(MetricType::Counter, (), point);
     expect_refusal(alloc, metric, EncodeError::MissingValue)?;
     let point = CounterWith {
         total: Twice,
         exemplar: too_long(alloc)?,
     };
-    let metric = Box::new(alloc, member(MetricType::Counter, (), point))?;
+    let metric = member(MetricType::Counter, (), point);
     expect_refusal(alloc, metric, EncodeError::ValueTwice)?;
     let point = CounterWith {
         total: 5u64,
         exemplar: too_long(alloc)?,
     };
-    let metric = Box::new(alloc, member(MetricType::Counter, (), point))?;
+    let metric = member(MetricType::Counter, (), point);
     expect_refusal(alloc, metric, EncodeError::ExemplarTooLong)
 }
 
@@ -184,7 +176,7 @@ fn second_exemplar_before_its_length(rt: HostRuntime) -> Result<(), Fail> {
         total: 5u64,
         exemplar: TwoExemplars(long.labels, Fixed::ONE),
     };
-    let metric = Box::new(alloc, member(MetricType::Counter, (), point))?;
+    let metric = member(MetricType::Counter, (), point);
     expect_refusal(alloc, metric, EncodeError::ExemplarTwice)
 }
 
@@ -192,7 +184,7 @@ fn second_exemplar_before_its_length(rt: HostRuntime) -> Result<(), Fail> {
 fn labels_before_two_numbers(rt: HostRuntime) -> Result<(), Fail> {
     let alloc = rt.alloc();
     let labels = labels(alloc, &[("1a", "1")])?;
-    let metric = Box::new(alloc, OneMember::gauge(labels, ConstGauge::new(Twice)))?;
+    let metric = OneMember::gauge(labels, ConstGauge::new(Twice));
     expect_refusal(alloc, metric, EncodeError::InvalidLabelName)
 }
 
@@ -208,12 +200,12 @@ fn sum_before_the_exemplar_of_a_bucket(rt: HostRuntime) -> Result<(), Fail> {
             exemplar: TwoExemplars((), Fixed::ONE),
         };
         let metric = member(MetricType::Histogram, (), point);
-        expect_refusal(alloc, Box::new(alloc, metric)?, error)?;
+        expect_refusal(alloc, metric, error)?;
     }
     let point = SecondSlot {
         buckets: buckets(18446744073709551615, 1),
         exemplar: too_long(alloc)?,
     };
     let metric = member(MetricType::Histogram, (), point);
-    expect_refusal(alloc, Box::new(alloc, metric)?, EncodeError::BucketOverflow)
+    expect_refusal(alloc, metric, EncodeError::BucketOverflow)
 }

@@ -39,7 +39,7 @@ fn negative_values_in_a_snapshot(rt: HostRuntime) -> Result<(), Fail> {
     }
     let sum = FixedSum::from_millionths(850_000_000);
     expect_observed_gauge(&all, &[0, 1, 0, 1, 1, 0, 1], 4, sum)?;
-    expect_document(alloc, "t", None, Box::new(alloc, all)?, DOCUMENT)
+    expect_document(alloc, "t", None, all, DOCUMENT)
 }
 
 // Observes the whole numbers from -100 to -1 and from 1 to 100.
@@ -132,7 +132,7 @@ fn exemplar_of_a_gauge_bucket(rt: HostRuntime) -> Result<(), Fail> {
         alloc,
         "t",
         None,
-        Box::new(alloc, metric)?,
+        metric,
         "# TYPE t gaugehistogram\n# HELP t H\nt_bucket{le=\"-1.0\"} 3 # {trace_id=\"a\"} -3.0\n\
         t_bucket{le=\"+Inf\"} 5\nt_gcount 7\nt_gsum -12.5\n# EOF\n",
     )

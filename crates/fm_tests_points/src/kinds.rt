@@ -38,7 +38,7 @@ fn each_kind_in_each_other_family(rt: HostRuntime) -> Result<(), Fail> {
     for family in TYPES {
         for point in TYPES {
             if family != point {
-                let metric = Box::new(alloc, five_in(alloc, family, point))?;
+                let metric = five_in(alloc, family, point);
                 expect_refusal(alloc, metric, EncodeError::KindMismatch)?;
             }
         }
@@ -83,7 +83,7 @@ fn each_kind_in_its_own_family(rt: HostRuntime) -> Result<(), Fail> {
             "# TYPE t summary\n# HELP t H\nt_count 5\nt_sum 0.0\n# EOF\n",
         ),
     ] {
-        let metric = Box::new(alloc, five_in(alloc, metric_type, metric_type))?;
+        let metric = five_in(alloc, metric_type, metric_type);
         expect_document(alloc, "t", None, metric, want)?;
     }
     Ok(())

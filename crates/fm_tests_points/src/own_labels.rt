@@ -22,10 +22,10 @@ fn info<LS, Own>(labels: LS, own: Own) -> OneMember<LS, Info<Own>> {
 #[test]
 fn labels_of_a_member_and_of_its_own(rt: HostRuntime) -> Result<(), Fail> {
     let alloc = rt.alloc();
-    let metric = Box::new(alloc, info([(Word("a"), 1)], [(Word("b"), 2)]))?;
+    let metric = info([(Word("a"), 1)], [(Word("b"), 2)]);
     let want = "# TYPE t info\n# HELP t H\nt_info{a=\"1\",b=\"2\"} 1\n# EOF\n";
     expect_document(alloc, "t", None, metric, want)?;
-    let metric = Box::new(alloc, info([(Word("a"), 1)], Unvisited))?;
+    let metric = info([(Word("a"), 1)], Unvisited);
     let want = "# TYPE t info\n# HELP t H\nt_info{a=\"1\"} 1\n# EOF\n";
     expect_document(alloc, "t", None, metric, want)
 }
@@ -33,20 +33,20 @@ fn labels_of_a_member_and_of_its_own(rt: HostRuntime) -> Result<(), Fail> {
 #[test]
 fn own_labels_that_do_not_fit(rt: HostRuntime) -> Result<(), Fail> {
     let alloc = rt.alloc();
-    let metric = Box::new(alloc, Info::new([(Word("1a"), 1)]))?;
+    let metric = Info::new([(Word("1a"), 1)]);
     expect_refusal(alloc, metric, EncodeError::InvalidLabelName)?;
-    let metric = Box::new(alloc, Info::new([(Word("a"), 1), (Word("a"), 2)]))?;
+    let metric = Info::new([(Word("a"), 1), (Word("a"), 2)]);
     expect_refusal(alloc, metric, EncodeError::DuplicateLabel)?;
-    let metric = Box::new(alloc, Info::new([NameOnly]))?;
+    let metric = Info::new([NameOnly]);
     expect_refusal(alloc, metric, EncodeError::MalformedLabel)?;
-    let metric = Box::new(alloc, Info::new([ValueOnly]))?;
+    let metric = Info::new([ValueOnly]);
     expect_refusal(alloc, metric, EncodeError::MalformedLabel)
 }
 
 #[test]
 fn own_labels_that_the_member_has(rt: HostRuntime) -> Result<(), Fail> {
     let alloc = rt.alloc();
-    let metric = Box::new(alloc, info([(Word("a"), 1)], [(Word("a"), 2)]))?;
+    let metric = info([(Word("a"), 1)], [(Word("a"), 2)]);
     expect_refusal(alloc, metric, EncodeError::DuplicateLabel)
 }
 
@@ -54,8 +54,8 @@ fn own_labels_that_the_member_has(rt: HostRuntime) -> Result<(), Fail> {
 fn labels_of_a_member_before_own_ones(rt: HostRuntime) -> Result<(), Fail> {
     let alloc = rt.alloc();
     let member = [(Word("a"), 1), (Word("a"), 2)];
-    let metric = Box::new(alloc, info(member, [(Word("1a"), 3)]))?;
+    let metric = info(member, [(Word("1a"), 3)]);
     expect_refusal(alloc, metric, EncodeError::DuplicateLabel)?;
-    let metric = Box::new(alloc, info([(Word("1a"), 1)], [NameOnly]))?;
+    let metric = info([(Word("1a"), 1)], [NameOnly]);
     expect_refusal(alloc, metric, EncodeError::InvalidLabelName)
 }

@@ -93,7 +93,7 @@ impl EncodeExemplar for Five {
 fn the_value_of_a_gauge(rt: HostRuntime) -> Result<(), Fail> {
     let alloc = rt.alloc();
     let reads = Reads::new(alloc)?;
-    let metric = Box::new(alloc, ConstGauge::new(Five(reads.share()?)))?;
+    let metric = ConstGauge::new(Five(reads.share()?));
     let want = "# TYPE t gauge\n# HELP t H\nt 5\n# EOF\n";
     expect_document(alloc, "t", None, metric, want)?;
     assert!(rt; reads.is_one_in_each_encoding());
@@ -104,7 +104,7 @@ fn the_value_of_a_gauge(rt: HostRuntime) -> Result<(), Fail> {
 fn the_total_of_a_counter(rt: HostRuntime) -> Result<(), Fail> {
     let alloc = rt.alloc();
     let reads = Reads::new(alloc)?;
-    let metric = Box::new(alloc, ConstCounter::new(Five(reads.share()?)))?;
+    let metric = ConstCounter::new(Five(reads.share()?));
     let want = "# TYPE t counter\n# HELP t H\nt_total 5\n# EOF\n";
     expect_document(alloc, "t", None, metric, want)?;
     assert!(rt; reads.is_one_in_each_encoding());
@@ -121,7 +121,7 @@ fn the_value_of_an_unknown_metric(rt: HostRuntime) -> Result<(), Fail> {
         labels: (),
         point: UnknownOf(Five(reads.share()?)),
     };
-    let metric = Box::new(alloc, metric)?;
+    let metric = metric;
     let want = "# TYPE t unknown\n# HELP t H\nt 5\n# EOF\n";
     expect_document(alloc, "t", None, metric, want)?;
     assert!(rt; reads.is_one_in_each_encoding());
@@ -141,7 +141,7 @@ fn the_exemplar_of_a_counter(rt: HostRuntime) -> Result<(), Fail> {
             exemplar: Five(reads.share()?),
         },
     };
-    let metric = Box::new(alloc, metric)?;
+    let metric = metric;
     let want = "# TYPE t counter\n# HELP t H\nt_total 5\n# EOF\n";
     expect_document(alloc, "t", None, metric, want)?;
     assert!(rt; reads.is_one_in_each_encoding());
@@ -171,7 +171,7 @@ fn the_exemplar_of_a_bucket(rt: HostRuntime) -> Result<(), Fail> {
         labels: (),
         point: two_buckets(reads.share()?),
     };
-    let metric = Box::new(alloc, metric)?;
+    let metric = metric;
     let want =
         "# TYPE t histogram\n# HELP t H\nt_bucket{le=\"1.0\"} 3\nt_bucket{le=\"+Inf\"} 5\nt_count 5\nt_sum 0.0\n# EOF\n";
     expect_document(alloc, "t", None, metric, want)?;
@@ -189,7 +189,7 @@ fn the_exemplar_of_a_gauge_bucket(rt: HostRuntime) -> Result<(), Fail> {
         labels: (),
         point: TwoGaugeBuckets(two_buckets(reads.share()?)),
     };
-    let metric = Box::new(alloc, metric)?;
+    let metric = metric;
     let want =
         "# TYPE t gaugehistogram\n# HELP t H\nt_bucket{le=\"1.0\"} 3\nt_bucket{le=\"+Inf\"} 5\nt_gcount 5\nt_gsum 0.0\n# EOF\n";
     expect_document(alloc, "t", None, metric, want)?;
@@ -277,7 +277,7 @@ fn make_counting<LS: Drop>(calls: &Calls, labels: LS) -> Result<Counting<LS>, Al
 fn the_calls_of_a_metric(rt: HostRuntime) -> Result<(), Fail> {
     let alloc = rt.alloc();
     let calls = Calls::new(alloc)?;
-    let metric = Box::new(alloc, make_counting(&calls, ())?)?;
+    let metric = make_counting(&calls, ())?;
     let want = "# TYPE t gauge\n# HELP t H\nt 5\n# EOF\n";
     expect_document(alloc, "t", None, metric, want)?;
     assert!(rt; calls.are_made_once());
@@ -288,7 +288,7 @@ fn the_calls_of_a_metric(rt: HostRuntime) -> Result<(), Fail> {
 fn the_calls_of_a_metric_that_is_refused(rt: HostRuntime) -> Result<(), Fail> {
     let alloc = rt.alloc();
     let calls = Calls::new(alloc)?;
-    let metric = Box::new(alloc, make_counting(&calls, [(Word("1a"), 1)])?)?;
+    let metric = make_counting(&calls, [(Word("1a"), 1)])?;
     expect_refusal(alloc, metric, EncodeError::InvalidLabelName)?;
     assert!(rt; calls.are_made_once());
     Ok(())
@@ -328,7 +328,7 @@ impl EncodeMetric for Empty {
 fn an_empty_metric_is_left_out(rt: HostRuntime) -> Result<(), Fail> {
     let alloc = rt.alloc();
     let visits = Reads::new(alloc)?;
-    let metric = Box::new(alloc, Empty(visits.share()?))?;
+    let metric = Empty(visits.share()?);
     expect_document(alloc, "t", None, metric, "# EOF\n")?;
     assert!(rt; visits.0.load(Ordering::SeqCst) == 0);
     Ok(())

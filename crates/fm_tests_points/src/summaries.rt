@@ -43,7 +43,7 @@ fn quantiles_under_member_labels(rt: HostRuntime) -> Result<(), Fail> {
         alloc,
         "s",
         None,
-        Box::new(alloc, metric)?,
+        metric,
         "# TYPE s summary\n# HELP s H\ns{le=\"1\",quantile=\"0.5\"} 2.0\ns{le=\"1\",quantile=\"0.99\"} 7.25\n\
         s_count{le=\"1\"} 20\ns_sum{le=\"1\"} 100.0\n# EOF\n",
     )
@@ -52,7 +52,7 @@ fn quantiles_under_member_labels(rt: HostRuntime) -> Result<(), Fail> {
 #[test]
 fn label_of_quantiles_is_reserved(rt: HostRuntime) -> Result<(), Fail> {
     let alloc = rt.alloc();
-    let metric = Box::new(alloc, summary(labels(alloc, &[(QUANTILE_LABEL, "1")])?))?;
+    let metric = summary(labels(alloc, &[(QUANTILE_LABEL, "1")])?);
     expect_refusal(alloc, metric, EncodeError::ReservedLabel)?;
     assert!(rt; QUANTILE_LABEL == "quantile");
     Ok(())

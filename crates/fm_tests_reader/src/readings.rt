@@ -21,7 +21,7 @@ fn readings(alloc: Global, shown: usize) -> Result<Readings, AllocError> {
 fn value_of_the_moment(rt: HostRuntime) -> Result<(), Fail> {
     let alloc = rt.alloc();
     for (shown, lines) in [(0, "t 5 1.000\n# EOF\n"), (1, "t -7 2.005\n# EOF\n")] {
-        expect_lines(alloc, Box::new(alloc, readings(alloc, shown)?)?, lines)?;
+        expect_lines(alloc, readings(alloc, shown)?, lines)?;
     }
     Ok(())
 }
@@ -29,6 +29,6 @@ fn value_of_the_moment(rt: HostRuntime) -> Result<(), Fail> {
 #[test]
 fn no_such_moment(rt: HostRuntime) -> Result<(), Fail> {
     let alloc = rt.alloc();
-    let metric = Box::new(alloc, readings(alloc, 2)?)?;
+    let metric = readings(alloc, 2)?;
     expect_refusal(alloc, metric, EncodeError::MetricFault)
 }

@@ -44,7 +44,8 @@ fn counted_sum(rt: HostRuntime) -> Result<(), Fail> {
     let alloc = rt.alloc();
     let want = "# TYPE jobs counter\n# HELP jobs Jobs done\njobs_total 10100\n# EOF\n";
     expect_counter(alloc, "jobs", "Jobs done", counted_jobs()?, want)?;
-    expect_document_of(alloc, &Registry::default(), "# EOF\n")
+    let empty: Registry = Registry::default();
+    expect_document_of(alloc, &empty, "# EOF\n")
 }
 
 #[test]
@@ -54,13 +55,10 @@ fn waiting_requests(rt: HostRuntime) -> Result<(), Fail> {
         name: String::from_str(alloc, "mail \"out\"")?,
         priority: 3,
     };
-    let waiting = Box::new(
-        alloc,
-        Waiting {
-            queue,
-            requests: 12,
-        },
-    )?;
+    let waiting = Waiting {
+        queue,
+        requests: 12,
+    };
     expect_document(
         alloc,
         "waiting_requests",

@@ -29,7 +29,7 @@ fn has_all_labels(document: &str) -> bool {
 fn three_hundred_labels(rt: HostRuntime) -> Result<(), Fail> {
     let alloc = rt.alloc();
     let labels = numbered(alloc, 300)?;
-    let metric = Box::new(alloc, OneMember::gauge(labels, ConstGauge::new(5i64)))?;
+    let metric = OneMember::gauge(labels, ConstGauge::new(5i64));
     let document = document_alone(alloc, "t", None, metric)?;
     assert!(rt; has_all_labels(document.as_str()));
     Ok(())
@@ -56,7 +56,7 @@ fn has_long_texts(document: &str) -> bool {
 fn a_hundred_thousand_letters(rt: HostRuntime) -> Result<(), Fail> {
     let alloc = rt.alloc();
     let labels = vec![in alloc; (letters(alloc, 10_000)?, letters(alloc, 10_000)?)]?;
-    let metric = Box::new(alloc, OneMember::gauge(labels, ConstGauge::new(5i64)))?;
+    let metric = OneMember::gauge(labels, ConstGauge::new(5i64));
     let document = document_alone(alloc, "t", None, metric)?;
     assert!(rt; has_long_texts(document.as_str()));
     Ok(())

@@ -21,10 +21,7 @@ const LINE: &str =
 #[test]
 fn a_hundred_thousand_lines(rt: HostRuntime) -> Result<(), Fail> {
     let alloc = rt.alloc();
-    let gauge = Box::new(
-        alloc,
-        OneMember::gauge([(Word("k"), Word("v"))], Repeated(100_000)),
-    )?;
+    let gauge = OneMember::gauge([(Word("k"), Word("v"))], Repeated(100_000));
     let document = document_alone(alloc, NAME, None, gauge)?;
     assert!(rt; document.as_str().starts_with(HEAD));
     assert!(rt; document.as_str().ends_with("{k=\"v\"} 5\n# EOF\n"));
