@@ -1,7 +1,7 @@
 //! Exemplars of a user's own on counters and on buckets.
 
 use crate::points::{NameOnly, TwoBuckets, TwoExemplars, ValueOnly};
-use fastmetrics::encoder::{EncodeError, LabeledExemplar};
+use fastmetrics::encoder::{EncodeError, EncodeMetric, LabeledExemplar};
 use fastmetrics::raw::bucket::{Bound, Bucket};
 use fastmetrics::raw::{Fixed, FixedSum, MetricType};
 use fm_test_support::members::OneMember;
@@ -134,5 +134,6 @@ fn exemplar_of_a_bucket(rt: HostRuntime) -> Result<(), Fail> {
 fn two_exemplars_of_a_bucket(rt: HostRuntime) -> Result<(), Fail> {
     let alloc = rt.alloc();
     let metric = two_buckets(None, TwoExemplars((), Fixed::ONE));
+    let metric: Box<dyn EncodeMetric> = Box::new(alloc, metric)?;
     expect_refusal(alloc, metric, EncodeError::ExemplarTwice)
 }

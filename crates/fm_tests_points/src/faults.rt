@@ -1,7 +1,7 @@
 //! Which of two faults is named.
 
 use crate::points::{OneSlot, SecondSlot, TwoBuckets, TwoExemplars, TwoGaugeBuckets};
-use fastmetrics::encoder::{EncodeError, LabeledExemplar};
+use fastmetrics::encoder::{EncodeError, EncodeMetric, LabeledExemplar};
 use fastmetrics::metrics::gauge::ConstGauge;
 use fastmetrics::raw::bucket::{Bound, Bucket};
 use fastmetrics::raw::{Fixed, FixedSum, MetricType};
@@ -84,7 +84,7 @@ fn labels_before_the_sum(rt: HostRuntime) -> Result<(), Fail> {
 fn exemplar_of_a_bucket_before_the_sum_of_the_next(rt: HostRuntime) -> Result<(), Fail> {
     let alloc = rt.alloc();
     let point = two_buckets(18446744073709551615, 1, TwoExemplars((), Fixed::ONE));
-    let metric = member(MetricType::Histogram, (), point);
+    let metric: Box<dyn EncodeMetric> = Box::new(alloc, member(MetricType::Histogram, (), point))?;
     expect_refusal(alloc, metric, EncodeError::ExemplarTwice)
 }
 
