@@ -90,11 +90,19 @@ fn add_labels<LS: EncodeLabelSet>(
 }
 
 // The constant labels of a registry, tested for the type of its current family.
-#[derive(Drop)]
 pub(crate) struct ConstantLabels {
     labels: LabelText,
     // Why no point is accepted under them, if one of them is not valid.
     refusal: Option<EncodeError>,
+}
+
+impl Drop for ConstantLabels {
+    fn drop(self) {
+        let ConstantLabels {
+            labels: _,
+            refusal: _,
+        } = self;
+    }
 }
 
 impl Model for ConstantLabels {

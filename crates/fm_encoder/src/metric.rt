@@ -97,10 +97,18 @@ impl EncodeMetric for Box<dyn EncodeMetric> {
 }
 
 /// Puts the samples of a metric's family into a sink.
-#[derive(Drop)]
 pub struct MetricEncoder {
     constants: ConstantLabels,
     points: PointEncoder,
+}
+
+impl Drop for MetricEncoder {
+    fn drop(self) {
+        let MetricEncoder {
+            constants: _,
+            points: _,
+        } = self;
+    }
 }
 
 impl Model for MetricEncoder {

@@ -56,7 +56,6 @@ pub trait EncodePoint {
 }
 
 /// Puts the samples of points under one member's labels into a sink.
-#[derive(Drop)]
 pub struct PointEncoder {
     alloc: Global,
     name: String,
@@ -72,6 +71,23 @@ pub struct PointEncoder {
     front: GrowingText,
     // The labels of a sample that has none of its own.
     none: LabelText,
+}
+
+impl Drop for PointEncoder {
+    fn drop(self) {
+        let PointEncoder {
+            alloc: _,
+            name: _,
+            time: _,
+            labels: _,
+            deferred: _,
+            sink: _,
+            refused: _,
+            bounds: _,
+            front: _,
+            none: _,
+        } = self;
+    }
 }
 
 impl Model for PointEncoder {
@@ -323,6 +339,18 @@ impl PointEncoder {
     pub(crate) fn into_sink(self) -> Sink
         ensures { result.output ≡ self.output }
     {
-        self.sink
+        let PointEncoder {
+            alloc: _,
+            name: _,
+            time: _,
+            labels: _,
+            deferred: _,
+            sink,
+            refused: _,
+            bounds: _,
+            front: _,
+            none: _,
+        } = self;
+        sink
     }
 }

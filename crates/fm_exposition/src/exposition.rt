@@ -28,15 +28,25 @@ pub enum Value {
 }
 
 /// An observation that is an example of a sample (OpenMetrics, Exemplars): its labels, its value and its time.
-#[derive(Debug, Drop)]
+#[derive(Debug)]
 pub struct Exemplar {
     pub(crate) labels: Vec<(String, String)>,
     pub(crate) value: Fixed,
     pub(crate) time: Option<u128>,
 }
 
+impl Drop for Exemplar {
+    fn drop(self) {
+        let Exemplar {
+            labels: _,
+            value: _,
+            time: _,
+        } = self;
+    }
+}
+
 /// One line of a family. The labels that it shares with its point's other samples come before the others.
-#[derive(Debug, Drop)]
+#[derive(Debug)]
 pub struct Sample {
     pub(crate) kind: SampleKind,
     pub(crate) common: CommonLabels,
@@ -47,14 +57,39 @@ pub struct Sample {
     pub(crate) exemplar: Option<Box<Exemplar>>,
 }
 
+impl Drop for Sample {
+    fn drop(self) {
+        let Sample {
+            kind: _,
+            common: _,
+            own: _,
+            value: _,
+            time: _,
+            exemplar: _,
+        } = self;
+    }
+}
+
 /// A family with its samples.
-#[derive(Debug, Drop)]
+#[derive(Debug)]
 pub struct FamilySamples {
     pub(crate) name: String,
     pub(crate) metric_type: MetricType,
     pub(crate) help: String,
     pub(crate) unit: Option<String>,
     pub(crate) samples: SampleStore,
+}
+
+impl Drop for FamilySamples {
+    fn drop(self) {
+        let FamilySamples {
+            name: _,
+            metric_type: _,
+            help: _,
+            unit: _,
+            samples: _,
+        } = self;
+    }
 }
 
 impl Model for FamilySamples {
@@ -68,9 +103,15 @@ impl Model for FamilySamples {
 }
 
 /// Families of samples. Each exposition is well formed: its families are, and no two of them have the same name.
-#[derive(Debug, Drop)]
+#[derive(Debug)]
 pub struct Exposition {
     pub(crate) families: Vec<FamilySamples>,
+}
+
+impl Drop for Exposition {
+    fn drop(self) {
+        let Exposition { families: _ } = self;
+    }
 }
 
 impl Model for Exposition {

@@ -12,7 +12,7 @@ use std::marker::Model;
 use std::mem;
 
 /// The samples of points, in order. Those of one point share one list of common labels.
-#[derive(Debug, Drop)]
+#[derive(Debug)]
 pub struct SampleStore {
     alloc: Global,
     samples: Vec<Sample>,
@@ -21,6 +21,18 @@ pub struct SampleStore {
     common: CommonLabels,
     // Whether the next sample belongs to the last point.
     is_under_way: bool,
+}
+
+impl Drop for SampleStore {
+    fn drop(self) {
+        let SampleStore {
+            alloc: _,
+            samples: _,
+            counts: _,
+            common: _,
+            is_under_way: _,
+        } = self;
+    }
 }
 
 impl Model for SampleStore {

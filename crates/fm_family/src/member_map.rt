@@ -16,12 +16,22 @@ use std::hash::{BuildHasher, Hash};
 use std::marker::Model;
 
 // Metrics by label set, in the order in which they were added. Contracts see the map.
-#[derive(Drop)]
 pub(crate) struct MemberMap<LS: EncodeLabelSet + Eq + Hash, M, S: BuildHasher> {
     alloc: Global,
     members: IndexMap<LS, M, S>,
     // The labels of each member as they are written, or `None` where they are not valid in each family.
     labels: Vec<Option<WrittenLabels>>,
+}
+
+impl<LS: EncodeLabelSet + Eq + Hash + Drop, M: Drop, S: BuildHasher + Drop> Drop
+    for MemberMap<LS, M, S> {
+    fn drop(self) {
+        let MemberMap {
+            alloc: _,
+            members: _,
+            labels: _,
+        } = self;
+    }
 }
 
 impl<LS: EncodeLabelSet + Eq + Hash, M, S: BuildHasher> Model for MemberMap<LS, M, S> {

@@ -29,9 +29,15 @@ use std::hash::{BuildHasher, Hash};
 /// family with `with_hasher`, and with `DefaultFactory::new(rt, alloc)` if `try_default` makes the metrics. The
 /// compiler refuses `new` there ("the item `new` exists .., but its bounds are not met") and `try_default` ("no
 /// function or constant named `try_default` found").
-#[derive(Drop)]
 pub struct FamilyCore<LS: EncodeLabelSet + Eq + Hash, M, S: BuildHasher> {
     members: MemberMap<LS, M, S>,
+}
+
+impl<LS: EncodeLabelSet + Eq + Hash + Drop, M: Drop, S: BuildHasher + Drop> Drop
+    for FamilyCore<LS, M, S> {
+    fn drop(self) {
+        let FamilyCore { members: _ } = self;
+    }
 }
 
 impl<LS: EncodeLabelSet + Eq + Hash, M, S: BuildHasher + Default> FamilyCore<LS, M, S> {

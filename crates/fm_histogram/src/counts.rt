@@ -14,13 +14,24 @@ use std::marker::{Brand, Model};
 use std::sync::ledger::Blank;
 
 /// Counts of values by bounds, how many values there are, and their sum in millionths.
-#[derive(Clone, Drop)]
+#[derive(Clone)]
 pub struct Counts {
     // The bounds of all buckets but the last, side by side: a search is fastest there.
     bounds: Vec<Fixed>,
     buckets: Vec<Bucket>,
     count: u64,
     sum: i128,
+}
+
+impl Drop for Counts {
+    fn drop(self) {
+        let Counts {
+            bounds: _,
+            buckets: _,
+            count: _,
+            sum: _,
+        } = self;
+    }
 }
 
 impl Model for Counts {

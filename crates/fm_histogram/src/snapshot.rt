@@ -23,10 +23,15 @@ use std::time::Duration;
 
 /// How many observed values lie in each bucket, how many there are, and their sum. The sign says whether negative values
 /// and bounds are taken. Cloning takes memory.
-#[derive(Drop)]
 pub struct SnapshotOf<S: Sign> {
     counts: Counts,
     sign: PhantomData<S>,
+}
+
+impl<S: Sign> Drop for SnapshotOf<S> {
+    fn drop(self) {
+        let SnapshotOf { counts: _, sign: _ } = self;
+    }
 }
 
 /// How many observed values lie in each bucket, how many there are, and their sum.

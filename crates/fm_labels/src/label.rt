@@ -67,11 +67,20 @@ pub trait EncodeLabel {
 }
 
 /// Gathers the pieces of one label, which follows the labels before it.
-#[derive(Drop)]
 pub struct LabelEncoder {
     metric_type: MetricType,
     labels: LabelText,
     refused: FirstRefusal,
+}
+
+impl Drop for LabelEncoder {
+    fn drop(self) {
+        let LabelEncoder {
+            metric_type: _,
+            labels: _,
+            refused: _,
+        } = self;
+    }
 }
 
 impl Model for LabelEncoder {
@@ -159,9 +168,14 @@ impl LabelEncoder {
 }
 
 /// Gathers the labels of a label set.
-#[derive(Drop)]
 pub struct LabelSetEncoder {
     label: LabelEncoder,
+}
+
+impl Drop for LabelSetEncoder {
+    fn drop(self) {
+        let LabelSetEncoder { label: _ } = self;
+    }
 }
 
 impl Model for LabelSetEncoder {

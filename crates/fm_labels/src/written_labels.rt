@@ -25,9 +25,14 @@ fn summary_labels<LS: EncodeLabelSet>(alloc: Global, labels: &LS) -> Result<Labe
 }
 
 /// The labels of a label set, as they are written. They are valid in a family of any type that has no constant labels.
-#[derive(Drop)]
 pub struct WrittenLabels {
     pub labels: LabelText,
+}
+
+impl Drop for WrittenLabels {
+    fn drop(self) {
+        let WrittenLabels { labels: _ } = self;
+    }
 }
 
 impl Model for WrittenLabels {

@@ -65,11 +65,16 @@ impl<'a> Common<'a> {
 }
 
 /// The samples of a family so far.
-#[derive(Drop)]
 pub(crate) struct ReadSamples<'a> {
     store: SampleStore,
     // The text of the store's common labels in the document.
     text: &'a str,
+}
+
+impl Drop for ReadSamples<'_> {
+    fn drop(self) {
+        let ReadSamples { store: _, text: _ } = self;
+    }
 }
 
 impl<'a> Model for ReadSamples<'a> {
@@ -143,6 +148,7 @@ impl<'a> ReadSamples<'a> {
     pub(crate) fn into_store(self) -> SampleStore
         ensures { result ≡ self.entry }
     {
-        self.store
+        let ReadSamples { store, text: _ } = self;
+        store
     }
 }

@@ -21,11 +21,20 @@ use std::sync::Wait;
 /// A registry whose metrics are values of the type `M`, with the subsystem in which it registers: at first the root itself.
 ///
 /// Its type says that it reads a history of accepted calls.
-#[derive(Drop)]
 pub struct RegistryAt<M> {
     registry: Registry<M>,
     path: Vec<String>,
     alloc: Global,
+}
+
+impl<M: Drop> Drop for RegistryAt<M> {
+    fn drop(self) {
+        let RegistryAt {
+            registry: _,
+            path: _,
+            alloc: _,
+        } = self;
+    }
 }
 
 impl<M> Model for RegistryAt<M> {

@@ -36,12 +36,17 @@ fn lengthen(bytes: &mut Vec<u8>, at_least: usize) -> Result<(), AllocError>
 }
 
 /// A text that grows at its end.
-#[derive(Drop)]
 pub struct GrowingText {
     // The text, followed by room for more.
     bytes: Vec<u8>,
     // The length of the text in bytes.
     end: usize,
+}
+
+impl Drop for GrowingText {
+    fn drop(self) {
+        let GrowingText { bytes: _, end: _ } = self;
+    }
 }
 
 impl Model for GrowingText {

@@ -16,11 +16,17 @@ struct LabelBounds {
 }
 
 /// Labels in order, each with its name and its value.
-#[derive(Debug, Drop)]
+#[derive(Debug)]
 pub struct LabelList {
     // The names and values, one after the other.
     text: String,
     bounds: Vec<LabelBounds>,
+}
+
+impl Drop for LabelList {
+    fn drop(self) {
+        let LabelList { text: _, bounds: _ } = self;
+    }
 }
 
 impl Model for LabelList {

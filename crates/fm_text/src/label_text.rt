@@ -122,7 +122,6 @@ fn may_end(is_listed: bool, name: Option<Part>, value: Option<Part>) -> bool
 }
 
 /// Labels that are kept in one text, and the name and the value of the current label, which has not ended yet.
-#[derive(Drop)]
 pub struct LabelText {
     // The names and values, each where it is in the labels' list.
     text: GrowingText,
@@ -132,6 +131,18 @@ pub struct LabelText {
     value: Option<Part>,
     // Whether the text is the labels' list, except for the quote at its end.
     is_listed: bool,
+}
+
+impl Drop for LabelText {
+    fn drop(self) {
+        let LabelText {
+            text: _,
+            spans: _,
+            name: _,
+            value: _,
+            is_listed: _,
+        } = self;
+    }
 }
 
 impl Model for LabelText {

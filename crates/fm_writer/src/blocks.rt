@@ -22,11 +22,20 @@ const FIRST_ROOM: usize = 4_096;
 const FULL: usize = 64_512;
 
 /// A text in blocks: full ones, and the last one, to whose end a text is appended.
-#[derive(Drop)]
 pub struct TextBlocks {
     alloc: Global,
     pub(crate) full: Vec<GrowingText>,
     pub(crate) last: GrowingText,
+}
+
+impl Drop for TextBlocks {
+    fn drop(self) {
+        let TextBlocks {
+            alloc: _,
+            full: _,
+            last: _,
+        } = self;
+    }
 }
 
 impl Model for TextBlocks {

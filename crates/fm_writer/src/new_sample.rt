@@ -4,7 +4,6 @@ use fm_grammar::SampleKind;
 use fm_text::LabelText;
 
 /// A sample of a family, on its way to a sink.
-#[derive(Drop)]
 pub struct NewSample<'a> {
     /// Its kind, which decides the suffix of its name.
     pub kind: SampleKind,
@@ -18,4 +17,17 @@ pub struct NewSample<'a> {
     pub time: Option<u128>,
     /// Its exemplar.
     pub exemplar: Option<Exemplar>,
+}
+
+impl Drop for NewSample<'_> {
+    fn drop(self) {
+        let NewSample {
+            kind: _,
+            common: _,
+            own: _,
+            value: _,
+            time: _,
+            exemplar: _,
+        } = self;
+    }
 }

@@ -101,10 +101,15 @@ fn append_row(
 }
 
 /// Keeps samples, or appends their lines to a text.
-#[derive(Drop)]
 pub struct Sink {
     alloc: Global,
     form: Form,
+}
+
+impl Drop for Sink {
+    fn drop(self) {
+        let Sink { alloc: _, form: _ } = self;
+    }
 }
 
 impl Model for Sink {
@@ -219,7 +224,7 @@ impl Sink {
     pub fn into_text(self) -> Option<TextBlocks>
         ensures { result ≡ text_in self.output }
     {
-        let Sink { form, .. } = self;
+        let Sink { alloc: _, form } = self;
         match form {
             Form::Samples(_, _) => None,
             Form::Text(text) => Some(text),

@@ -17,9 +17,15 @@ use std::marker::Model;
 
 /// Labels that an exemplar may have: their names are valid and different, and names and values together have at most 128
 /// code points. No encoder refuses them as those of an exemplar.
-#[derive(Debug, Drop)]
+#[derive(Debug)]
 pub struct ExemplarLabels {
     labels: Vec<(String, String)>,
+}
+
+impl Drop for ExemplarLabels {
+    fn drop(self) {
+        let ExemplarLabels { labels: _ } = self;
+    }
 }
 
 impl Model for ExemplarLabels {

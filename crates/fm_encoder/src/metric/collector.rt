@@ -152,9 +152,22 @@ pub fn take_samples(encoder: &mut MetricEncoder) -> Result<SampleStore, AllocErr
     encoder.points.take_samples()
 }
 
+impl MetricEncoder {
+    // The encoder of points, which has the sink.
+    fn into_points(self) -> PointEncoder
+        ensures { result.output ≡ self.output }
+    {
+        let MetricEncoder {
+            constants: _,
+            points,
+        } = self;
+        points
+    }
+}
+
 /// The sink.
 pub fn into_sink(encoder: MetricEncoder) -> Sink
     ensures { result.output ≡ encoder.output }
 {
-    encoder.points.into_sink()
+    encoder.into_points().into_sink()
 }

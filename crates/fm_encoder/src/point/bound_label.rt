@@ -9,10 +9,15 @@ use std::alloc::{AllocError, Global};
 use std::marker::Model;
 
 // A bucket's bound, and its label. Contracts see it as the bound.
-#[derive(Drop)]
 pub(crate) struct BoundLabel {
     bound: Bound,
     text: LabelText,
+}
+
+impl Drop for BoundLabel {
+    fn drop(self) {
+        let BoundLabel { bound: _, text: _ } = self;
+    }
 }
 
 impl Model for BoundLabel {

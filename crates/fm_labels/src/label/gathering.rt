@@ -9,6 +9,20 @@ use fm_grammar::MetricType;
 use fm_text::LabelText;
 use std::alloc::{AllocError, Global};
 
+impl LabelEncoder {
+    // The labels.
+    fn into_text(self) -> LabelText
+        ensures { result.labels ≡ self.labels }
+    {
+        let LabelEncoder {
+            metric_type: _,
+            labels,
+            refused: _,
+        } = self;
+        labels
+    }
+}
+
 impl LabelSetEncoder {
     /// An encoder without labels.
     pub fn new(alloc: Global, metric_type: MetricType) -> LabelSetEncoder
@@ -76,6 +90,7 @@ impl LabelSetEncoder {
     pub fn into_text(self) -> LabelText
         ensures { result.labels ≡ self.labels }
     {
-        self.label.labels
+        let LabelSetEncoder { label } = self;
+        label.into_text()
     }
 }
