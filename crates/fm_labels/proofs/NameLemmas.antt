@@ -1,7 +1,6 @@
 -- The names of labels, and that valid labels have valid and different names.
-use Rattle.std.proofs.Common.{◌≡◌, ◌≢◌, zero, suc, List, [], ◌∷◌, ◌++◌, length, drop, map, ◌⊎◌, inl, inr, refl, sym, ap, subst, ◌∙◌, arith, append-nil, append_assoc, String, Global, string_bytes, Contains, codes}
+use Rattle.std.proofs.Common.{◌≡◌, ◌≢◌, zero, suc, List, [], ◌∷◌, ◌++◌, map, ◌⊎◌, inl, inr, refl, sym, ap, subst, ◌∙◌, arith, append-nil, append_assoc, String, Global, string_bytes, Contains, codes}
 use Rattle.std.specs.List.{AllByRecursion}
-use Rattle.std.proofs.lemmas.List.{drop_at}
 use Rattle.std.proofs.lemmas.List.Elements.{Contains-append_right}
 use Rattle.fm_grammar.specs.declared.MetricType.{MetricType}
 use Rattle.fm_grammar.specs.Exposition.{Text, Label}
@@ -60,10 +59,6 @@ AreLabels-written type labels valid = AreLabels-after type [] labels (record { n
 pub emitted_again-pairs : (ls : Pairs) → map (λ p. NamePiece (string_bytes p.0) ∷ ValuePiece (string_bytes p.1) ∷ []) ls ≡ emitted_again (labels_of ls)
 emitted_again-pairs [] = refl
 emitted_again-pairs (l ∷ ls) = ap (λ (hs : List EmittedLabel). (NamePiece (string_bytes l.0) ∷ ValuePiece (string_bytes l.1) ∷ []) ∷ hs) (emitted_again-pairs ls)
-
--- own labels that come after the common ones in a list of both
-pub own_of_all : (common all own : List Label) → all ≡ common ++ own → drop (length common) all ≡ own
-own_of_all common all own is = ap (drop (length common)) is ∙ drop_at common own (length common) refl
 
 -- labels that are valid after well-formed ones
 pub AreLabels-joined : (type : MetricType) (before ls : List Label) (labels : List EmittedLabel) → AreLabels before → LabelsValid type before labels → ls ≡ before ++ all_written labels → AreLabels ls

@@ -1,14 +1,14 @@
 // Labels that are gathered after other labels.
-ghost use Rattle.std.specs.Prelude.{◌≡◌, ◌⊎◌, ◌++◌, [], ◌∷◌, None, OnOk, MatchResult, ◌≤◌, length, drop, map, IfOk};
-ghost use Rattle.fm_text.specs.LabelPairs.{shown_label};
+ghost use Rattle.std.specs.Prelude.{◌≡◌, ◌⊎◌, ◌++◌, None, MatchResult};
 ghost use Rattle.fm_labels.specs.Labels.{LabelsValid, LabelsFault, all_written};
 ghost use Rattle.fm_labels.specs.Refusals.{OwnRefusal};
 
 use crate::label::LabelSetEncoder;
 use crate::label_set::EncodeLabelSet;
 use fm_encode_error::EncodeError;
+use fm_grammar::MetricType;
 use fm_text::LabelText;
-use std::alloc::{AllocError, Global};
+use std::alloc::Global;
 
 /// Adds the labels that a label set emits, after those that the encoder has.
 pub fn read_labels<LS: EncodeLabelSet>(
@@ -28,4 +28,23 @@ pub fn read_labels<LS: EncodeLabelSet>(
     }
     let visited = labels.encode(encoder);
     encoder.outcome(visited)
+}
+
+/// The labels that a label set emits, which come after these labels in a family of this type. Fails with `Memory` if memory runs out.
+pub fn read_labels_after<LS: EncodeLabelSet>(
+    alloc: Global,
+    metric_type: MetricType,
+    before: &LabelText,
+    labels: &LS,
+) -> Result<LabelText, EncodeError>
+    ensures { MatchResult result
+        (λ own. LabelsValid metric_type before.now.labels (LS.labels labels.now)
+        × (own.labels ≡ all_written (LS.labels labels.now)))
+        (λ k. OwnRefusal (LS.may_fault labels.now) k
+        ⊎ LabelsFault k metric_type before.now.labels (LS.labels labels.now)) }
+{
+    let mut all = LabelSetEncoder::new(alloc, metric_type);
+    all.restart(before)?;
+    read_labels(&mut all, labels)?;
+    Ok(all.text().suffix(alloc, before.len())?)
 }

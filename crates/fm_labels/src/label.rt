@@ -1,7 +1,7 @@
 //! Labels: what emits them, and the encoders that gather them.
-ghost use Rattle.std.specs.Prelude.{◌≡◌, [], ◌∷◌, ◌++◌, Bool, Some, None, Ok, Err, OnOk};
+ghost use Rattle.std.specs.Prelude.{◌≡◌, [], ◌∷◌, ◌++◌, Bool, Some, None, Ok, Err, OnOk, MatchResult};
 ghost use Rattle.fm_encode_error.specs.declared.EncodeError.{EncodeError};
-ghost use Rattle.fm_labels.specs.Labels.{EmittedLabel, NamePiece, ValuePiece, written};
+ghost use Rattle.fm_labels.specs.Labels.{EmittedLabel, NamePiece, ValuePiece, NameFits, NameFault, written};
 ghost use Rattle.fm_labels.specs.LabelEncoders.{GatheredPieces, GatheredLabels, EmitsPieces, TakesPieces, TakesLabels};
 ghost use Rattle.fm_labels.specs.Refusals.{result_of, Takes, NoFault};
 ghost use Rattle.fm_labels.specs.inside.Steps.{EndsLabel};
@@ -104,6 +104,24 @@ impl Model for LabelEncoder {
 }
 
 impl LabelEncoder {
+    // Tests whether a label with this name may follow the labels before it.
+    fn test_name(&self, name: &str) -> Result<(), EncodeError>
+        ensures { MatchResult result
+            (λ _. NameFits self.now.metric_type self.now.labels name.now)
+            (λ k. NameFault k self.now.metric_type self.now.labels name.now) }
+    {
+        if !is_label_name(name) {
+            return Err(EncodeError::InvalidLabelName);
+        }
+        if is_reserved(self.metric_type, name) {
+            return Err(EncodeError::ReservedLabel);
+        }
+        if self.labels.has_name(name) {
+            return Err(EncodeError::DuplicateLabel);
+        }
+        Ok(())
+    }
+
     /// Takes the label's name. Errors, in this order: the label already has a piece (`MalformedLabel`); the name is not a valid
     /// label name (`InvalidLabelName`); the metric's type reserves the name for its own labels (`ReservedLabel`); an earlier
     /// label has the name (`DuplicateLabel`); memory runs out (`Memory`).
@@ -114,14 +132,8 @@ impl LabelEncoder {
         if self.labels.is_named() || self.labels.is_valued() {
             return self.refused.refuse(EncodeError::MalformedLabel);
         }
-        if !is_label_name(name) {
-            return self.refused.refuse(EncodeError::InvalidLabelName);
-        }
-        if is_reserved(self.metric_type, name) {
-            return self.refused.refuse(EncodeError::ReservedLabel);
-        }
-        if self.labels.has_name(name) {
-            return self.refused.refuse(EncodeError::DuplicateLabel);
+        if let Err(error) = self.test_name(name) {
+            return self.refused.refuse(error);
         }
         keep!(self.refused, self.labels.set_name(name))
     }

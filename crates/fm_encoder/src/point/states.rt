@@ -13,8 +13,7 @@ use crate::point::PointEncoder;
 use fm_encode_error::EncodeError;
 use fm_exposition::Value;
 use fm_grammar::{MetricType, SampleKind};
-use fm_labels::gathered::read_labels;
-use fm_labels::label::LabelSetEncoder;
+use fm_labels::gathered::read_labels_after;
 use fm_labels::label_set::EncodeLabelSet;
 use fm_text::LabelText;
 
@@ -97,16 +96,14 @@ impl PointEncoder {
             (LS.may_fault labels.now) self.old self.new result }
     {
         self.begin_point(MetricType::Info)?;
-        let mut all = LabelSetEncoder::new(self.alloc, self.labels.metric_type());
-        if let Err(_) = all.restart(self.labels.text()) {
-            return self.refused.refuse(EncodeError::Memory);
-        }
-        if let Err(error) = read_labels(&mut all, labels) {
-            return self.refused.refuse(error);
-        }
-        match all.text().suffix(self.alloc, self.labels.text().len()) {
+        match read_labels_after(
+            self.alloc,
+            self.labels.metric_type(),
+            self.labels.text(),
+            labels,
+        ) {
             Ok(own) => self.push_labeled(SampleKind::Info, &own, &Value::Whole(1), None),
-            Err(_) => self.refused.refuse(EncodeError::Memory),
+            Err(error) => self.refused.refuse(error),
         }
     }
 }
