@@ -1,7 +1,6 @@
 //! `expose SCENE` prints the document of a scene.
 #![tactic(auto)]
 
-mod calls;
 mod histogram;
 mod output;
 mod scene;
@@ -11,56 +10,63 @@ mod tally;
 mod tests;
 mod tree;
 
-use calls::{all_accepted, one_metric};
-use fastmetrics::registry::Registry;
-use histogram::numbers_histogram;
+use fastmetrics::registry::{Registry, RegistryError};
+use histogram::numbers;
 use output::{Fault, finish};
-use scene::{Scene, choose};
+use scene::{Scene, add_one, choose};
 use states::running_task;
 use std::alloc::Global;
 use std::env;
 use std::env::Env;
 use std::io::ErrorKind;
 use std::process::ExitCode;
-use tally::jobs_counter;
-use tree::{application, application_metrics, production};
+use tally::jobs;
+use tree::{application_metrics, fill};
 
 fn main(rt: HostRuntime) -> ExitCode {
     let alloc = rt.alloc();
-    let scene = scene_of_words(&rt);
-    let calls = match scene {
-        Ok(Scene::Empty) => Ok(Vec::new(alloc)),
-        Ok(Scene::Tally) => match jobs_counter(&rt, alloc) {
-            Ok((name, help, jobs)) => one_metric(alloc, name, help, jobs),
+    let mut registry = Registry::default();
+    let filled = match scene_of_words(&rt) {
+        Ok(Scene::Empty) => Ok(()),
+        Ok(Scene::Tally) => match jobs(&rt, alloc) {
+            Ok(jobs) => add_one(alloc, &mut registry, "jobs", "Jobs done", jobs),
             Err(fault) => Err(fault),
         },
-        Ok(Scene::Histogram) => match numbers_histogram(rt, alloc) {
-            Ok((name, help, numbers)) => one_metric(alloc, name, help, numbers),
+        Ok(Scene::Histogram) => match numbers(rt, alloc) {
+            Ok(numbers) => add_one(
+                alloc,
+                &mut registry,
+                "my_histogram",
+                "My histogram help",
+                numbers,
+            ),
             Err(fault) => Err(fault),
         },
         Ok(Scene::States) => match running_task(alloc) {
-            Ok((name, help, task)) => one_metric(alloc, name, help, task),
+            Ok(task) => add_one(
+                alloc,
+                &mut registry,
+                "my_stateset",
+                "My stateset help",
+                task,
+            ),
             Err(fault) => Err(fault),
         },
         Ok(Scene::Tree) => match application_metrics(rt, alloc) {
-            Ok((requests, by_kind, queries)) => application(alloc, requests, by_kind, queries),
+            Ok((requests, by_kind, queries)) => fill(
+                alloc,
+                &mut registry,
+                requests,
+                by_kind,
+                queries,
+            ),
             Err(fault) => Err(fault),
         },
         Err(fault) => Err(fault),
     };
-    let root = match scene {
-        Ok(Scene::Tree) => production(alloc),
-        _ => Ok(Registry::builder()),
-    };
-    let made = match (root, calls) {
-        (Ok(root), Ok(calls)) => match root.build() {
-            Ok(mut registry) => match all_accepted(registry.run(calls)) {
-                Ok(()) => Ok(registry),
-                Err(fault) => Err(fault),
-            },
-            Err(error) => Err(Fault::of_registry(error)),
-        },
-        (Err(fault), _) | (_, Err(fault)) => Err(fault),
+    let made = match filled {
+        Ok(()) => Ok(registry),
+        Err(fault) => Err(fault),
     };
     let status = finish(alloc, made, &mut rt.stdout(), &mut rt.stderr());
     ExitCode::from(status)
@@ -71,11 +77,11 @@ fn scene_of_words<R: Env + Alloc<A = Global>>(rt: &R) -> Result<Scene, Fault> {
     let words = match env::args(rt) {
         Ok(words) => words,
         Err(error) if error.kind() == ErrorKind::InvalidData => return Err(Fault::UnknownScene),
-        Err(_) => return Err(Fault::no_memory()),
+        Err(_) => return Err(Fault::from(RegistryError::Memory)),
     };
     let mut given = Vec::new(rt.alloc());
     for word in words.skip(1) {
-        given.push(word).map_err(|_| Fault::no_memory())?;
+        given.push(word)?;
     }
     choose(&given).ok_or(Fault::UnknownScene)
 }

@@ -5,17 +5,17 @@ ghost use Rattle.fm_raw.specs.BucketErrors.{error_number as bucket_number};
 ghost use Rattle.fm_tally.specs.TallyErrors.{error_number as tally_number};
 ghost use Rattle.fm_registry_model.specs.RegistryErrors.{error_number as registry_number};
 ghost use Rattle.fm_encode_error.specs.EncodeErrors.{error_number as encode_number};
-ghost use Rattle.fm_encode_error.specs.declared.EncodeError.{EncodeError};
+ghost use Rattle.fm_encode_error.specs.declared.EncodeError.{EncodeError as AnEncodeError};
 ghost use Rattle.fastmetrics.specs.HasHistory.{HasHistory};
 ghost use Rattle.fastmetrics.specs.Admits.{AdmittedBy};
 ghost use Rattle.expose.specs.Outcome.{IsRefusal, status_of, PrintsDocument, Finishes};
 
-use fastmetrics::format::text::encode;
+use fastmetrics::format::text::{EncodeError, encode};
 use fastmetrics::metrics::tally::TallyError;
 use fastmetrics::raw::MetricError;
 use fastmetrics::raw::bucket::BucketError;
 use fastmetrics::registry::{Registry, RegistryError};
-use std::alloc::Global;
+use std::alloc::{AllocFailed, Global};
 use std::io::Write;
 
 /// Why there is no document.
@@ -27,50 +27,70 @@ pub enum Fault {
     Refused { layer: &'static str, number: u8 },
 }
 
-impl Fault {
-    /// The words, a box or a text found no memory.
-    pub fn no_memory() -> Fault
-        ensures { IsRefusal (codes "registry") 5 result }
-    {
-        Fault::of_registry(RegistryError::Memory)
-    }
+/// A box or the list of words found no memory.
+impl<T: Drop> From<AllocFailed<T>> for Fault {
+    ghost from_gives = { λ _ fault. IsRefusal (codes "registry") 5 fault };
 
-    /// A call that makes bounds refused.
-    pub fn of_bucket(error: BucketError) -> Fault
-        ensures { IsRefusal (codes "bucket") (bucket_number error) result }
-    {
+    fn from(_: AllocFailed<T>) -> Fault {
+        Fault::from(RegistryError::Memory)
+    }
+}
+
+/// A call that makes bounds refused.
+impl From<BucketError> for Fault {
+    ghost from_gives = { λ error fault. IsRefusal (codes "bucket") (bucket_number error) fault };
+
+    fn from(error: BucketError) -> Fault {
         Fault::Refused {
             layer: "bucket",
             number: error.number(),
         }
     }
+}
 
-    /// A metric refused.
-    pub fn of_metric(error: MetricError) -> Fault
-        ensures { IsRefusal (codes "metric") (metric_number error) result }
-    {
+/// A metric refused.
+impl From<MetricError> for Fault {
+    ghost from_gives = { λ error fault. IsRefusal (codes "metric") (metric_number error) fault };
+
+    fn from(error: MetricError) -> Fault {
         Fault::Refused {
             layer: "metric",
             number: error.number(),
         }
     }
+}
 
-    /// A tally refused.
-    pub fn of_tally(error: TallyError) -> Fault
-        ensures { IsRefusal (codes "tally") (tally_number error) result }
-    {
+/// A tally refused.
+impl From<TallyError> for Fault {
+    ghost from_gives = { λ error fault. IsRefusal (codes "tally") (tally_number error) fault };
+
+    fn from(error: TallyError) -> Fault {
         Fault::Refused {
             layer: "tally",
             number: error.number(),
         }
     }
+}
 
-    /// A registry refused.
-    pub fn of_registry(error: RegistryError) -> Fault
-        ensures { IsRefusal (codes "registry") (registry_number error) result }
-    {
+/// A registry refused.
+impl From<RegistryError> for Fault {
+    ghost from_gives = { λ error fault. IsRefusal (codes "registry") (registry_number error) fault };
+
+    fn from(error: RegistryError) -> Fault {
         Fault::Refused {
             layer: "registry",
+            number: error.number(),
+        }
+    }
+}
+
+/// Collecting or a writer refused.
+impl From<EncodeError> for Fault {
+    ghost from_gives = { λ error fault. IsRefusal (codes "encode") (encode_number error) fault };
+
+    fn from(error: EncodeError) -> Fault {
+        Fault::Refused {
+            layer: "encode",
             number: error.number(),
         }
     }
@@ -98,16 +118,10 @@ fn print_document<W: Write>(alloc: Global, out: &mut W, registry: &Registry) -> 
     ensures printed { PrintsDocument
         (AdmittedBy (λ m. offers m) (λ m. stamps m) (λ m. may_be_empty m) registry.now)
         (W.contents out.old) (W.contents out.new) result }
-    ensures refused { IfErr result (λ fault. (error : EncodeError)
+    ensures refused { IfErr result (λ fault. (error : AnEncodeError)
         × IsRefusal (codes "encode") (encode_number error) fault) }
 {
-    match encode(alloc, out, registry) {
-        Ok(()) => Ok(()),
-        Err(error) => Err(Fault::Refused {
-            layer: "encode",
-            number: error.number(),
-        }),
-    }
+    Ok(encode(alloc, out, registry)?)
 }
 
 /// Prints the registry's document on the first writer, or the fault on the second, and returns the status: 0 for a whole

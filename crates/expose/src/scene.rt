@@ -1,6 +1,12 @@
 //! The scenes, and the words that name them.
 ghost use Rattle.std.specs.Prelude.{◌≡◌};
+ghost use Rattle.fastmetrics.specs.HasHistory.{HasHistory};
 ghost use Rattle.expose.specs.Scenes.{scene_called, scene_named};
+
+use crate::output::Fault;
+use fastmetrics::encoder::EncodeMetric;
+use fastmetrics::registry::{Registry, add};
+use std::alloc::Global;
 
 /// What the program shows.
 #[derive(Clone, Copy, Debug, PartialEq, Eq)]
@@ -39,4 +45,18 @@ pub fn choose(words: &[String]) -> Option<Scene>
         [word] => scene_of(word.as_str()),
         _ => None,
     }
+}
+
+/// Registers the one metric of a scene.
+pub fn add_one(
+    alloc: Global,
+    registry: &mut Registry,
+    name: &str,
+    help: &str,
+    metric: Box<dyn EncodeMetric>,
+) -> Result<(), Fault>
+    requires { HasHistory registry.old }
+    ensures { HasHistory registry.new }
+{
+    Ok(add(alloc, registry, name, help, metric)?)
 }

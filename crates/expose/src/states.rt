@@ -1,4 +1,4 @@
-//! The scene of a state set.
+//! The metric of the scene of a state set.
 ghost use Rattle.std.specs.Prelude.{[], ◌∷◌, codes};
 ghost use Rattle.expose.specs.declared.states.Progress.TheVariants.{Pending, Running, Completed, Failed};
 
@@ -50,16 +50,9 @@ impl StateSetValue for Progress {
     }
 }
 
-/// The state set of a task that runs, under its name and its help text.
-pub fn running_task(alloc: Global) -> Result<(String, String, Box<StateSet<Progress>>), Fault> {
-    let task = StateSet::new(alloc, Progress::Pending).map_err(Fault::of_metric)?;
-    task.set(Progress::Running).map_err(Fault::of_metric)?;
-    match (
-        String::from_str(alloc, "my_stateset"),
-        String::from_str(alloc, "My stateset help"),
-        Box::new(alloc, task),
-    ) {
-        (Ok(name), Ok(help), Ok(task)) => Ok((name, help, task)),
-        _ => Err(Fault::no_memory()),
-    }
+/// The state set of a task that runs.
+pub fn running_task(alloc: Global) -> Result<Box<StateSet<Progress>>, Fault> {
+    let task = StateSet::new(alloc, Progress::Pending)?;
+    task.set(Progress::Running)?;
+    Ok(Box::new(alloc, task)?)
 }

@@ -1,4 +1,4 @@
-//! The scene of a sum that two workers count.
+//! The metric of the scene of a sum that two workers count.
 ghost use Rattle.std.specs.Prelude.{◌≡◌};
 
 use crate::output::Fault;
@@ -67,21 +67,8 @@ fn counted_jobs<K: TallyKey + Send + Sync, R: Threads + Wait + Sync>(
     tally.close(shares)
 }
 
-/// The counter of jobs, under its name and its help text. It waits for two workers, which count under one lock.
-pub fn jobs_counter<R: Threads + Wait + Sync>(
-    rt: &R,
-    alloc: Global,
-) -> Result<(String, String, Box<ConstCounter>), Fault> {
-    let total = match counted_jobs::<Brand, R>(rt, alloc, Blank::new(3)) {
-        Ok(total) => total,
-        Err(error) => return Err(Fault::of_tally(error)),
-    };
-    match (
-        String::from_str(alloc, "jobs"),
-        String::from_str(alloc, "Jobs done"),
-        Box::new(alloc, ConstCounter::new(total)),
-    ) {
-        (Ok(name), Ok(help), Ok(jobs)) => Ok((name, help, jobs)),
-        _ => Err(Fault::no_memory()),
-    }
+/// The counter of jobs. It waits for two workers, which count under one lock.
+pub fn jobs<R: Threads + Wait + Sync>(rt: &R, alloc: Global) -> Result<Box<ConstCounter>, Fault> {
+    let total = counted_jobs::<Brand, R>(rt, alloc, Blank::new(3))?;
+    Ok(Box::new(alloc, ConstCounter::new(total))?)
 }

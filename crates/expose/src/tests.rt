@@ -1,5 +1,4 @@
 //! What the program says of faults, and a word that is no text.
-use crate::calls::all_accepted;
 use crate::output::{Fault, finish};
 use crate::scene_of_words;
 use fastmetrics::metrics::tally::TallyError;
@@ -9,7 +8,6 @@ use fastmetrics::registry::{Registry, RegistryError};
 use std::alloc::Global;
 use std::env::{Env, FillError};
 use std::io::{self, ErrorKind, Write};
-use std::test::Fail;
 
 // Whether this fault gives this status, and is said and nothing else.
 fn is_said(alloc: Global, fault: Fault, status: u8, said: &str) -> bool {
@@ -24,27 +22,14 @@ fn faults_are_said(rt: HostRuntime) {
     let alloc = rt.alloc();
     for (fault, status, said) in [
         (Fault::UnknownScene, 2, "unknown scene\n"),
-        (Fault::no_memory(), 1, "fault: registry 5\n"),
+        (Fault::from(RegistryError::Memory), 1, "fault: registry 5\n"),
+        (Fault::from(BucketError::ZeroCount), 1, "fault: bucket 2\n"),
         (
-            Fault::of_registry(RegistryError::Memory),
-            1,
-            "fault: registry 5\n",
-        ),
-        (
-            Fault::of_bucket(BucketError::ZeroCount),
-            1,
-            "fault: bucket 2\n",
-        ),
-        (
-            Fault::of_metric(MetricError::UnknownState),
+            Fault::from(MetricError::UnknownState),
             1,
             "fault: metric 4\n",
         ),
-        (
-            Fault::of_tally(TallyError::SpawnFailed),
-            1,
-            "fault: tally 6\n",
-        ),
+        (Fault::from(TallyError::SpawnFailed), 1, "fault: tally 6\n"),
     ] {
         assert!(rt; is_said(alloc, fault, status, said), "{said}");
     }
@@ -81,19 +66,6 @@ fn is_fault_of_writer(alloc: Global, is_failing: bool, said: &str) -> bool {
 fn writers_that_take_nothing(rt: HostRuntime) {
     assert!(rt; is_fault_of_writer(rt.alloc(), true, "fault: encode 14\n"));
     assert!(rt; is_fault_of_writer(rt.alloc(), false, "fault: encode 15\n"));
-}
-
-#[test]
-fn refused_calls_are_said(rt: HostRuntime) -> Result<(), Fail> {
-    let mut replies = Vec::new(rt.alloc());
-    replies.push(Ok(()))?;
-    replies.push(Err(RegistryError::Memory))?;
-    assert_eq!(rt; all_accepted(Ok(replies)), Err(Fault::no_memory()));
-    assert_eq!(rt;
-        all_accepted(Err(RegistryError::Memory)),
-        Err(Fault::no_memory())
-    );
-    Ok(())
 }
 
 // The program's name, and one word, whose only byte belongs to no character.

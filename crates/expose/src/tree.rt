@@ -1,9 +1,9 @@
 //! The scene of a tree: counters and a family at the root, and a counter two subsystems below it.
 ghost use Rattle.std.specs.Prelude.{[], ◌∷◌, false};
+ghost use Rattle.fastmetrics.specs.HasHistory.{HasHistory};
 ghost use Rattle.fastmetrics.specs.Labels.{ValuePiece};
 ghost use Rattle.expose.specs.Requests.{method_text, labels_of_request};
 
-use crate::calls::{path_of, registering};
 use crate::output::Fault;
 use fastmetrics::encoder::{
     EncodeError, EncodeLabelSet, EncodeLabelValue, EncodeMetric, LabelEncoder, LabelSetEncoder,
@@ -12,8 +12,10 @@ use fastmetrics::encoder::{
 use fastmetrics::metrics::counter::{ConstCounter, Counter};
 use fastmetrics::metrics::family::{DefaultFactory, Family};
 use fastmetrics::raw::TryDefault;
-use fastmetrics::registry::{Registry, RegistryBuilder, RegistryCall};
-use std::alloc::{AllocError, Global};
+use fastmetrics::registry::{
+    Registry, RegistryBuilder, RegistryError, add, add_at, add_subsystem_at,
+};
+use std::alloc::Global;
 use std::hash::{BuildHasherDefault, FoldHasher};
 use std::sync::Wait;
 
@@ -70,9 +72,9 @@ pub type Requests<H> = Family<
 
 // The counter of one request.
 fn one_request<H: Wait + Drop>(wait: H, alloc: Global) -> Result<Box<Counter>, Fault> {
-    let requests = Counter::try_default(wait, alloc).map_err(Fault::of_metric)?;
+    let requests = Counter::try_default(wait, alloc)?;
     requests.inc();
-    Box::new(alloc, requests).map_err(|_| Fault::no_memory())
+    Ok(Box::new(alloc, requests)?)
 }
 
 // The family of one request that succeeded. It may wait for the family's lock.
@@ -80,20 +82,13 @@ fn one_request_by_kind<H: Wait + Clone + Drop>(
     wait: H,
     alloc: Global,
 ) -> Result<Box<Requests<H>>, Fault> {
-    let requests = Requests::try_default(wait, alloc).map_err(Fault::of_metric)?;
+    let requests = Requests::try_default(wait, alloc)?;
     let request = Request {
         method: Method::Get,
         status: 200,
     };
-    requests
-        .with_or_new(&request, |count| count.inc())
-        .map_err(Fault::of_metric)?;
-    Box::new(alloc, requests).map_err(|_| Fault::no_memory())
-}
-
-// The counter of seven queries.
-fn seven_queries(alloc: Global) -> Result<Box<ConstCounter<u64>>, Fault> {
-    Box::new(alloc, ConstCounter::new(7)).map_err(|_| Fault::no_memory())
+    requests.with_or_new(&request, |count| count.inc())?;
+    Ok(Box::new(alloc, requests)?)
 }
 
 /// The metrics of an application that got one request and made seven database queries: its requests, the same by kind, and
@@ -104,77 +99,47 @@ pub fn application_metrics<H: Wait + Copy + Drop>(
 ) -> Result<(Box<Counter>, Box<Requests<H>>, Box<ConstCounter<u64>>), Fault> {
     let requests = one_request(wait, alloc)?;
     let by_kind = one_request_by_kind(wait, alloc)?;
-    let queries = seven_queries(alloc)?;
+    let queries = Box::new(alloc, ConstCounter::new(7))?;
     Ok((requests, by_kind, queries))
 }
 
-// One owned label.
-fn one_label(alloc: Global, name: &str, value: &str) -> Result<Vec<(String, String)>, AllocError> {
+// The builder of the root of an application in production.
+fn production(alloc: Global) -> Result<RegistryBuilder, RegistryError> {
     let mut labels = Vec::new(alloc);
     labels.push((
-        String::from_str(alloc, name)?,
-        String::from_str(alloc, value)?,
+        String::from_str(alloc, "env")?,
+        String::from_str(alloc, "prod")?,
     ))?;
-    Ok(labels)
-}
-
-/// The builder of the root of an application in production.
-pub fn production(alloc: Global) -> Result<RegistryBuilder, Fault> {
-    let (Ok(namespace), Ok(labels)) = (
-        String::from_str(alloc, "myapp"),
-        one_label(alloc, "env", "prod"),
-    ) else {
-        return Err(Fault::no_memory());
-    };
     Registry::builder()
-        .with_namespace(namespace)
-        .map_err(Fault::of_registry)?
+        .with_namespace(String::from_str(alloc, "myapp")?)?
         .with_const_labels(labels)
-        .map_err(Fault::of_registry)
 }
 
-// The calls that make the subsystem of the database that runs queries, and the one around it.
-fn subsystems(alloc: Global) -> Result<[RegistryCall; 2], AllocError> {
-    let database = RegistryCall::Subsystem {
-        path: Vec::new(alloc),
-        name: String::from_str(alloc, "database")?,
-        labels: Vec::new(alloc),
-    };
-    let mysql = RegistryCall::Subsystem {
-        path: path_of(alloc, &["database"])?,
-        name: String::from_str(alloc, "mysql")?,
-        labels: one_label(alloc, "engine", "innodb")?,
-    };
-    Ok([database, mysql])
-}
-
-// The calls in turn.
-fn calls_in_turn(
+/// Makes the registry that of an application in production, with the metrics of its requests and of the queries to its database.
+pub fn fill(
     alloc: Global,
+    registry: &mut Registry,
     requests: Box<dyn EncodeMetric>,
     by_kind: Box<dyn EncodeMetric>,
     queries: Box<dyn EncodeMetric>,
-) -> Result<Vec<RegistryCall>, AllocError> {
-    let mut calls = Vec::new(alloc);
+) -> Result<(), Fault>
+    requires { HasHistory registry.old }
+    ensures { HasHistory registry.new }
+{
+    *registry = production(alloc)?.build_root();
     let help = "Total requests processed";
-    calls.push(registering(alloc, &[], "requests", help, requests)?)?;
-    let help = "Total HTTP requests";
-    calls.push(registering(alloc, &[], "http_requests", help, by_kind)?)?;
-    let [database, mysql] = subsystems(alloc)?;
-    calls.push(database)?;
-    calls.push(mysql)?;
+    add(alloc, registry, "requests", help, requests)?;
+    add(
+        alloc,
+        registry,
+        "http_requests",
+        "Total HTTP requests",
+        by_kind,
+    )?;
+    let engine = [("engine", "innodb")];
+    add_subsystem_at(alloc, registry, &["database"], "mysql", &engine)?;
     let path = ["database", "mysql"];
     let help = "Total MySQL queries";
-    calls.push(registering(alloc, &path, "queries", help, queries)?)?;
-    Ok(calls)
-}
-
-/// The calls that fill the tree of an application with the metrics of its requests, and of the queries to its database.
-pub fn application(
-    alloc: Global,
-    requests: Box<dyn EncodeMetric>,
-    by_kind: Box<dyn EncodeMetric>,
-    queries: Box<dyn EncodeMetric>,
-) -> Result<Vec<RegistryCall>, Fault> {
-    calls_in_turn(alloc, requests, by_kind, queries).map_err(|_| Fault::no_memory())
+    add_at(alloc, registry, &path, "queries", help, queries)?;
+    Ok(())
 }
