@@ -9,7 +9,7 @@ pub use Rattle.fm_grammar.specs.Kinds
 pub use Rattle.fm_grammar.specs.Numbering
 pub use Rattle.fm_grammar.specs.Spelling
 pub use Rattle.fm_grammar.specs.Reading
-pub use Rattle.fm_text.specs.LabelPairs
+pub use Rattle.fm_grammar.specs.LabelPairs
 pub use Rattle.fm_exposition.specs.Samples
 pub use Rattle.fm_exposition.specs.Written
 pub use Rattle.fm_exposition.specs.Rows
@@ -55,10 +55,10 @@ pub use Rattle.fm_tally.specs.TallyErrors
 pub use Rattle.fm_tally.specs.Events
 pub use Rattle.fm_tally.specs.Shares
 pub use Rattle.fm_registry.specs.Named
-pub use Rattle.fm_global.specs.Locked
-pub use Rattle.fm_core.specs.Admits
-pub use Rattle.fm_core.specs.Families
-pub use Rattle.fm_core.specs.Encoded
+pub use Rattle.fm_core.specs.Locked
+pub use Rattle.fm_scrape.specs.Admits
+pub use Rattle.fm_scrape.specs.Families
+pub use Rattle.fm_scrape.specs.Encoded
 pub use Rattle.fm_encoder.specs.States
 pub use Rattle.fm_metrics.specs.Counters
 pub use Rattle.fm_metrics.specs.NumberOrder

@@ -34,7 +34,7 @@ pub mod metrics {
         //! Families: metrics of one type by label set.
         pub use fm_family::{
             DefaultFactory, DefaultFamily, Family, FamilyCore, MetricFactory, PairFamily,
-            TextFamily, remove_texts, with_pairs, with_texts,
+            TextFamily, TextLabels, remove_texts, with_pairs, with_texts,
         };
     }
 

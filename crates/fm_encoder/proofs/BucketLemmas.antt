@@ -85,7 +85,7 @@ pub record PushedFirst {S : Type 0} (f : S → List EmittedExemplar) (buckets : 
   pub output : new.output ≡ appended old.setting.name old.output (bucket_samples old.setting old.common [] (take i buckets) (map f (take i slots)))
   pub formed : AllByRecursion (IsSample old.setting.metric_type) (bucket_samples old.setting old.common [] (take i buckets) (map f (take i slots)))
 
-SameContext-then : (old mid new : GatheredPoints) → SameContext old mid → SameContext mid new → SameContext old new
+pub SameContext-then : (old mid new : GatheredPoints) → SameContext old mid → SameContext mid new → SameContext old new
 SameContext-then old mid new a b = record { setting = b.setting ∙ a.setting; common = b.common ∙ a.common; deferred = b.deferred ∙ a.deferred }
 
 map-push : {S T : Type 0} (f : S → T) (xs : List S) (x : S) → map f (xs ++ x ∷ []) ≡ map f xs ++ f x ∷ []

@@ -3,4 +3,4 @@ pub mod MemberLemmas
 pub mod FaultLemmas
 pub mod BucketLemmas
 pub mod ExemplarLemmas
-pub mod ConstantLemmas
+pub mod StateLemmas

@@ -1,6 +1,5 @@
 -- What public contracts don't cite: views, stored forms, laws, and the words of private functions.
 pub mod Steps
 pub mod Gathering
-pub mod Constants
 pub mod BucketSteps
 pub mod Samples

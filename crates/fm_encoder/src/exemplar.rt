@@ -3,7 +3,7 @@ ghost use Rattle.std.specs.Prelude.{◌≡◌, ◌^◌, ◌⊎◌, List, [], ◌
 ghost use Rattle.std.specs.Option.{option_map};
 ghost use Rattle.fm_grammar.specs.declared.MetricType.TheVariants.{Unknown};
 ghost use Rattle.fm_grammar.specs.WellFormed.{IsBetween, IsExemplar, AreMillis};
-ghost use Rattle.fm_text.specs.LabelPairs.{labels_of};
+ghost use Rattle.fm_grammar.specs.LabelPairs.{labels_of};
 ghost use Rattle.fm_exposition.specs.Samples.{exemplar_of};
 ghost use Rattle.fm_labels.specs.Labels.{LabelsValid, LabelsFault, all_written};
 ghost use Rattle.fm_encoder.specs.Points.{EmittedExemplar, ExemplarPartsValid, ExemplarPartsFault, ExemplarValid, ExemplarFault, written_as, written_exemplar, millis};

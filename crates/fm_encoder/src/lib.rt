@@ -4,7 +4,6 @@
 //! relies on nothing else. An encoder keeps its first refusal, even if a metric ignores the error.
 #![tactic(auto)]
 
-mod constants;
 pub mod exemplar;
 pub mod metric;
 pub mod metric_type;

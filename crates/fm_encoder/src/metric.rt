@@ -9,12 +9,12 @@ ghost use Rattle.fm_encoder.specs.Emits.{EmitsMembers, MembersOf};
 ghost use Rattle.fm_encoder.specs.Takes.{TakesMembers};
 ghost use Rattle.fm_labels.specs.Refusals.{NoFault};
 
-use crate::constants::ConstantLabels;
 use crate::exemplar::EncodeExemplar;
 use crate::point::{EncodePoint, PointEncoder};
 use crate::value::{EncodeCounterValue, EncodeGaugeValue, EncodeUnknownValue};
 use fm_encode_error::EncodeError;
 use fm_grammar::MetricType;
+use fm_labels::constants::ConstantLabels;
 use fm_labels::label_set::EncodeLabelSet;
 use fm_raw::bucket::Bucket;
 use fm_raw::fixed::FixedSum;
@@ -113,7 +113,7 @@ impl Drop for MetricEncoder {
 
 impl Model for MetricEncoder {
     ghost use Rattle.fm_encoder.specs.Gathered.{GatheredMembers};
-    ghost use Rattle.fm_encoder.specs.inside.Constants.{AreTested};
+    ghost use Rattle.fm_labels.specs.inside.Constants.{AreTested};
 
     ghost Value = { GatheredMembers };
 

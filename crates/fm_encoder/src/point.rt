@@ -15,14 +15,14 @@ ghost use Rattle.fm_labels.specs.inside.FreeLabels.{AreFree};
 ghost use Rattle.fm_labels.specs.Refusals.{IsOutcome, result_of, Takes};
 ghost use Rattle.fm_encoder.specs.Emits.{EmitsPoints};
 ghost use Rattle.fm_labels.specs.WrittenLabels.{AreWritten};
-ghost use Rattle.fm_encoder.specs.inside.Constants.{AreTested};
+ghost use Rattle.fm_labels.specs.inside.Constants.{AreTested};
 ghost use Rattle.fm_encoder.specs.inside.Steps.{FitsType, BeginsPoint, BeginsMember, PushesSample, EndsPoints};
 
-use crate::constants::ConstantLabels;
 use crate::point::bound_label::BoundLabel;
 use fm_encode_error::EncodeError;
 use fm_exposition::{Exemplar, SampleStore, Value};
 use fm_grammar::{MetricType, SampleKind};
+use fm_labels::constants::ConstantLabels;
 use fm_labels::first_refusal::{FirstRefusal, own_refusal};
 use fm_labels::keep;
 use fm_labels::label::LabelSetEncoder;

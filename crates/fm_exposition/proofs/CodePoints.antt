@@ -7,7 +7,7 @@ use Rattle.std.specs.declared.string.String.{String}
 use Rattle.std.specs.declared.alloc.Global.{Global}
 use Rattle.fm_grammar.specs.Exposition.{Text, Label}
 use Rattle.fm_grammar.specs.WellFormed.{code_points, label_code_points}
-use Rattle.fm_text.specs.LabelPairs.{label_of, labels_of}
+use Rattle.fm_grammar.specs.LabelPairs.{label_of, labels_of}
 
 label_at : (labels : List (String Global × String Global)) (i : ℕ) (d : Label) (item : String Global × String Global) → i < length labels → item ≡ get_or labels i item → get_or (labels_of labels) i d ≡ label_of item
 label_at [] i d item within is = absurd (omega arith)

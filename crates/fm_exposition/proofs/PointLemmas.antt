@@ -10,7 +10,7 @@ use Rattle.fm_grammar.specs.Exposition.{Label}
 use Rattle.fm_grammar.proofs.Runs.{all_append}
 use Rattle.fm_exposition.specs.declared.exposition.Sample.{Sample}
 use Rattle.fm_exposition.specs.Samples.{common_labels, own_labels, sample_of, samples_of}
-use Rattle.fm_text.specs.inside.LabelLists.{AreUtf8Labels}
+use Rattle.fm_grammar.specs.inside.LabelLists.{AreUtf8Labels}
 use Rattle.fm_exposition.specs.inside.Points.{HaveInCommon, AreInPoints, EndsInPoint, IsCut, HaveUtf8Labels}
 
 -- a sample's common labels are those that it shares

@@ -9,7 +9,7 @@ use Rattle.std.specs.declared.alloc.Global.{Global}
 use Rattle.std.specs.declared.sync.Arc.{Arc}
 use Rattle.fm_grammar.specs.Exposition as grammar
 use Rattle.fm_grammar.specs.Exposition.{Label}
-use Rattle.fm_text.specs.LabelPairs.{labels_of}
+use Rattle.fm_grammar.specs.LabelPairs.{labels_of}
 use Rattle.fm_exposition.specs.declared.exposition.Value.{Value}
 use Rattle.fm_exposition.specs.declared.exposition.Value.TheVariants.{Whole, Fixed, Millis}
 use Rattle.fm_exposition.specs.declared.exposition.Exemplar.{Exemplar}

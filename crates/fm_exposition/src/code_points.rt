@@ -2,7 +2,7 @@
 ghost use Rattle.std.specs.Prelude.{◌≡◌, ◌≤◌, ◌↔◌, IsTrue};
 ghost use Rattle.fm_grammar.specs.WellFormed.{code_points as text_code_points, label_code_points};
 ghost use Rattle.fm_grammar.specs.inside.Words.{begins_character as byte_begins_character};
-ghost use Rattle.fm_text.specs.LabelPairs.{labels_of};
+ghost use Rattle.fm_grammar.specs.LabelPairs.{labels_of};
 
 // The greatest number of code points in the labels of an exemplar.
 const MAX_CODE_POINTS: usize = 128;

@@ -4,7 +4,7 @@ ghost use Rattle.std.specs.Cmp.Lexicographic.{pointwise};
 ghost use Rattle.std.specs.Option.{option_map, option_eq};
 ghost use Rattle.std.specs.Ordering.{on};
 ghost use Rattle.fm_exposition.specs.Same.{same_label, same_value, same_exemplar, same_sample, same_family, same_exposition};
-ghost use Rattle.fm_text.specs.LabelPairs.{labels_of, shown_label};
+ghost use Rattle.fm_grammar.specs.LabelPairs.{labels_of, shown_label};
 ghost use Rattle.fm_exposition.specs.Samples.{value_of, exemplar_of, sample_of};
 ghost use Rattle.fm_exposition.specs.inside.SameLaws.{view_laws, view_equivalence, same_value_decides, same_exemplar_decides, same_sample_decides, family_laws, family_equivalence, exposition_laws, exposition_equivalence};
 

@@ -3,13 +3,12 @@ ghost use Rattle.std.specs.Prelude.{◌≡◌, ◌++◌, length, slice_get};
 ghost use Rattle.std.specs.Option.{option_copied, option_map};
 ghost use Rattle.fm_grammar.specs.Reading.{IsExposition};
 ghost use Rattle.fm_exposition.specs.inside.Points.{AreInPoints, HaveUtf8Labels};
-ghost use Rattle.fm_text.specs.LabelPairs.{labels_of, shown_label};
+ghost use Rattle.fm_grammar.specs.LabelPairs.{labels_of, shown_label};
 ghost use Rattle.fm_exposition.specs.Samples.{value_of, exemplar_of, sample_of, samples_of, exemplar_at};
 
 use crate::store::SampleStore;
-use fm_grammar::{MetricType, SampleKind};
+use fm_grammar::{LabelList, MetricType, SampleKind};
 use fm_raw::fixed::{Fixed, FixedSum};
-use fm_text::LabelList;
 use std::marker::Model;
 use std::sync::Arc;
 

@@ -5,7 +5,7 @@ ghost use Rattle.fm_exposition.specs.inside.Points.{AreInPoints, HaveUtf8Labels}
 ghost use Rattle.fm_exposition.specs.Samples.{samples_of, common_labels, own_labels};
 
 use crate::exposition::{FamilySamples, Sample};
-use fm_text::LabelList;
+use fm_grammar::LabelList;
 
 /// The number of samples of each point of a family, and all its samples. Those of one point share their common labels.
 pub fn points(family: &FamilySamples) -> (&[usize], &[Sample])

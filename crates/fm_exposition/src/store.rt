@@ -5,8 +5,7 @@ ghost use Rattle.fm_exposition.specs.inside.Points.{AreInPoints, HaveUtf8Labels}
 ghost use Rattle.fm_exposition.specs.Samples.{shared_labels, value_of, exemplar_of, boxed_exemplar, samples_of};
 
 use crate::exposition::{CommonLabels, Exemplar, Sample, Value};
-use fm_grammar::SampleKind;
-use fm_text::LabelList;
+use fm_grammar::{LabelList, SampleKind};
 use std::alloc::{AllocError, Global};
 use std::marker::Model;
 use std::mem;

@@ -12,4 +12,4 @@ pub use factory::{DefaultFactory, MetricFactory};
 pub use family::Family;
 pub use members::FamilyCore;
 pub use pairs::{PairFamily, with_pairs};
-pub use texts::{DefaultFamily, TextFamily, remove_texts, with_texts};
+pub use texts::{DefaultFamily, TextFamily, TextLabels, remove_texts, with_texts};

@@ -5,3 +5,4 @@ pub mod LabelsLemmas
 pub mod LabelSetLemmas
 pub mod OwnLabels
 pub mod WrittenLemmas
+pub mod ConstantLemmas

@@ -7,7 +7,7 @@ use Rattle.fm_grammar.specs.Exposition.{Text, Label}
 use Rattle.fm_grammar.specs.Names.{IsLowerLetter, IsDigit, IsWord, BeginsWithLetter, IsSnakeCase, IsLabelName, AllDifferent}
 use Rattle.fm_grammar.specs.inside.Words.{further_words, IsLabelByte}
 use Rattle.fm_grammar.specs.WellFormed.{AreLabels}
-use Rattle.fm_text.specs.LabelPairs.{labels_of}
+use Rattle.fm_grammar.specs.LabelPairs.{labels_of}
 use Rattle.fm_labels.specs.Labels.{EmittedLabel, NamePiece, ValuePiece, IsReserved, label_names, NameFits, LabelValid, LabelsValid, written, all_written, emitted_again}
 use Rattle.fm_labels.specs.inside.FreeLabels.{AreFree}
 

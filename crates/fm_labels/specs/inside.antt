@@ -1,3 +1,4 @@
 -- What public contracts don't cite: the words of private functions.
+pub mod Constants
 pub mod FreeLabels
 pub mod Steps

@@ -1,4 +1,4 @@
-// Labels that are gathered after other labels.
+//! Labels that are gathered after other labels.
 ghost use Rattle.std.specs.Prelude.{◌≡◌, ◌⊎◌, ◌++◌, None, MatchResult};
 ghost use Rattle.fm_labels.specs.Labels.{LabelsValid, LabelsFault, all_written};
 ghost use Rattle.fm_labels.specs.Refusals.{OwnRefusal};
@@ -10,8 +10,8 @@ use fm_grammar::MetricType;
 use fm_text::LabelText;
 use std::alloc::Global;
 
-/// Adds the labels that a label set emits, after those that the encoder has.
-pub fn read_labels<LS: EncodeLabelSet>(
+// Adds the labels that a label set emits, after those that the encoder has.
+pub(crate) fn read_labels<LS: EncodeLabelSet>(
     encoder: &mut LabelSetEncoder,
     labels: &LS,
 ) -> Result<(), EncodeError>
@@ -30,7 +30,8 @@ pub fn read_labels<LS: EncodeLabelSet>(
     encoder.outcome(visited)
 }
 
-/// The labels that a label set emits, which come after these labels in a family of this type. Fails with `Memory` if memory runs out.
+/// The labels that a label set emits, which come after these labels in a family of this type. Its errors are those of the labels,
+/// and one of the label set's own is `Memory` or `MetricFault`. Fails with `Memory` if memory runs out.
 pub fn read_labels_after<LS: EncodeLabelSet>(
     alloc: Global,
     metric_type: MetricType,

@@ -1,6 +1,6 @@
 //! Label sets: lists, sets and maps of labels.
 ghost use Rattle.std.specs.Prelude.{◌≡◌, [], List, IsTrue, map, Any, Ok};
-ghost use Rattle.fm_text.specs.LabelPairs.{labels_of};
+ghost use Rattle.fm_grammar.specs.LabelPairs.{labels_of};
 ghost use Rattle.fm_labels.specs.Labels.{EmittedLabel, emitted_again};
 ghost use Rattle.fm_labels.specs.LabelEncoders.{EmitsLabels};
 ghost use Rattle.fm_labels.specs.Refusals.{NoFault};

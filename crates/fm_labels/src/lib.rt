@@ -1,6 +1,7 @@
 //! Labels: what emits them, the encoders that gather and test them, and label values.
 #![tactic(auto)]
 
+pub mod constants;
 pub mod first_refusal;
 pub mod gathered;
 pub mod label;
@@ -13,6 +14,7 @@ pub mod labels;
 mod names;
 pub mod written_labels;
 
+pub use constants::ConstantLabels;
 pub use first_refusal::FirstRefusal;
 pub use fm_encode_error::EncodeError;
 pub use label::{EncodeLabel, EncodeLabelName, EncodeLabelValue, LabelEncoder, LabelSetEncoder};

@@ -7,7 +7,7 @@ ghost use Rattle.fm_reader.specs.inside.Shared.{common_after};
 use crate::lines::sample::ReadSample;
 use crate::lines::shared::ReadLabels;
 use fm_exposition::{CommonLabels, SampleStore};
-use fm_text::LabelList;
+use fm_grammar::LabelList;
 use std::alloc::{AllocError, Global};
 use std::marker::Model;
 use std::sync::Arc;

@@ -8,7 +8,7 @@ use Rattle.std.proofs.lemmas.Option.{get_or_from_slice_get, slice_get_within}
 use Rattle.fm_grammar.specs.Names.{IsSnakeCase}
 use Rattle.fm_grammar.specs.NameTests.{is_label_name}
 use Rattle.fm_raw.proofs.NameLemmas.{snake_case_is}
-use Rattle.fm_text.specs.LabelPairs.{label_of, labels_of}
+use Rattle.fm_grammar.specs.LabelPairs.{label_of, labels_of}
 use Rattle.fm_registry_model.specs.Texts.{Text, Label, Labels, has_text}
 use Rattle.fm_registry_model.specs.Answer.{Refusal, InvalidLabelName, DuplicateLabel, label_refusal_after, labels_refusal_after, root_labels_refusal, or_then}
 use Rattle.fm_registry_model.proofs.RootLemmas.{labels_refusal_after-++, root_labels_valid}

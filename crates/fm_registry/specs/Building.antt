@@ -2,7 +2,7 @@
 use Rattle.std.specs.Prelude.{◌≡◌, Result}
 use Rattle.std.specs.String.{string_bytes}
 use Rattle.std.specs.Borrow.{Fml, RattleType, MutBor, RestsIfErr}
-use Rattle.fm_text.specs.LabelPairs.{labels_of}
+use Rattle.fm_grammar.specs.LabelPairs.{labels_of}
 use Rattle.fm_registry_model.specs.Tree.{Tree}
 use Rattle.fm_registry.specs.Lends.{lends_subsystem}
 use Rattle.fm_registry.specs.contracts.registry.Registry.{the_row}

@@ -3,7 +3,7 @@ use Rattle.std.specs.Prelude.{◌≡◌, ⊤, List, [], ◌∷◌, map, Option, 
 use Rattle.std.specs.declared.alloc.Global.{Global}
 use Rattle.std.specs.String.{string_bytes}
 use Rattle.fm_grammar.specs.declared.MetricType.{MetricType}
-use Rattle.fm_text.specs.LabelPairs.{labels_of}
+use Rattle.fm_grammar.specs.LabelPairs.{labels_of}
 use Rattle.fm_registry_model.specs.Texts.{Path}
 use Rattle.fm_registry_model.specs.History as history
 use Rattle.fm_registry_model.specs.History.{History, Call}

@@ -1,4 +1,4 @@
-pub use Rattle.fm_text.specs.LabelPairs
+pub use Rattle.fm_grammar.specs.LabelPairs
 pub use Rattle.fm_registry_model.specs.Texts
 pub use Rattle.fm_registry_model.specs.Registration
 pub use Rattle.fm_registry_model.specs.History

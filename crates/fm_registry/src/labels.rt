@@ -5,7 +5,7 @@ ghost use Rattle.std.specs.Option.{option_map};
 ghost use Rattle.std.specs.Str.{bytes_eq};
 ghost use Rattle.std.specs.String.{string_bytes};
 ghost use Rattle.fm_grammar.specs.NameTests.{is_label_name as label_name_test};
-ghost use Rattle.fm_text.specs.LabelPairs.{label_of, labels_of};
+ghost use Rattle.fm_grammar.specs.LabelPairs.{label_of, labels_of};
 ghost use Rattle.fm_registry_model.specs.Texts.{has_text, join_name, merge_labels, set_label as label_set};
 ghost use Rattle.fm_registry_model.specs.Answer.{refusal_of, first_bad_label, label_refusal_after, root_labels_refusal};
 ghost use Rattle.fm_registry.specs.inside.RootLabels.{IsRefusedAt, label_fault};

@@ -1,7 +1,7 @@
 //! The metrics of one registry, as a collector receives them.
 ghost use Rattle.std.specs.Prelude.{◌≡◌, slice_get};
 ghost use Rattle.std.specs.Option.{option_copied, option_map};
-ghost use Rattle.fm_text.specs.LabelPairs.{labels_of};
+ghost use Rattle.fm_grammar.specs.LabelPairs.{labels_of};
 ghost use Rattle.fm_registry_model.specs.Listing.{listed_with};
 ghost use Rattle.fm_registry.specs.inside.TreeView.{seen_metrics};
 ghost use Rattle.fm_registry.specs.Seen.{seen_listed};

@@ -111,7 +111,7 @@ impl<M> Debug for Registry<M> {
 impl<M> Registry<M> {
     ghost use Rattle.std.specs.Prelude.{◌≡◌, ◌++◌, [], length, slice_get, OnOk, IfOk, IfErr};
     ghost use Rattle.std.specs.Option.{option_map};
-    ghost use Rattle.fm_text.specs.LabelPairs.{labels_of};
+    ghost use Rattle.fm_grammar.specs.LabelPairs.{labels_of};
     ghost use Rattle.fm_registry_model.specs.History.{namespace_at, labels_at};
     ghost use Rattle.fm_registry_model.specs.Tree.{Shows};
     ghost use Rattle.fm_registry_model.specs.Listing.{own_metrics, listed_tree, order};

@@ -4,7 +4,7 @@ use Rattle.std.specs.String.{string_bytes}
 use Rattle.std.proofs.lemmas.List.{nil_from_length}
 use Rattle.fm_grammar.specs.declared.MetricType.{MetricType}
 use Rattle.fm_raw.specs.declared.metadata.Unit as unit
-use Rattle.fm_text.specs.LabelPairs.{labels_of}
+use Rattle.fm_grammar.specs.LabelPairs.{labels_of}
 use Rattle.fm_registry_model.specs.Texts.{Text, Path, Labels}
 use Rattle.fm_registry_model.specs.History.{History, Call, Register, Subsystem}
 use Rattle.fm_registry_model.specs.Answer.{Refusal, refusal_of, seen_error, after}

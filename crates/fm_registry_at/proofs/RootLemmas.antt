@@ -4,7 +4,7 @@ use Rattle.std.specs.List.{AllZip}
 use Rattle.std.specs.String.{string_bytes}
 use Rattle.fm_grammar.specs.declared.MetricType.{MetricType}
 use Rattle.fm_raw.specs.declared.metadata.Unit as unit
-use Rattle.fm_text.specs.LabelPairs.{labels_of}
+use Rattle.fm_grammar.specs.LabelPairs.{labels_of}
 use Rattle.fm_registry_model.specs.Texts.{Text, Path, Labels}
 use Rattle.fm_registry_model.specs.History.{History, Register, Subsystem}
 use Rattle.fm_registry_model.specs.Answer.{IsReturned, refusal_of, answer, after}

@@ -1,7 +1,7 @@
 //! A registry with the subsystem in which it registers.
 ghost use Rattle.std.specs.Prelude.{◌≡◌, ◌⊎◌, ◌++◌, ◌∷◌, [], None, Some, Err, Ok, IfOk, IfErr, OnOk, map, string_bytes};
 ghost use Rattle.std.specs.Option.{option_map};
-ghost use Rattle.fm_text.specs.LabelPairs.{shown_label};
+ghost use Rattle.fm_grammar.specs.LabelPairs.{shown_label};
 ghost use Rattle.fm_registry_model.specs.declared.RegistryError.TheVariants.{Memory};
 ghost use Rattle.fm_registry.specs.HasHistory.{HasHistory, IsNewRoot};
 ghost use Rattle.fm_registry.specs.View.{seen_labels};
@@ -98,7 +98,7 @@ fn path_below(alloc: Global, path: &Vec<String>, name: &str) -> Result<Vec<Strin
     Ok(below)
 }
 
-impl<M: EncodeMetric> RegistryAt<M> {
+impl<M> RegistryAt<M> {
     /// A root with no namespace, no labels and no metrics. It takes no memory.
     pub fn new(alloc: Global) -> RegistryAt<M>
         ensures tree { IsNewRoot None [] result.tree }
@@ -137,6 +137,15 @@ impl<M: EncodeMetric> RegistryAt<M> {
         self.alloc
     }
 
+    /// Goes back to the root itself. It takes no memory.
+    pub fn leave(&mut self)
+        ensures { self.new ≡ record self.old { path = [] } }
+    {
+        self.path = Vec::new(self.alloc);
+    }
+}
+
+impl<M: EncodeMetric> RegistryAt<M> {
     /// Goes on in the subsystem with this name below the current one. If it isn't there, it is made, with these labels besides those
     /// of the registries above it. At an error it stays as it was.
     pub fn enter(&mut self, name: &str, labels: &[(&str, &str)]) -> Result<(), RegistryError>
@@ -148,13 +157,6 @@ impl<M: EncodeMetric> RegistryAt<M> {
         self.registry.run_call(call)?;
         self.path = below;
         Ok(())
-    }
-
-    /// Goes back to the root itself. It takes no memory.
-    pub fn leave(&mut self)
-        ensures { self.new ≡ record self.old { path = [] } }
-    {
-        self.path = Vec::new(self.alloc);
     }
 
     /// Registers a metric in the current subsystem, with or without a unit. At an error it stays as it was.

@@ -1,6 +1,6 @@
 //! Calls at a path of subsystems of a registry with boxes, which are made where they are missing.
 ghost use Rattle.std.specs.Prelude.{◌≡◌, ◌⊎◌, ◌++◌, ◌∷◌, [], None, Err, IfOk, map};
-ghost use Rattle.fm_text.specs.LabelPairs.{shown_label};
+ghost use Rattle.fm_grammar.specs.LabelPairs.{shown_label};
 ghost use Rattle.fm_registry_model.specs.declared.RegistryError.TheVariants.{Memory};
 ghost use Rattle.fm_registry_model.specs.Answer.{refusal_of};
 ghost use Rattle.fm_registry_model.specs.History.{Subsystem};

@@ -2,7 +2,7 @@
 ghost use Rattle.std.specs.Prelude.{◌≡◌, ◌⊎◌, [], None, Some, Err, OnOk, IfOk, IfErr, map, string_bytes};
 ghost use Rattle.std.specs.Option.{option_map};
 ghost use Rattle.std.specs.Io.KnownBytes.{Keeps};
-ghost use Rattle.fm_text.specs.LabelPairs.{shown_label};
+ghost use Rattle.fm_grammar.specs.LabelPairs.{shown_label};
 ghost use Rattle.fm_exposition.specs.Written.{IsWritersFault};
 ghost use Rattle.fm_encode_error.specs.declared.EncodeError.{EncodeError};
 ghost use Rattle.fm_registry_model.specs.declared.RegistryError.TheVariants.{Memory};
@@ -10,8 +10,8 @@ ghost use Rattle.fm_registry_model.specs.Listing.{order};
 ghost use Rattle.fm_registry_model.specs.Tree.{Shows};
 ghost use Rattle.fm_registry.specs.HasHistory.{IsNewRoot};
 ghost use Rattle.fm_registry.specs.View.{seen_labels};
-ghost use Rattle.fm_core.specs.Admits.{AdmittedBy, Fault};
-ghost use Rattle.fm_core.specs.Encoded.{WritesAdmitted, BeginsAdmitted};
+ghost use Rattle.fm_scrape.specs.Admits.{AdmittedBy, Fault};
+ghost use Rattle.fm_scrape.specs.Encoded.{WritesAdmitted, BeginsAdmitted};
 ghost use Rattle.fm_registry.specs.Named.{named_metric};
 ghost use Rattle.fm_metric_kinds.specs.declared.Metric.TheVariants.{Own};
 ghost use Rattle.fm_registry_at.specs.Roots.{AddsOrNot, AddsClone, Makes, Enters};
@@ -19,12 +19,14 @@ ghost use Rattle.fm_registry_at.specs.Roots.{AddsOrNot, AddsClone, Makes, Enters
 mod families;
 mod metrics;
 
-use fm_core::format::text::{EncodeError, Exposition, collect, encode};
+use fm_encode_error::EncodeError;
 use fm_encoder::EncodeMetric;
+use fm_exposition::Exposition;
 use fm_metric_kinds::{Metric, Number};
 use fm_raw::{TryDefault, Unit};
 use fm_registry::{RegistryBuilder, RegistryError};
 use fm_registry_at::RegistryAt;
+use fm_scrape::{collect, encode};
 use std::alloc::Global;
 use std::io::Write;
 use std::sync::Wait;

@@ -1,5 +1,4 @@
 -- What public contracts don't cite: what was appended, and where labels are in a text.
 pub mod Grown
-pub mod LabelLists
 pub mod LabelTexts
 pub mod Plain

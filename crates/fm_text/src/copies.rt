@@ -1,6 +1,6 @@
 // Copies of label lists.
 ghost use Rattle.std.specs.Prelude.{◌≡◌, ◌≤◌, ◌++◌, [], ◌∷◌, None, OnOk, IfOk, length, drop, map};
-ghost use Rattle.fm_text.specs.LabelPairs.{labels_of, shown_label};
+ghost use Rattle.fm_grammar.specs.LabelPairs.{labels_of, shown_label};
 
 use crate::label_text::LabelText;
 use std::alloc::{AllocError, Global};

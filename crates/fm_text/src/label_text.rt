@@ -2,18 +2,18 @@
 ghost use Rattle.std.specs.Prelude.{◌≡◌, ◌++◌, ◌≤◌, ◌<◌, ◌↔◌, IsTrue, [], length, drop, map, Contains, OnOk, OnErr, IfOk, Some, None, IsSome, true, is_some, codes, IfSome};
 ghost use Rattle.std.specs.List.{Any};
 ghost use Rattle.fm_grammar.specs.Spelling.{label_list_text, escaped};
-ghost use Rattle.fm_text.specs.LabelPairs.{labels_of, shown_label};
+ghost use Rattle.fm_grammar.specs.LabelPairs.{labels_of, shown_label};
 ghost use Rattle.fm_text.specs.inside.Grown.{Grown};
 ghost use Rattle.fm_text.specs.inside.LabelTexts.{part_in, labels_in, IsPart, name_in_list, further_list, whole_label, whole_span};
 
 use crate::growing::GrowingText;
-use crate::label_list::LabelList;
 use crate::labels::{LabelSource, append_labels_at};
 use crate::output::Output;
 use crate::plain::is_plain;
 use crate::spans::{
     LabelSpan, Part, are_labels, are_of_list, has_name, has_name_of, list_at, pairs_at, push_after,
 };
+use fm_grammar::LabelList;
 use std::alloc::{AllocError, Global};
 use std::marker::Model;
 

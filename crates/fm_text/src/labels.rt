@@ -3,15 +3,15 @@ ghost use Rattle.std.specs.Prelude.{◌≡◌, ◌++◌, ◌⊎◌, ◌<◌, Lis
 ghost use Rattle.std.specs.List.{AllByRecursion};
 ghost use Rattle.fm_grammar.specs.Exposition.{Label};
 ghost use Rattle.fm_grammar.specs.Spelling.{escaped, label_text, label_list_text, in_braces};
-ghost use Rattle.fm_text.specs.LabelPairs.{labels_of};
+ghost use Rattle.fm_grammar.specs.LabelPairs.{labels_of};
 ghost use Rattle.fm_text.specs.inside.Grown.{Grows};
 ghost use Rattle.fm_text.specs.inside.LabelTexts.{labels_in, IsSpan};
 
 use crate::escaping::append_escaped;
-use crate::label_list::LabelList;
 use crate::output::Output;
 use crate::plain::is_plain;
 use crate::spans::{LabelSpan, part_at};
+use fm_grammar::LabelList;
 use std::alloc::AllocError;
 
 /// Labels of samples, the common ones or their own.

@@ -1,10 +1,10 @@
 // Where names and values are in a text.
 ghost use Rattle.std.specs.Prelude.{◌≡◌, ◌++◌, ◌+◌, ◌≤◌, ◌↔◌, IsTrue, Contains, OnOk, IfOk, drop, length, map};
 ghost use Rattle.std.specs.List.{AllByRecursion, Any};
-ghost use Rattle.fm_text.specs.LabelPairs.{label_of, labels_of, shown_label};
+ghost use Rattle.fm_grammar.specs.LabelPairs.{label_of, labels_of, shown_label};
 ghost use Rattle.fm_text.specs.inside.LabelTexts.{part_in, label_in, labels_in, IsPart, IsSpan, names_in};
 
-use crate::label_list::LabelList;
+use fm_grammar::LabelList;
 use std::alloc::{AllocError, Global};
 
 /// Where a name or a value is in a text.

@@ -25,11 +25,11 @@ use Rattle.fm_grammar.proofs.Values.{value_bytes}
 use Rattle.fm_grammar.proofs.Words.{IsWordByte, suffix_bytes, type_word_bytes}
 use Rattle.fm_exposition.specs.Rows.{sample_rows, unit_row, head_rows}
 use Rattle.fm_exposition.specs.inside.DocumentRows.{family_rows, families_rows, document_rows}
-use Rattle.fm_text.specs.LabelPairs.{labels_of}
+use Rattle.fm_grammar.specs.LabelPairs.{labels_of}
 use Rattle.fm_exposition.specs.Samples.{boxed_exemplar, common_labels, own_labels, samples_of}
 use Rattle.fm_exposition.specs.declared.exposition.Exemplar.{Exemplar as StoredExemplar}
 use Rattle.fm_exposition.specs.declared.exposition.Sample.{Sample as StoredSample}
-use Rattle.fm_text.specs.inside.LabelLists.{AreUtf8Labels}
+use Rattle.fm_grammar.specs.inside.LabelLists.{AreUtf8Labels}
 use Rattle.fm_exposition.specs.inside.Points.{HaveUtf8Labels}
 use Rattle.fm_writer.specs.inside.Utf8.{IsUtf8Sample, IsUtf8Family}
 use Rattle.fm_writer.proofs.Utf8Escapes.{utf8_ascii, utf8_bytes, utf8_escaped}

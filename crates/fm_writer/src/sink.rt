@@ -1,7 +1,7 @@
 //! Where encoders put the samples of a family.
 ghost use Rattle.std.specs.Prelude.{◌≡◌, ◌++◌, None, Some, [], ◌∷◌, map, OnOk, OnErr, IfOk, IfSome, IsSome};
 ghost use Rattle.fm_exposition.specs.Rows.{head_rows};
-ghost use Rattle.fm_text.specs.LabelPairs.{labels_of, shown_label};
+ghost use Rattle.fm_grammar.specs.LabelPairs.{labels_of, shown_label};
 ghost use Rattle.fm_exposition.specs.Samples.{shared_labels};
 ghost use Rattle.fm_text.specs.inside.Grown.{Grown};
 ghost use Rattle.fm_writer.specs.Heads.{headed};
@@ -14,7 +14,8 @@ use crate::heads::{FamilyHead, append_heads};
 use crate::new_sample::NewSample;
 use crate::rendering::{Reading, append_sample_row};
 use fm_exposition::{CommonLabels, SampleStore};
-use fm_text::{GrowingText, LabelList, LabelText};
+use fm_grammar::LabelList;
+use fm_text::{GrowingText, LabelText};
 use std::alloc::{AllocError, Global};
 use std::marker::Model;
 use std::sync::Arc;

@@ -33,7 +33,7 @@ impl Model for ExemplarLabels {
     ghost use Rattle.fm_grammar.specs.declared.MetricType.TheVariants.{Unknown};
     ghost use Rattle.fm_grammar.specs.Exposition.{Label};
     ghost use Rattle.fm_grammar.specs.WellFormed.{label_code_points};
-    ghost use Rattle.fm_text.specs.LabelPairs.{labels_of};
+    ghost use Rattle.fm_grammar.specs.LabelPairs.{labels_of};
     ghost use Rattle.fm_labels.specs.Labels.{LabelsValid, all_written, emitted_again};
 
     ghost Value = { List Label };

@@ -4,7 +4,7 @@ use Rattle.std.specs.List.{AllByRecursion}
 use Rattle.fm_grammar.specs.Exposition as grammar
 use Rattle.fm_grammar.specs.Exposition.{Label}
 use Rattle.fm_exposition.specs.declared.exposition.Sample.{Sample}
-use Rattle.fm_text.specs.inside.LabelLists.{AreUtf8Labels}
+use Rattle.fm_grammar.specs.inside.LabelLists.{AreUtf8Labels}
 use Rattle.fm_exposition.specs.Samples.{common_labels, own_labels}
 
 -- the samples have one list of common labels

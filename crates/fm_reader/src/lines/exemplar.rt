@@ -1,7 +1,7 @@
 //! Reads exemplars.
 ghost use Rattle.std.specs.Prelude.{◌≡◌, IfOk};
 ghost use Rattle.std.specs.Option.{option_map};
-ghost use Rattle.fm_text.specs.LabelPairs.{labels_of};
+ghost use Rattle.fm_grammar.specs.LabelPairs.{labels_of};
 ghost use Rattle.fm_exposition.specs.Samples.{exemplar_of};
 ghost use Rattle.fm_reader.specs.inside.Parts.{tail_text, FoundSmall, FoundBody, FoundExemplar};
 
@@ -10,9 +10,8 @@ use crate::lines::values::{read_time, split_token};
 use crate::parts::number::read_fixed;
 use fm_exposition::code_points::are_short;
 use fm_exposition::{Exemplar, make};
-use fm_grammar::SampleKind;
+use fm_grammar::{LabelList, SampleKind};
 use fm_raw::Fixed;
-use fm_text::LabelList;
 use std::alloc::{AllocError, Global};
 
 /// The exemplar of a sample of this kind, or `Some(None)` if `tail` is None; None if the text is not such an exemplar.

@@ -6,7 +6,7 @@ ghost use Rattle.fm_reader.specs.inside.Fronts.{front_labels};
 ghost use Rattle.fm_reader.specs.inside.Parts.{IsBracesFront, IsBlockFront};
 
 use crate::parts::labels::read_labels;
-use fm_text::LabelList;
+use fm_grammar::LabelList;
 use std::alloc::{AllocError, Global};
 use std::collections::BTreeSet;
 

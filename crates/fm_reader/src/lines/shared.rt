@@ -7,8 +7,7 @@ ghost use Rattle.fm_reader.specs.inside.Shared.{IsOwnLabel, IsNamedFront, IsComm
 use crate::lines::labels::{are_different, is_new, read_block, read_braces};
 use crate::parts::labels::read_label;
 use crate::samples::{Common, ReadSamples};
-use fm_grammar::{MetricType, SampleKind};
-use fm_text::LabelList;
+use fm_grammar::{LabelList, MetricType, SampleKind};
 use std::alloc::{AllocError, Global};
 
 /// A sample's labels as they were read.

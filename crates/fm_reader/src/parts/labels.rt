@@ -4,7 +4,7 @@ ghost use Rattle.fm_reader.specs.inside.Fronts.{IsEscapedFront, IsPlainCut, IsLa
 
 use crate::parts::names::split_name;
 use crate::parts::plain::plain_end;
-use fm_text::LabelList;
+use fm_grammar::LabelList;
 use std::alloc::{AllocError, Global};
 
 /// Reads an escaped text at the start, up to a quote, a line feed or the end, and returns it with the text after it;

@@ -1,6 +1,6 @@
 -- A call at one registry, as a call of the history.
 use Rattle.std.specs.String.{string_bytes}
-use Rattle.fm_text.specs.LabelPairs.{labels_of}
+use Rattle.fm_grammar.specs.LabelPairs.{labels_of}
 use Rattle.fm_registry_model.specs.Texts.{Path}
 use Rattle.fm_registry_model.specs.History as history
 use Rattle.fm_registry_model.specs.History.{Call}

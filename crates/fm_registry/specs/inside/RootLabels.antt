@@ -2,7 +2,7 @@
 use Rattle.std.specs.Prelude.{◌≡◌, ℕ, Bool, true, List, Option, None, Some, String, slice_get, is_none, if◌then◌else◌}
 use Rattle.std.specs.declared.alloc.Global.{Global}
 use Rattle.fm_grammar.specs.NameTests.{is_snake_case, is_label_name}
-use Rattle.fm_text.specs.LabelPairs.{label_of, labels_of}
+use Rattle.fm_grammar.specs.LabelPairs.{label_of, labels_of}
 use Rattle.fm_registry_model.specs.Texts.{Text, Labels}
 use Rattle.fm_registry_model.specs.Answer.{Refusal, InvalidLabelName, DuplicateLabel, root_labels_refusal}
 

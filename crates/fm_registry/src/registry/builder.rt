@@ -2,7 +2,7 @@
 ghost use Rattle.std.specs.Prelude.{◌≡◌, Some, None, IfOk, IsTrue, []};
 ghost use Rattle.std.specs.Option.{option_map};
 ghost use Rattle.std.specs.String.{string_bytes};
-ghost use Rattle.fm_text.specs.LabelPairs.{labels_of};
+ghost use Rattle.fm_grammar.specs.LabelPairs.{labels_of};
 ghost use Rattle.fm_registry_model.specs.Answer.{refusal_of, namespace_refusal, root_labels_refusal};
 ghost use Rattle.fm_registry.specs.View.{seen_labels};
 ghost use Rattle.fm_registry.specs.inside.RootLabels.{takes_namespace, takes_labels};

@@ -1,7 +1,7 @@
 //! Registry calls made one after the other.
 ghost use Rattle.std.specs.Prelude.{◌≡◌, OnOk, OnErr, IfOk, None, true, [], map};
 ghost use Rattle.std.specs.String.{string_bytes};
-ghost use Rattle.fm_text.specs.LabelPairs.{labels_of};
+ghost use Rattle.fm_grammar.specs.LabelPairs.{labels_of};
 ghost use Rattle.fm_registry_model.specs.Answer.{refusal_of, asking_refusal, subsystem_refusal, after, IsReturned};
 ghost use Rattle.fm_registry_model.specs.History.{Subsystem as AskSubsystem};
 ghost use Rattle.fm_registry_model.specs.Texts.{has_text};

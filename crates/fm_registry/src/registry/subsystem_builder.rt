@@ -2,7 +2,7 @@
 ghost use Rattle.std.specs.Prelude.{◌≡◌, true, IfOk, []};
 ghost use Rattle.std.specs.Borrow.{sem};
 ghost use Rattle.std.specs.String.{string_bytes};
-ghost use Rattle.fm_text.specs.LabelPairs.{labels_of};
+ghost use Rattle.fm_grammar.specs.LabelPairs.{labels_of};
 ghost use Rattle.fm_registry_model.specs.Answer.{refusal_of, name_or_depth_refusal, asking_refusal, subsystem_refusal, first_bad_label, after, IsReturned};
 ghost use Rattle.fm_registry_model.specs.History.{Subsystem as AskSubsystem};
 ghost use Rattle.fm_registry_model.specs.Texts.{has_text};

@@ -4,7 +4,7 @@ ghost use Rattle.std.specs.Borrow.{sem};
 ghost use Rattle.std.specs.List.{position_from, list_any};
 ghost use Rattle.std.specs.Str.{bytes_eq};
 ghost use Rattle.std.specs.String.{string_bytes};
-ghost use Rattle.fm_text.specs.LabelPairs.{labels_of};
+ghost use Rattle.fm_grammar.specs.LabelPairs.{labels_of};
 ghost use Rattle.fm_registry_model.specs.Answer.{refusal_of, new_name_refusal, child_refusal, asking_refusal, subsystem_refusal, after, IsReturned};
 ghost use Rattle.fm_registry_model.specs.History.{Subsystem as AskSubsystem};
 ghost use Rattle.fm_registry_model.specs.Taken.{is_below as below_test, is_child_taken, tails_of};

@@ -3,7 +3,7 @@ use Rattle.std.specs.Prelude.{IfSome}
 use Rattle.std.specs.List.{AllByRecursion}
 use Rattle.std.specs.Str.{IsUtf8}
 use Rattle.fm_grammar.specs.Exposition.{Sample, Family}
-use Rattle.fm_text.specs.inside.LabelLists.{AreUtf8Labels}
+use Rattle.fm_grammar.specs.inside.LabelLists.{AreUtf8Labels}
 
 -- those of the sample's labels and of its exemplar's are
 pub record IsUtf8Sample (sample : Sample) : Type 0 where

@@ -1,7 +1,7 @@
 use Rattle.std.proofs.Common.{◌≤◌, ◌∙◌}
 use Rattle.std.specs.Option.{option_map}
 use Rattle.fm_grammar.specs.WellFormed.{label_code_points}
-use Rattle.fm_text.specs.LabelPairs.{labels_of}
+use Rattle.fm_grammar.specs.LabelPairs.{labels_of}
 use Rattle.fm_encoder.specs.Points.{EmittedExemplar, millis}
 use Rattle.fm_encoder.proofs.ExemplarLemmas.{exemplar_whole}
 use Rattle.fm_encoder.proofs.exemplar.exemplar_from.Goals as goal

@@ -1,6 +1,6 @@
 use Rattle.std.proofs.Common.{◌≡◌, ◌+◌, take}
 use Rattle.fm_grammar.specs.WellFormed.{label_code_points}
-use Rattle.fm_text.specs.LabelPairs.{labels_of}
+use Rattle.fm_grammar.specs.LabelPairs.{labels_of}
 use Rattle.fm_exposition.proofs.code_points.are_short.Given as goal
 
 abbrev pub invariant-loop-name : goal.invariant-loop-name

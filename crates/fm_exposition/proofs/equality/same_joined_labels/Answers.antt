@@ -1,5 +1,5 @@
 use Rattle.std.proofs.Common.{rules, ◌≡◌, ◌∙◌, false, true}
-use Rattle.fm_text.specs.LabelPairs.{shown_label}
+use Rattle.fm_grammar.specs.LabelPairs.{shown_label}
 use Rattle.fm_exposition.specs.Samples.{sample_of}
 use Rattle.fm_exposition.proofs.LabelLemmas.{end_at, read_differ, read_same}
 use Rattle.fm_exposition.proofs.equality.same_joined_labels.Goals as goal

@@ -1,5 +1,5 @@
 use Rattle.std.proofs.Common.{◌≡◌, take}
-use Rattle.fm_text.specs.LabelPairs.{labels_of}
+use Rattle.fm_grammar.specs.LabelPairs.{labels_of}
 use Rattle.fm_registry.proofs.labels.cloned_labels.Given as goal
 
 abbrev pub invariant-loop-label : goal.invariant-loop-label

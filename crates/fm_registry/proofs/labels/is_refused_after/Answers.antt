@@ -1,5 +1,5 @@
 use Rattle.std.proofs.Common.{sym, ◌∙◌}
-use Rattle.fm_text.specs.LabelPairs.{labels_of}
+use Rattle.fm_grammar.specs.LabelPairs.{labels_of}
 use Rattle.fm_registry.proofs.RootLemmas.{names_of, refused-invalid, refused-duplicate}
 use Rattle.fm_registry.proofs.labels.is_refused_after.Goals as goal
 

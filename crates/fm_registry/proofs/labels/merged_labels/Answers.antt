@@ -1,7 +1,7 @@
 use Rattle.std.proofs.Common.{◌∙◌, ap, sym, [], ◌∷◌}
 use Rattle.std.proofs.lemmas.List.{map-append}
 use Rattle.fm_registry_model.specs.Texts.{set_label, merge_labels}
-use Rattle.fm_text.specs.LabelPairs.{label_of, labels_of}
+use Rattle.fm_grammar.specs.LabelPairs.{label_of, labels_of}
 use Rattle.fm_registry.specs.View.{seen_labels}
 use Rattle.fm_registry_model.proofs.LabelLemmas.{merge_labels-more}
 use Rattle.fm_registry.proofs.labels.merged_labels.Goals as goal

@@ -1,6 +1,6 @@
 use Rattle.std.proofs.Common.{◌≡◌}
 use Rattle.fm_registry_model.specs.Texts.{merge_labels}
-use Rattle.fm_text.specs.LabelPairs.{labels_of}
+use Rattle.fm_grammar.specs.LabelPairs.{labels_of}
 use Rattle.fm_registry.specs.View.{seen_labels}
 use Rattle.fm_registry.proofs.labels.merged_labels.Given as goal
 

@@ -1,6 +1,6 @@
 use Rattle.std.proofs.Common.{◌≡◌, ◌<◌, Some, None, take, length, refl, sym, ap, subst, ◌∙◌, arith}
 use Rattle.std.proofs.lemmas.Option.{slice_get_read}
-use Rattle.fm_text.specs.LabelPairs.{label_of, labels_of}
+use Rattle.fm_grammar.specs.LabelPairs.{label_of, labels_of}
 use Rattle.fm_registry_model.specs.Answer.{label_refusal_after}
 use Rattle.fm_registry.specs.inside.RootLabels.{label_fault}
 use Rattle.fm_registry.proofs.RootLemmas.{names_of, refused-at, passed-at}

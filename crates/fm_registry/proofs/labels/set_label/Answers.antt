@@ -2,7 +2,7 @@ use Rattle.std.proofs.Common.{◌≡◌, ◌∙◌, None, Some, ap, sym, arith}
 use Rattle.std.specs.List.{position_from}
 use Rattle.std.specs.Str.{bytes_eq}
 use Rattle.std.specs.String.{string_bytes}
-use Rattle.fm_text.specs.LabelPairs.{label_of, labels_of}
+use Rattle.fm_grammar.specs.LabelPairs.{label_of, labels_of}
 use Rattle.fm_registry_model.proofs.LabelLemmas.{set_label-there, set_label-absent, index_within}
 use Rattle.fm_registry.proofs.labels.set_label.Goals.{in-Ok, in-Err}
 use Rattle.fm_registry.proofs.labels.set_label.Goals as goal

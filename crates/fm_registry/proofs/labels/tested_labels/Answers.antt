@@ -1,7 +1,7 @@
 use Rattle.std.proofs.Common.{◌≡◌, ◌∙◌, ◌<◌, Some, sym, not, refl, length, arith}
 use Rattle.std.specs.List.{position_from}
 use Rattle.std.proofs.lemmas.Option.{slice_get_read}
-use Rattle.fm_text.specs.LabelPairs.{label_of}
+use Rattle.fm_grammar.specs.LabelPairs.{label_of}
 use Rattle.fm_grammar.specs.NameTests.{is_label_name}
 use Rattle.fm_registry_model.proofs.LabelLemmas.{all_good, bad_at, index_within}
 use Rattle.fm_registry.proofs.labels.tested_labels.Goals as goal

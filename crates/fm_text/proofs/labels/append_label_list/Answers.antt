@@ -1,4 +1,4 @@
-use Rattle.fm_text.specs.LabelPairs.{label_of}
+use Rattle.fm_grammar.specs.LabelPairs.{label_of}
 use Rattle.fm_text.proofs.GrownLemmas.{list_more}
 use Rattle.fm_text.proofs.labels.append_label_list.Goals as goal
 

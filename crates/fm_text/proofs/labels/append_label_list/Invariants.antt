@@ -1,6 +1,6 @@
 use Rattle.std.proofs.Common.{take}
 use Rattle.fm_grammar.specs.Spelling.{label_list_text}
-use Rattle.fm_text.specs.LabelPairs.{labels_of}
+use Rattle.fm_grammar.specs.LabelPairs.{labels_of}
 use Rattle.fm_text.specs.inside.Grown.{Grows}
 use Rattle.fm_text.proofs.labels.append_label_list.Given as goal
 

@@ -1,5 +1,5 @@
 use Rattle.std.proofs.Common.{[]}
-use Rattle.fm_text.proofs.ResultLemmas.{on_ok_more}
+use Rattle.fm_grammar.proofs.ResultLemmas.{on_ok_more}
 use Rattle.fm_text.proofs.labels.render_label_list.Goals as goal
 
 pub returns : goal.returns

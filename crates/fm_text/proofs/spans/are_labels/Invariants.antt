@@ -1,5 +1,5 @@
 use Rattle.std.proofs.Common.{◌≡◌, take}
-use Rattle.fm_text.specs.LabelPairs.{labels_of}
+use Rattle.fm_grammar.specs.LabelPairs.{labels_of}
 use Rattle.fm_text.specs.inside.LabelTexts.{labels_in}
 use Rattle.fm_text.proofs.spans.are_labels.Given as goal
 

@@ -1,5 +1,5 @@
 use Rattle.std.proofs.Common.{◌≡◌, take, map}
-use Rattle.fm_text.specs.LabelPairs.{shown_label}
+use Rattle.fm_grammar.specs.LabelPairs.{shown_label}
 use Rattle.fm_text.specs.inside.LabelTexts.{labels_in}
 use Rattle.fm_text.proofs.spans.pairs_at.Given as goal
 

@@ -1,5 +1,5 @@
 use Rattle.std.proofs.Common.{arith}
-use Rattle.fm_text.proofs.ResultLemmas.{on_ok_more}
+use Rattle.fm_grammar.proofs.ResultLemmas.{on_ok_more}
 use Rattle.fm_writer.proofs.FrontLemmas.{front_bare, front_listed}
 use Rattle.fm_writer.proofs.front.render_front.Goals as goal
 

@@ -1,4 +1,4 @@
-use Rattle.fm_text.proofs.ResultLemmas.{on_ok_more}
+use Rattle.fm_grammar.proofs.ResultLemmas.{on_ok_more}
 use Rattle.fm_writer.proofs.RowLemmas.{heads_whole}
 use Rattle.fm_writer.proofs.heads.append_heads.Goals as goal
 

@@ -1,7 +1,7 @@
 use Rattle.std.proofs.Common.{◌≡◌, ◌++◌, ◌<◌, arith, length, codes}
 use Rattle.fm_grammar.specs.Kinds.{suffix_of}
 use Rattle.fm_grammar.specs.Spelling.{label_list_text}
-use Rattle.fm_text.proofs.ResultLemmas.{on_ok_more}
+use Rattle.fm_grammar.proofs.ResultLemmas.{on_ok_more}
 use Rattle.fm_text.specs.inside.Grown.{Grows}
 use Rattle.fm_text.proofs.GrownLemmas.{block_neither, block_front, block_back, grown_two, joined_whole, joined_nothing, joined_after}
 use Rattle.fm_writer.proofs.RowLemmas.{before_value, begun_bare, begun_braced, row_begun}

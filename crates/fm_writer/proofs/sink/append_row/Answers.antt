@@ -4,7 +4,7 @@ use Rattle.std.specs.Option.{option_map, option_copied}
 use Rattle.fm_grammar.specs.Exposition as grammar
 use Rattle.fm_exposition.specs.declared.exposition.Exemplar.{Exemplar}
 use Rattle.fm_exposition.specs.Samples.{exemplar_at, exemplar_of}
-use Rattle.fm_text.proofs.ResultLemmas.{on_ok_more}
+use Rattle.fm_grammar.proofs.ResultLemmas.{on_ok_more}
 use Rattle.fm_writer.specs.NewSamples.{new_sample}
 use Rattle.fm_writer.proofs.FrontLemmas.{row_pushed}
 use Rattle.fm_writer.proofs.sink.append_row.Goals as goal

@@ -1,4 +1,4 @@
-use Rattle.fm_text.proofs.ResultLemmas.{on_ok_more}
+use Rattle.fm_grammar.proofs.ResultLemmas.{on_ok_more}
 use Rattle.fm_writer.proofs.Utf8Lemmas.{stored_samples}
 use Rattle.fm_writer.proofs.writing.append_family.Goals as goal
 

@@ -1,6 +1,6 @@
 use Rattle.fm_exposition.specs.inside.DocumentRows.{document_rows}
 use Rattle.fm_exposition.specs.Written.{IsWritersFault}
-use Rattle.fm_text.proofs.ResultLemmas.{on_ok_more, if_err_more}
+use Rattle.fm_grammar.proofs.ResultLemmas.{on_ok_more, if_err_more}
 use Rattle.fm_exposition.proofs.RowLemmas.{document_written}
 use Rattle.fm_writer.proofs.Utf8Lemmas.{document_utf8}
 use Rattle.fm_writer.proofs.writing.encode_exposition.Goals as goal

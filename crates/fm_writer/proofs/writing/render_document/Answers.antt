@@ -1,6 +1,6 @@
 use Rattle.std.proofs.Common.{[], codes}
 use Rattle.fm_exposition.specs.inside.DocumentRows.{families_rows}
-use Rattle.fm_text.proofs.ResultLemmas.{on_ok_more}
+use Rattle.fm_grammar.proofs.ResultLemmas.{on_ok_more}
 use Rattle.fm_text.proofs.GrownLemmas.{grown_then}
 use Rattle.fm_writer.proofs.writing.render_document.Goals as goal
 

@@ -1,6 +1,6 @@
 use Rattle.std.proofs.Common.{rules, ◌≡◌, ◌+◌, ◌^◌, ◌<◌, ◌++◌, ◌∷◌, [], length, true, refl, sym, subst}
 use Rattle.fm_exposition.specs.declared.store.SampleStore.TheInside.{Inside}
-use Rattle.fm_text.specs.inside.LabelLists.{AreUtf8Labels}
+use Rattle.fm_grammar.specs.inside.LabelLists.{AreUtf8Labels}
 use Rattle.fm_exposition.specs.inside.Points.{IsCut, HaveUtf8Labels}
 use Rattle.fm_exposition.specs.Samples.{shared_labels}
 use Rattle.fm_exposition.proofs.PointLemmas.{cut_begun, cut_pushed, last_count, utf8_pushed}

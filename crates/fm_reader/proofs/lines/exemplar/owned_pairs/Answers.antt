@@ -2,7 +2,7 @@ use Rattle.std.proofs.Common.{rules, ◌≡◌, ◌++◌, ◌∷◌, [], ◌<◌
 use Rattle.std.proofs.lemmas.List.{map-append, take_more}
 use Rattle.std.proofs.lemmas.Option.{get_or_from_slice_get}
 use Rattle.fm_grammar.specs.Exposition.{Label}
-use Rattle.fm_text.specs.LabelPairs.{label_of, labels_of, shown_label}
+use Rattle.fm_grammar.specs.LabelPairs.{label_of, labels_of, shown_label}
 use Rattle.fm_reader.proofs.lines.exemplar.owned_pairs.Goals as goal
 
 pub loop-index-preserved : goal.loop-index-preserved

@@ -1,7 +1,7 @@
 use Rattle.std.proofs.Common.{List, ◌≤◌, sym, subst, true≢false}
 use Rattle.fm_grammar.specs.Exposition.{Label}
 use Rattle.fm_grammar.specs.WellFormed.{label_code_points}
-use Rattle.fm_text.specs.LabelPairs.{labels_of}
+use Rattle.fm_grammar.specs.LabelPairs.{labels_of}
 use Rattle.fm_reader.proofs.Exemplars.{body_long, body_no_value, body_no_time, body_more, tail_some}
 use Rattle.fm_reader.proofs.lines.exemplar.read_body.Goals as goal
 

@@ -1,5 +1,5 @@
 use Rattle.std.proofs.Common.{rules, [], ◌<◌, length, take, subst, true≢false, sym, ◌∙◌, arith}
-use Rattle.fm_text.specs.LabelPairs.{shown_label}
+use Rattle.fm_grammar.specs.LabelPairs.{shown_label}
 use Rattle.fm_grammar.specs.Exposition.{Text}
 use Rattle.fm_reader.proofs.NameSets.{IsFresh, names_of, names_at, names_length, different_at, different_more}
 use Rattle.fm_reader.proofs.lines.labels.few_are_different.Goals as goal

@@ -1,6 +1,6 @@
 use Rattle.std.proofs.Common.{rules, [], ◌<◌, length, true≢false, sym, ◌∙◌, arith}
 use Rattle.std.proofs.lemmas.Slice.Eq.{bytes_eq-Decides}
-use Rattle.fm_text.specs.LabelPairs.{shown_label}
+use Rattle.fm_grammar.specs.LabelPairs.{shown_label}
 use Rattle.fm_reader.proofs.NameSets.{names_of, names_at, names_length, not_fresh, fresh_more}
 use Rattle.fm_reader.proofs.lines.labels.is_new.Goals as goal
 

@@ -1,5 +1,5 @@
 use Rattle.std.proofs.Common.{rules, [], ◌<◌, length, true≢false, sym, arith}
-use Rattle.fm_text.specs.LabelPairs.{shown_label}
+use Rattle.fm_grammar.specs.LabelPairs.{shown_label}
 use Rattle.fm_reader.proofs.NameSets.{names_of, names_at, names_length, name_twice, name_new, name_held}
 use Rattle.fm_reader.proofs.lines.labels.many_are_different.Goals as goal
 

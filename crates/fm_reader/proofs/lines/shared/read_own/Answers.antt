@@ -1,5 +1,5 @@
 use Rattle.std.proofs.Common.{◌≡◌, length, refl, sym, ◌∙◌}
-use Rattle.fm_text.specs.LabelPairs.{shown_label}
+use Rattle.fm_grammar.specs.LabelPairs.{shown_label}
 use Rattle.fm_reader.proofs.SharedLabels.{own_label, fresh_to_all}
 use Rattle.fm_reader.proofs.lines.shared.read_own.Goals as goal
 

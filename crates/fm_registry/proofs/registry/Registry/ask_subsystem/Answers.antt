@@ -1,5 +1,5 @@
 use Rattle.std.specs.String.{string_bytes}
-use Rattle.fm_text.specs.LabelPairs.{labels_of}
+use Rattle.fm_grammar.specs.LabelPairs.{labels_of}
 use Rattle.fm_registry_model.specs.Answer.{refusal_of}
 use Rattle.fm_registry_model.proofs.CallLemmas.{subsystem-reply, subsystem-reads}
 use Rattle.fm_registry.proofs.registry.Registry.ask_subsystem.Goals as goal

@@ -1,5 +1,5 @@
 use Rattle.std.proofs.Common.{sym, ap, ◌∙◌, subst, inr, true≢false}
-use Rattle.fm_text.specs.LabelPairs.{labels_of}
+use Rattle.fm_grammar.specs.LabelPairs.{labels_of}
 use Rattle.std.specs.String.{string_bytes}
 use Rattle.fm_registry_model.specs.Tree.{names_in}
 use Rattle.fm_registry_model.specs.inside.Forests.{index_in}

@@ -1,5 +1,5 @@
 use Rattle.std.proofs.Common.{◌≡◌, ℕ, List, Some, sym, ap, ◌∙◌, inl}
-use Rattle.fm_text.specs.LabelPairs.{labels_of}
+use Rattle.fm_grammar.specs.LabelPairs.{labels_of}
 use Rattle.fm_registry_model.specs.Tree.{find_child}
 use Rattle.fm_registry_model.proofs.CallLemmas.{subsystem-loan}
 use Rattle.std.specs.String.{string_bytes}

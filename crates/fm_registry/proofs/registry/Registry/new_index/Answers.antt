@@ -1,5 +1,5 @@
 use Rattle.std.proofs.Common.{◌≡◌, refl, ap, subst, ◌∙◌, sym, OnOk}
-use Rattle.fm_text.specs.LabelPairs.{labels_of}
+use Rattle.fm_grammar.specs.LabelPairs.{labels_of}
 use Rattle.std.specs.String.{string_bytes}
 use Rattle.fm_registry.specs.inside.TreeView.{forest_of, facts_of, tree_of}
 use Rattle.fm_registry_model.specs.Steps.{with_subsystem}

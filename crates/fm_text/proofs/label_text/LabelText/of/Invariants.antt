@@ -1,5 +1,5 @@
 use Rattle.std.proofs.Common.{◌≡◌, take}
-use Rattle.fm_text.specs.LabelPairs.{labels_of}
+use Rattle.fm_grammar.specs.LabelPairs.{labels_of}
 use Rattle.fm_text.proofs.label_text.LabelText.of.Given as goal
 
 abbrev pub invariant-loop-label : goal.invariant-loop-label

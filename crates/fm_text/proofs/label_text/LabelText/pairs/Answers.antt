@@ -1,5 +1,5 @@
 use Rattle.std.proofs.Common.{◌≡◌, ◌-◌, length, take, drop, map, ap, ◌∙◌}
-use Rattle.fm_text.specs.LabelPairs.{shown_label}
+use Rattle.fm_grammar.specs.LabelPairs.{shown_label}
 use Rattle.fm_text.specs.inside.LabelTexts.{LabelsState, labels_in}
 use Rattle.fm_text.proofs.LabelTextLemmas.{labels_from, if_ok_more}
 use Rattle.fm_text.proofs.label_text.LabelText.pairs.Goals as goal

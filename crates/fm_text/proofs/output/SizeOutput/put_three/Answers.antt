@@ -1,5 +1,5 @@
 use Rattle.std.proofs.Common.{◌++◌}
-use Rattle.fm_text.proofs.ResultLemmas.{on_ok_more}
+use Rattle.fm_grammar.proofs.ResultLemmas.{on_ok_more}
 use Rattle.fm_text.proofs.GrownLemmas.{grown_then}
 use Rattle.fm_text.proofs.output.SizeOutput.put_three.Goals as goal
 

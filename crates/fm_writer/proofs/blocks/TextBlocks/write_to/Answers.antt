@@ -1,5 +1,5 @@
 use Rattle.std.proofs.Common.{◌<◌, length, arith}
-use Rattle.fm_text.proofs.ResultLemmas.{on_err, on_err_more}
+use Rattle.fm_grammar.proofs.ResultLemmas.{on_err, on_err_more}
 use Rattle.fm_exposition.proofs.WrittenLemmas.{all_but_more}
 use Rattle.fm_writer.proofs.BlockLemmas.{all_but_begun, next_block, last_block, last_begun}
 use Rattle.fm_writer.proofs.blocks.TextBlocks.write_to.Goals as goal

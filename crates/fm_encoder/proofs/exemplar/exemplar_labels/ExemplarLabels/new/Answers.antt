@@ -2,7 +2,7 @@ use Rattle.std.proofs.Common.{◌≤◌, List, [], sym, subst}
 use Rattle.fm_grammar.specs.declared.MetricType.TheVariants.{Unknown}
 use Rattle.fm_grammar.specs.Exposition.{Label}
 use Rattle.fm_grammar.specs.WellFormed.{label_code_points}
-use Rattle.fm_text.specs.LabelPairs.{labels_of}
+use Rattle.fm_grammar.specs.LabelPairs.{labels_of}
 use Rattle.fm_labels.specs.Labels.{LabelsValid, emitted_again}
 use Rattle.fm_labels.proofs.LabelsLemmas.{written_again}
 use Rattle.fm_encoder.proofs.ExemplarLemmas.{LabelsValid-again}

@@ -1,0 +1,126 @@
+//! A registry that the whole program shares, protected by a lock.
+
+ghost use Rattle.std.specs.Prelude.{◌≡◌};
+ghost use Rattle.std.specs.Fn.{FnOnceTakesAt, FnOnceTakesAtMut, FnOnceReturnsAt, FnOnceReturnsAtMut};
+ghost use Rattle.fm_registry.specs.HasHistory.{HasHistory};
+
+use fm_encoder::EncodeMetric;
+use fm_registry::Registry;
+use std::marker::Model;
+use std::sync::atomic::AtomicBool;
+use std::sync::atomic::Ordering::SeqCst;
+use std::sync::{RwLock, Wait};
+use thiserror::Error;
+
+/// The registry can't be set: one was set or used before.
+#[derive(Clone, Copy, Debug, PartialEq, Eq, Error)]
+#[error("Global registry has already been initialized")]
+pub struct SetRegistryError;
+
+// The registry protected by the lock, and whether it was set or used.
+#[derive(Drop)]
+pub(crate) struct Protected<M> {
+    pub(crate) registry: Registry<M>,
+    pub(crate) is_initialized: AtomicBool,
+}
+
+impl<M> Model for Protected<M> {
+    ghost use Rattle.fm_registry_model.specs.Tree.{Tree};
+    ghost use Rattle.fm_registry_model.specs.inside.TreeCode.{tree_code};
+
+    ghost Value = { Tree M };
+
+    ghost coded = { tree_code M.code };
+
+    ghost view = { λ k. k.registry };
+
+    ghost use Rattle.fm_core.specs.inside.Protected.{IsSound};
+
+    ghost invariant = { IsSound };
+}
+
+impl<M> Protected<M> {
+    ghost use Rattle.std.specs.Prelude.{◌≡◌};
+    ghost use Rattle.fm_registry.specs.HasHistory.{HasHistory};
+
+    // The registry. It counts as used: no other can be set.
+    fn used(&self) -> &Registry<M>
+        ensures shown { result.now ≡ self.now }
+        ensures sound { HasHistory result.now }
+    {
+        self.is_initialized.store(true, SeqCst);
+        &self.registry
+    }
+}
+
+/// A registry protected by a lock, which several threads may read at once. It is empty until one is set. The first use
+/// fixes it: from then on `set_global_registry` fails.
+#[derive(Drop)]
+pub struct GlobalRegistry<M: Drop = Box<dyn EncodeMetric>> {
+    pub(crate) protected: RwLock<Protected<M>>,
+}
+
+impl<M: Drop> GlobalRegistry<M> {
+    /// A registry that was neither set nor used. It takes no memory.
+    pub fn new() -> GlobalRegistry<M> {
+        GlobalRegistry {
+            protected: RwLock::new(Protected {
+                registry: Registry::default(),
+                is_initialized: AtomicBool::new(false),
+            }),
+        }
+    }
+}
+
+/// Sets the registry, once. Fails if a registry was set or used before, and then drops `registry`. It waits for the
+/// lock.
+pub fn set_global_registry<R: Wait, M: Drop>(
+    rt: &R,
+    global: &GlobalRegistry<M>,
+    registry: Registry<M>,
+) -> Result<(), SetRegistryError>
+    requires { HasHistory registry }
+{
+    let mut protected = global.protected.write(rt);
+    if protected.is_initialized.load(SeqCst) {
+        return Err(SetRegistryError);
+    }
+    *protected = Protected {
+        registry,
+        is_initialized: AtomicBool::new(true),
+    };
+    Ok(())
+}
+
+/// Calls `f` with the registry, under the lock for reading, which other threads may hold too, and returns its result.
+/// It waits while another thread changes the registry. `f` must not change the same registry, nor read it again while
+/// another thread may want to change it: it would wait for ever.
+pub fn with_global_registry<R: Wait, M: Drop, T, F: FnOnce(&Registry<M>) -> T>(
+    rt: &R,
+    global: &GlobalRegistry<M>,
+    f: F,
+) -> T
+    requires { (registry : _) → HasHistory registry → FnOnceTakesAt F.FnOnce f registry }
+    ensures { (registry : _) × HasHistory registry × FnOnceReturnsAt F.FnOnce f registry result }
+{
+    let protected = global.protected.read(rt);
+    f(protected.used())
+}
+
+/// Calls `f` with the registry, under the lock, to change it, and returns its result. It waits for the lock. `f` must
+/// not use the same registry by another call: it would wait for ever.
+pub fn with_global_registry_mut<R: Wait, M: Drop, T, F: FnOnce(&mut Registry<M>) -> T>(
+    rt: &R,
+    global: &GlobalRegistry<M>,
+    f: F,
+) -> T
+    requires takes { (registry : _) → HasHistory registry → FnOnceTakesAtMut F.FnOnce f registry }
+    requires leaves { (old : _) (result : T) (new : _) → HasHistory old
+        → FnOnceReturnsAtMut F.FnOnce f old result new
+        → HasHistory new }
+    ensures { (old : _) × (new : _) × HasHistory old × FnOnceReturnsAtMut F.FnOnce f old result new }
+{
+    let mut protected = global.protected.write(rt);
+    protected.is_initialized.store(true, SeqCst);
+    f(&mut protected.registry)
+}

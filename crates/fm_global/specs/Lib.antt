@@ -1,3 +1,0 @@
-pub use Rattle.fm_registry.specs.HasHistory
-pub mod Locked
-pub mod inside

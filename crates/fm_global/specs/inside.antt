@@ -1,2 +1,0 @@
--- What public contracts don't cite: views, stored forms, laws, and the words of private functions.
-pub mod Protected

@@ -1,6 +1,0 @@
--- What the lock protects: a registry that reads some history.
-use Rattle.fm_registry.specs.HasHistory.{HasHistory}
-use Rattle.fm_global.specs.declared.global.Protected.TheInside.{Inside}
-
-abbrev pub IsSound : {M : Type 0} → Inside M → Type 0
-IsSound protected = HasHistory protected.registry

@@ -1,0 +1,4 @@
+pub mod Admits
+pub mod Encoded
+pub mod Families
+pub mod inside
