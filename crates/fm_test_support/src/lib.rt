@@ -1,4 +1,4 @@
-//! What the tests share: writers that stop, documents of registries, trees, histograms, and labels and metrics of a user's own.
+//! What the tests share: documents of registries, trees, histograms, and labels and metrics of a user's own.
 #![tactic(auto)]
 
 pub mod histograms;

@@ -1,7 +1,6 @@
 //! Labels, values and points of a user's own: joined ones, and others that break the rules.
-ghost use Rattle.std.specs.Prelude.{◌≡◌, [], ◌∷◌, pos, false, codes, if◌then◌else◌};
+ghost use Rattle.std.specs.Prelude.{◌≡◌, [], ◌∷◌, pos, false};
 ghost use Rattle.fm_grammar.specs.Exposition.{Whole};
-ghost use Rattle.fm_grammar.specs.Numbers.{fixed_text};
 ghost use Rattle.fm_labels.specs.Labels.{NamePiece, ValuePiece};
 ghost use Rattle.fm_encoder.specs.Points.{UnknownPoint};
 
@@ -9,11 +8,8 @@ use fastmetrics::encoder::{
     CounterValueEncoder, EncodeCounterValue, EncodeError, EncodeExemplar, EncodeGaugeValue,
     EncodeLabel, EncodeLabelName, EncodeLabelSet, EncodeLabelValue, EncodePoint,
     EncodeUnknownValue, ExemplarEncoder, GaugeValueEncoder, LabelEncoder, LabelSetEncoder,
-    LabelStr, PointEncoder, UnknownValueEncoder,
+    PointEncoder, UnknownValueEncoder,
 };
-use fastmetrics::raw::Fixed;
-use std::sync::Arc;
-use std::sync::atomic::{AtomicU64, Ordering};
 
 /// A fixed text as a name or a value of a label.
 #[derive(Clone, Copy, Drop)]
@@ -41,109 +37,6 @@ impl EncodeLabelValue for Word {
     }
 }
 
-/// A label with a number of millionths, and one with a truth value.
-#[derive(Drop)]
-pub struct HalfAndTrue;
-
-impl EncodeLabelSet for HalfAndTrue {
-    ghost labels = { λ _. (NamePiece (codes "x") ∷ ValuePiece (fixed_text (pos 500000)) ∷ [])
-        ∷ (NamePiece (codes "y") ∷ ValuePiece (codes "true") ∷ []) ∷ [] };
-
-    fn encode(&self, encoder: &mut LabelSetEncoder) -> Result<(), EncodeError> {
-        encoder.encode(&(LabelStr("x"), Fixed::from_millionths(500000)))?;
-        encoder.encode(&(LabelStr("y"), true))
-    }
-}
-
-/// Which version runs.
-#[derive(Drop)]
-pub struct Version {
-    /// Its text.
-    pub text: &'static str,
-}
-
-impl EncodeLabelSet for Version {
-    ghost labels = { λ version. (NamePiece (codes "v") ∷ ValuePiece version.text.now ∷ []) ∷ [] };
-
-    fn encode(&self, encoder: &mut LabelSetEncoder) -> Result<(), EncodeError> {
-        encoder.encode(&(LabelStr("v"), LabelStr(self.text)))
-    }
-}
-
-/// A label that emits its value before its name.
-#[derive(Drop)]
-pub struct ValueFirst(pub &'static str);
-
-impl EncodeLabel for ValueFirst {
-    ghost pieces = { λ l. ValuePiece l.0.now ∷ NamePiece l.0.now ∷ [] };
-
-    fn encode(&self, encoder: &mut LabelEncoder) -> Result<(), EncodeError> {
-        encoder.encode_str_value(self.0)?;
-        encoder.encode_label_name(self.0)
-    }
-}
-
-/// A label that emits a name and no value.
-#[derive(Drop)]
-pub struct NameAlone(pub &'static str);
-
-impl EncodeLabel for NameAlone {
-    ghost pieces = { λ l. NamePiece l.0.now ∷ [] };
-
-    fn encode(&self, encoder: &mut LabelEncoder) -> Result<(), EncodeError> {
-        encoder.encode_label_name(self.0)
-    }
-}
-
-/// A label that emits two names.
-#[derive(Drop)]
-pub struct TwoNames(pub &'static str, pub &'static str);
-
-impl EncodeLabel for TwoNames {
-    ghost pieces = { λ l. NamePiece l.0.now ∷ NamePiece l.1.now ∷ [] };
-
-    fn encode(&self, encoder: &mut LabelEncoder) -> Result<(), EncodeError> {
-        encoder.encode_label_name(self.0)?;
-        encoder.encode_label_name(self.1)
-    }
-}
-
-/// A label that emits its name and two values.
-#[derive(Drop)]
-pub struct TwoValues(pub &'static str);
-
-impl EncodeLabel for TwoValues {
-    ghost pieces = { λ l. NamePiece l.0.now ∷ ValuePiece l.0.now ∷ ValuePiece l.0.now ∷ [] };
-
-    fn encode(&self, encoder: &mut LabelEncoder) -> Result<(), EncodeError> {
-        encoder.encode_label_name(self.0)?;
-        encoder.encode_str_value(self.0)?;
-        encoder.encode_str_value(self.0)
-    }
-}
-
-/// A label that emits its name and the value `x`, or nothing at all.
-#[derive(Drop)]
-pub struct Perhaps {
-    /// Its name.
-    pub name: &'static str,
-    /// Whether it is emitted.
-    pub is_written: bool,
-}
-
-impl EncodeLabel for Perhaps {
-    ghost pieces = { λ l.
-        if l.is_written then NamePiece l.name.now ∷ ValuePiece (codes "x") ∷ [] else [] };
-
-    fn encode(&self, encoder: &mut LabelEncoder) -> Result<(), EncodeError> {
-        if !self.is_written {
-            return Ok(());
-        }
-        encoder.encode_label_name(self.name)?;
-        encoder.encode_str_value("x")
-    }
-}
-
 /// A label set that says it is empty, and returns an error if it is visited nevertheless.
 #[derive(Drop)]
 pub struct Unvisited;
@@ -160,23 +53,6 @@ impl EncodeLabelSet for Unvisited {
 
     fn is_empty(&self) -> bool {
         true
-    }
-}
-
-/// A label set without labels that counts how often it is visited.
-#[derive(Drop)]
-pub struct Visited {
-    /// How often it was visited.
-    pub visits: Arc<AtomicU64>,
-}
-
-impl EncodeLabelSet for Visited {
-    ghost labels = { λ _. [] };
-
-    fn encode(&self, encoder: &mut LabelSetEncoder) -> Result<(), EncodeError> {
-        let _ = &encoder;
-        self.visits.fetch_add(1, Ordering::SeqCst);
-        Ok(())
     }
 }
 

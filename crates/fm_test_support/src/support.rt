@@ -1,4 +1,4 @@
-//! What the tests share: writers that stop, patience with refused memory, and documents of registries.
+//! What the tests share: patience with refused memory, and documents of registries.
 ghost use Rattle.std.specs.Prelude.{IfOk};
 ghost use Rattle.fm_registry.specs.HasHistory.{HasHistory};
 
@@ -8,48 +8,7 @@ use fastmetrics::format::text::{EncodeError, collect, encode, encode_exposition}
 use fastmetrics::raw::Unit;
 use fastmetrics::registry::Registry;
 use std::alloc::Global;
-use std::io::{self, ErrorKind, Write};
 use std::test::Fail;
-
-/// A writer that takes at most `step` bytes a call and `room` bytes in all. Then it returns an error of this kind, or 0.
-#[derive(Drop)]
-pub struct Stopping {
-    /// What was taken so far.
-    pub bytes: Vec<u8>,
-    room: usize,
-    step: usize,
-    end: Option<ErrorKind>,
-}
-
-impl Stopping {
-    /// A writer that took nothing yet.
-    pub fn new(alloc: Global, room: usize, step: usize, end: Option<ErrorKind>) -> Stopping {
-        Stopping {
-            bytes: Vec::new(alloc),
-            room,
-            step,
-            end,
-        }
-    }
-}
-
-impl Write for Stopping {
-    fn write(&mut self, buf: &[u8]) -> io::Result<usize> {
-        let count = buf.len().min(self.room).min(self.step);
-        if count == 0
-            && let Some(kind) = self.end
-        {
-            return Err(io::Error::from(kind));
-        }
-        self.bytes.extend_from_slice(&buf[..count])?;
-        self.room -= count;
-        Ok(count)
-    }
-
-    fn flush(&mut self) -> io::Result<()> {
-        Ok(())
-    }
-}
 
 /// How many refusals of memory a story still tolerates.
 #[derive(Drop)]
@@ -175,8 +134,8 @@ pub fn expect_document<M: EncodeMetric + Drop>(
     expect_text(document.as_str(), want)
 }
 
-/// The sample lines and the last line of a gauge `t`.
-pub fn lines_of<M: EncodeMetric + Drop>(alloc: Global, metric: M) -> Result<String, Fail> {
+// The sample lines and the last line of a gauge `t`.
+fn lines_of<M: EncodeMetric + Drop>(alloc: Global, metric: M) -> Result<String, Fail> {
     let document = document_alone(alloc, "t", None, metric)?;
     match document
         .as_str()
@@ -187,23 +146,21 @@ pub fn lines_of<M: EncodeMetric + Drop>(alloc: Global, metric: M) -> Result<Stri
     }
 }
 
-/// Why a metric alone, under the name `t` and these constant labels, is refused. A refusal leaves what its writer held.
-pub fn refusal_under<M: EncodeMetric + Drop>(
-    alloc: Global,
-    constants: &[(&str, &str)],
-    metric: M,
-) -> Result<EncodeError, Fail> {
-    let registry = registry_of(alloc, constants, "t", None, metric)?;
-    match encoded_both_ways(alloc, "before\n", &registry)? {
+// Why a registry is refused. A refusal leaves what its writer held.
+fn refusal_of<M: EncodeMetric>(alloc: Global, registry: &Registry<M>) -> Result<EncodeError, Fail>
+    requires { HasHistory registry.now }
+{
+    match encoded_both_ways(alloc, "before\n", registry)? {
         (Err(error), held) if held.as_str() == "before\n" => Ok(error),
         (Err(_), _) => Err(Fail::new("a refusal wrote something")),
         (Ok(()), _) => Err(Fail::new("nothing was refused")),
     }
 }
 
-/// Why a metric alone, under the name `t`, is refused.
+/// Why a metric alone, under the name `t`, is refused. A refusal leaves what its writer held.
 pub fn refusal<M: EncodeMetric + Drop>(alloc: Global, metric: M) -> Result<EncodeError, Fail> {
-    refusal_under(alloc, &[], metric)
+    let registry = registry_of(alloc, &[], "t", None, metric)?;
+    refusal_of(alloc, &registry)
 }
 
 /// Fails if these are not the sample lines and the last line of a gauge `t`.
@@ -216,6 +173,22 @@ pub fn expect_lines<M: EncodeMetric + Drop>(
     expect_text(lines.as_str(), want)
 }
 
+/// Fails if a registry is not refused by this error, or if a refusal wrote something.
+pub fn expect_refusal_of<M: EncodeMetric>(
+    alloc: Global,
+    registry: &Registry<M>,
+    want: EncodeError,
+) -> Result<(), Fail>
+    requires { HasHistory registry.now }
+{
+    let error = refusal_of(alloc, registry)?;
+    if error == want {
+        Ok(())
+    } else {
+        Err(Fail::new(format_args!("the refusal is {error}, and not {want}")))
+    }
+}
+
 /// Fails if a metric alone, under the name `t` and these constant labels, is not refused by this error, or if a refusal wrote
 /// something.
 pub fn expect_refusal_under<M: EncodeMetric + Drop>(
@@ -224,12 +197,8 @@ pub fn expect_refusal_under<M: EncodeMetric + Drop>(
     metric: M,
     want: EncodeError,
 ) -> Result<(), Fail> {
-    let error = refusal_under(alloc, constants, metric)?;
-    if error == want {
-        Ok(())
-    } else {
-        Err(Fail::new(format_args!("the refusal is {error}, and not {want}")))
-    }
+    let registry = registry_of(alloc, constants, "t", None, metric)?;
+    expect_refusal_of(alloc, &registry, want)
 }
 
 /// Fails if a metric alone, under the name `t`, is not refused by this error, or if a refusal wrote something.

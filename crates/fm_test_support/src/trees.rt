@@ -97,15 +97,6 @@ pub fn refuses(
     }
 }
 
-/// The path that goes down this number of times, from one subsystem to another of the same name.
-pub fn path_down(alloc: Global, name: &str, depth: usize) -> Result<Vec<String>, AllocError> {
-    let mut path = Vec::new(alloc);
-    for _ in 0..depth {
-        path.push(String::from_str(alloc, name)?)?;
-    }
-    Ok(path)
-}
-
 /// The call that registers a metric with the help `H` at the end of a path.
 pub fn metric_at<M: Drop>(
     alloc: Global,
@@ -191,7 +182,7 @@ pub fn register(
 }
 
 /// Registers a metric with this help in a subsystem, which is made if it is not there.
-pub fn register_below_with(
+pub fn register_below(
     alloc: Global,
     registry: &mut Registry,
     below: &str,
@@ -210,20 +201,6 @@ pub fn register_below_with(
         return Err(RegistryError::Memory);
     };
     registry.subsystem(below)?.register(name, help, metric)
-}
-
-/// Registers a metric with the help `H` in a subsystem, which is made if it is not there.
-pub fn register_below(
-    alloc: Global,
-    registry: &mut Registry,
-    below: &str,
-    name: &str,
-    metric: Box<dyn EncodeMetric>,
-) -> Result<(), RegistryError>
-    requires { HasHistory registry.old }
-    ensures { HasHistory registry.new }
-{
-    register_below_with(alloc, registry, below, name, "H", metric)
 }
 
 /// Checks that there is a subsystem, by its builder.

@@ -1,87 +1,78 @@
 //! Metrics beneath the subsystem `sub`, which has constant labels.
+ghost use Rattle.std.specs.Prelude.{IfOk};
 ghost use Rattle.fm_registry.specs.HasHistory.{HasHistory};
 
 use fastmetrics::encoder::EncodeMetric;
-use fastmetrics::format::text::{EncodeError, collect, encode};
-use fastmetrics::registry::Registry;
-use fm_test_support::support::{document_of, expect_text};
-use fm_test_support::trees::{build_below, register_below_with};
+use fastmetrics::format::text::EncodeError;
+use fastmetrics::registry::{Registry, RegistryCall, RegistryError};
+use fm_test_support::support::{document_of, expect_refusal_of, expect_text};
+use fm_test_support::trees::{metric_at, subsystem_at};
 use std::alloc::Global;
 use std::test::Fail;
 
-/// The document of a metric with this help beneath a subsystem of these labels.
-pub(crate) fn document_with_help(
+// Makes a call, which is accepted.
+fn accept<M: EncodeMetric>(
+    registry: &mut Registry<M>,
+    call: RegistryCall<M>,
+) -> Result<(), RegistryError>
+    requires { HasHistory registry.old }
+    ensures { HasHistory registry.new }
+{
+    registry.run_call(call)
+}
+
+// The registry of a metric with the help `H` beneath a subsystem of this label.
+fn registry_beneath<M: EncodeMetric + Drop>(
     alloc: Global,
-    pairs: &[(&str, &str)],
+    label: (&str, &str),
     name: &str,
-    help: &str,
-    metric: Box<dyn EncodeMetric>,
-) -> Result<String, Fail> {
-    let mut registry = Registry::default();
-    build_below(alloc, &mut registry, "sub", pairs)?;
-    register_below_with(alloc, &mut registry, "sub", name, help, metric)?;
-    document_of(alloc, &registry)
+    metric: M,
+) -> Result<Registry<M>, Fail>
+    ensures { IfOk result HasHistory }
+{
+    let mut registry = Registry::builder().build_root::<M>();
+    accept(&mut registry, subsystem_at(alloc, &[], "sub", &[label])?)?;
+    accept(&mut registry, metric_at(alloc, &["sub"], name, metric)?)?;
+    Ok(registry)
 }
 
 /// The document of a metric with the help `H` beneath a subsystem with the label `k`, which has the value `v`.
-pub(crate) fn document_beneath(
+pub(crate) fn document_beneath<M: EncodeMetric + Drop>(
     alloc: Global,
     name: &str,
-    metric: Box<dyn EncodeMetric>,
+    metric: M,
 ) -> Result<String, Fail> {
-    document_with_help(alloc, &[("k", "v")], name, "H", metric)
+    let registry = registry_beneath(alloc, ("k", "v"), name, metric)?;
+    document_of(alloc, &registry)
 }
 
 /// Fails if this is not the document of a metric with the help `H` beneath such a subsystem.
-pub(crate) fn expect_beneath(
+pub(crate) fn expect_beneath<M: EncodeMetric + Drop>(
     alloc: Global,
     name: &str,
-    metric: Box<dyn EncodeMetric>,
+    metric: M,
     want: &str,
 ) -> Result<(), Fail> {
     let document = document_beneath(alloc, name, metric)?;
     expect_text(document.as_str(), want)
 }
 
-/// Fails if a registry is not refused by this error, by `encode` and by `collect`, or if a refusal wrote something.
-pub(crate) fn expect_refused(
-    alloc: Global,
-    registry: &Registry,
-    want: EncodeError,
-) -> Result<(), Fail>
-    requires { HasHistory registry.now }
-{
-    let mut bytes = b"before\n".to_vec(alloc)?;
-    let Err(error) = encode(alloc, &mut bytes, registry) else {
-        return Err(Fail::new("it was not refused"));
-    };
-    if error != want || bytes.as_slice() != b"before\n".as_slice() {
-        return Err(Fail::new(format_args!("it was refused by {error}, or something was written")));
-    }
-    match collect(alloc, registry) {
-        Err(error) if error == want => Ok(()),
-        _ => Err(Fail::new("collecting was not refused so")),
-    }
-}
-
 /// Fails if a metric beneath a subsystem of this label is not refused by this error.
-pub(crate) fn expect_refusal_under(
+pub(crate) fn expect_refusal_under<M: EncodeMetric + Drop>(
     alloc: Global,
     label: (&str, &str),
     name: &str,
-    metric: Box<dyn EncodeMetric>,
+    metric: M,
     want: EncodeError,
 ) -> Result<(), Fail> {
-    let mut registry = Registry::default();
-    build_below(alloc, &mut registry, "sub", &[label])?;
-    register_below_with(alloc, &mut registry, "sub", name, "H", metric)?;
-    expect_refused(alloc, &registry, want)
+    let registry = registry_beneath(alloc, label, name, metric)?;
+    expect_refusal_of(alloc, &registry, want)
 }
 
 /// Fails if a metric beneath a subsystem with the label `k` is not refused by this error.
-pub(crate) fn expect_refusal_beneath(
+pub(crate) fn expect_refusal_beneath<M: EncodeMetric + Drop>(
     alloc: Global,
-    metric: Box<dyn EncodeMetric>,
+    metric: M,
     want: EncodeError,
 ) -> Result<(), Fail> {
     expect_refusal_under(alloc, ("k", "v"), "t", metric, want)

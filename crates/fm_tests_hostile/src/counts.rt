@@ -73,7 +73,7 @@ fn document_of_a_full_histogram(rt: HostRuntime) -> Result<(), Fail> {
     expect_beneath(
         alloc,
         "h",
-        Box::new(alloc, full(alloc, whole(1))?)?,
+        full(alloc, whole(1))?,
         "# TYPE sub_h histogram\n# HELP sub_h H\n\
          sub_h_bucket{k=\"v\",le=\"1.0\"} 18446744073709551615\n\
          sub_h_bucket{k=\"v\",le=\"+Inf\"} 18446744073709551615\n\
@@ -134,7 +134,7 @@ fn document_of_a_full_gauge_histogram(rt: HostRuntime) -> Result<(), Fail> {
     expect_beneath(
         alloc,
         "h",
-        Box::new(alloc, all)?,
+        all,
         "# TYPE sub_h gaugehistogram\n# HELP sub_h H\n\
          sub_h_bucket{k=\"v\",le=\"1.0\"} 18446744073709551615\n\
          sub_h_bucket{k=\"v\",le=\"+Inf\"} 18446744073709551615\n\

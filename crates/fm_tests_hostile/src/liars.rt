@@ -15,7 +15,7 @@ fn forgotten_refusals(rt: HostRuntime) -> Result<(), Fail> {
         ("k", EncodeError::DuplicateLabel),
     ] {
         let labels = [(Word(name), 1)];
-        let metric = Box::new(alloc, Forgetful { labels })?;
+        let metric = Forgetful { labels };
         expect_refusal_beneath(alloc, metric, refusal)?;
     }
     Ok(())
@@ -28,7 +28,7 @@ fn errors_of_metrics(rt: HostRuntime) -> Result<(), Fail> {
         (EncodeError::Write, EncodeError::MetricFault),
         (EncodeError::Memory, EncodeError::Memory),
     ] {
-        expect_refusal_beneath(alloc, Box::new(alloc, Failing(own))?, refusal)?;
+        expect_refusal_beneath(alloc, Failing(own), refusal)?;
     }
     Ok(())
 }
@@ -37,12 +37,12 @@ fn errors_of_metrics(rt: HostRuntime) -> Result<(), Fail> {
 fn types_that_change(rt: HostRuntime) -> Result<(), Fail> {
     let alloc = rt.alloc();
     let metric = Fickle::new(MetricType::Counter, MetricType::Gauge);
-    expect_refusal_beneath(alloc, Box::new(alloc, metric)?, EncodeError::KindMismatch)?;
+    expect_refusal_beneath(alloc, metric, EncodeError::KindMismatch)?;
     let metric = Fickle::new(MetricType::Gauge, MetricType::Counter);
     expect_beneath(
         alloc,
         "t",
-        Box::new(alloc, metric)?,
+        metric,
         "# TYPE sub_t gauge\n# HELP sub_t H\nsub_t{k=\"v\"} 5\n# EOF\n",
     )
 }

@@ -16,7 +16,7 @@ fn has_most_states(document: &str) -> bool {
 #[test]
 fn most_states(rt: HostRuntime) -> Result<(), Fail> {
     let alloc = rt.alloc();
-    let most = Box::new(alloc, ConstStateSet::new(alloc, Alike)?)?;
+    let most = ConstStateSet::new(alloc, Alike)?;
     let document = document_beneath(alloc, "s", most)?;
     assert!(rt; has_most_states(document.as_str()));
     Ok(())
@@ -25,7 +25,7 @@ fn most_states(rt: HostRuntime) -> Result<(), Fail> {
 #[test]
 fn most_states_named_as_a_label(rt: HostRuntime) -> Result<(), Fail> {
     let alloc = rt.alloc();
-    let most = Box::new(alloc, ConstStateSet::new(alloc, Alike)?)?;
+    let most = ConstStateSet::new(alloc, Alike)?;
     expect_refusal_under(
         alloc,
         ("sub_s", "v"),

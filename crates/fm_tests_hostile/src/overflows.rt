@@ -8,7 +8,6 @@ use fastmetrics::metrics::gauge::ConstGauge;
 use fastmetrics::raw::bucket::{Bound, Bucket};
 use fastmetrics::raw::{Fixed, FixedSum, MetricType};
 use fm_test_support::members::OneMember;
-use std::alloc::{AllocError, Global};
 use std::test::Fail;
 
 // Two buckets with a slot for the exemplar of each.
@@ -58,23 +57,23 @@ fn member<P>(metric_type: MetricType, point: P) -> OneMember<(), P> {
 }
 
 // A histogram of two buckets whose counts overflow.
-fn overflowing(alloc: Global) -> Result<Box<OneMember<(), TwoSlots>>, AllocError> {
+fn overflowing() -> OneMember<(), TwoSlots> {
     let point = TwoSlots {
         buckets: buckets(18446744073709551615, 1),
     };
-    Ok(Box::new(alloc, member(MetricType::Histogram, point))?)
+    member(MetricType::Histogram, point)
 }
 
 #[test]
 fn misfits(rt: HostRuntime) -> Result<(), Fail> {
     let alloc = rt.alloc();
-    expect_refusal_beneath(alloc, overflowing(alloc)?, EncodeError::BucketOverflow)?;
+    expect_refusal_beneath(alloc, overflowing(), EncodeError::BucketOverflow)?;
     let point = OneSlot {
         buckets: buckets(1, 2),
     };
-    let one_slot = Box::new(alloc, member(MetricType::Histogram, point))?;
+    let one_slot = member(MetricType::Histogram, point);
     expect_refusal_beneath(alloc, one_slot, EncodeError::ExemplarCountMismatch)?;
     let point = ConstGauge::new(5i64);
-    let gauge_point = Box::new(alloc, member(MetricType::Counter, point))?;
+    let gauge_point = member(MetricType::Counter, point);
     expect_refusal_beneath(alloc, gauge_point, EncodeError::KindMismatch)
 }

@@ -1,5 +1,6 @@
 //! Labels of members: containers, wrappers, values of all types, and labels that write nothing.
 
+use crate::parts::{HalfAndTrue, Perhaps, TwoNames, Visited};
 use fastmetrics::encoder::{EncodeMetric, MetricEncoder};
 use fastmetrics::format::text::EncodeError;
 use fastmetrics::metrics::counter::ConstCounter;
@@ -7,7 +8,7 @@ use fastmetrics::metrics::gauge::ConstGauge;
 use fastmetrics::metrics::histogram::HistogramSnapshot;
 use fastmetrics::raw::{Fixed, MetricType};
 use fm_test_support::members::OneMember;
-use fm_test_support::parts::{HalfAndTrue, Perhaps, TwoNames, Unvisited, Visited};
+use fm_test_support::parts::Unvisited;
 use fm_test_support::support::{
     expect_document, expect_document_of, expect_lines, expect_refusal, expect_refusal_under,
     registry_of,

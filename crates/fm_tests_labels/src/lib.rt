@@ -8,6 +8,8 @@ mod labels;
 #[cfg(test)]
 mod own_labels;
 #[cfg(test)]
+mod parts;
+#[cfg(test)]
 mod refusals;
 #[cfg(test)]
 mod wrappers;

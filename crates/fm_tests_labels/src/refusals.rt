@@ -2,6 +2,7 @@
 ghost use Rattle.std.specs.Prelude.{◌≡◌, [], ◌∷◌, None, ◌⊎◌};
 ghost use Rattle.fm_encoder.specs.Points.{CounterPoint};
 
+use crate::parts::{NameAlone, TwoNames, TwoValues, ValueFirst};
 use fastmetrics::encoder::{
     EncodeCounterValue, EncodeError, EncodeMetric, EncodePoint, PointEncoder,
 };
@@ -9,9 +10,7 @@ use fastmetrics::metrics::counter::ConstCounter;
 use fastmetrics::metrics::gauge::ConstGauge;
 use fastmetrics::raw::MetricType;
 use fm_test_support::members::OneMember;
-use fm_test_support::parts::{
-    Faulty, NameAlone, Silent, Twice, TwoNames, TwoValues, UnknownOf, ValueFirst, Word,
-};
+use fm_test_support::parts::{Faulty, Silent, Twice, UnknownOf, Word};
 use fm_test_support::support::{expect_document, expect_refusal};
 use std::alloc::{AllocError, Global};
 use std::test::Fail;

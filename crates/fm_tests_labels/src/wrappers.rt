@@ -2,12 +2,13 @@
 ghost use Rattle.std.specs.Prelude.{[], ◌∷◌, codes, decimal};
 ghost use Rattle.fastmetrics.specs.Labels.{NamePiece, ValuePiece};
 
+use crate::parts::Version;
 use fastmetrics::encoder::{
     EncodeError, EncodeLabelSet, EncodeMetric, LabelSetEncoder, LabelStr, StaticStr,
 };
 use fastmetrics::metrics::gauge::ConstGauge;
 use fm_test_support::members::OneMember;
-use fm_test_support::parts::{Unvisited, Version};
+use fm_test_support::parts::Unvisited;
 use fm_test_support::support::expect_lines;
 use std::alloc::{AllocError, Global};
 use std::collections::BTreeSet;

@@ -3,6 +3,7 @@
 //! A refused call writes nothing after the line `before`, and is made again.
 ghost use Rattle.fm_registry.specs.HasHistory.{HasHistory};
 
+use fastmetrics::encoder::EncodeMetric;
 use fastmetrics::format::text::{EncodeError, Exposition, collect, encode, encode_exposition};
 use fastmetrics::registry::{Registry, RegistryError};
 use fm_test_support::support::Patience;
@@ -47,11 +48,11 @@ fn bear_unwritten(patience: &mut Patience, error: EncodeError, written: &[u8]) -
 }
 
 // Encodes after the line `before`.
-pub(crate) fn encode_patiently(
+pub(crate) fn encode_patiently<M: EncodeMetric>(
     alloc: Global,
     patience: &mut Patience,
     writer: &mut Vec<u8>,
-    registry: &Registry,
+    registry: &Registry<M>,
 ) -> Result<(), Fail>
     requires { HasHistory registry.now }
 {
@@ -63,10 +64,10 @@ pub(crate) fn encode_patiently(
 }
 
 // Collects. After a refusal a second and a third time give the same.
-pub(crate) fn collect_patiently(
+pub(crate) fn collect_patiently<M: EncodeMetric>(
     alloc: Global,
     patience: &mut Patience,
-    registry: &Registry,
+    registry: &Registry<M>,
 ) -> Result<Exposition, Fail>
     requires { HasHistory registry.now }
 {
@@ -106,10 +107,10 @@ pub(crate) fn expect_bytes(bytes: &[u8], want: &[u8]) -> Result<(), Fail> {
 }
 
 // Checks both ways that a registry has this document, after the line `before`.
-pub(crate) fn expect_both_ways(
+pub(crate) fn expect_both_ways<M: EncodeMetric>(
     alloc: Global,
     patience: &mut Patience,
-    registry: &Registry,
+    registry: &Registry<M>,
     document: &[u8],
 ) -> Result<(), Fail>
     requires { HasHistory registry.now }
@@ -123,24 +124,19 @@ pub(crate) fn expect_both_ways(
     expect_bytes(written.as_slice(), document)
 }
 
+// Checks both ways that an empty registry has no more than the last line.
+fn write_nothing(alloc: Global, refusals: u32) -> Result<(), Fail> {
+    let mut patience = Patience::new(refusals);
+    let registry: Registry = Registry::default();
+    expect_both_ways(alloc, &mut patience, &registry, b"before\n# EOF\n")
+}
+
 #[test]
 fn nothing_without_refusals(rt: HostRuntime) -> Result<(), Fail> {
-    let mut patience = Patience::new(0);
-    expect_both_ways(
-        rt.alloc(),
-        &mut patience,
-        &Registry::default(),
-        b"before\n# EOF\n",
-    )
+    write_nothing(rt.alloc(), 0)
 }
 
 #[test]
 fn nothing_after_a_refusal(rt: HostRuntime) -> Result<(), Fail> {
-    let mut patience = Patience::new(1);
-    expect_both_ways(
-        rt.alloc(),
-        &mut patience,
-        &Registry::default(),
-        b"before\n# EOF\n",
-    )
+    write_nothing(rt.alloc(), 1)
 }

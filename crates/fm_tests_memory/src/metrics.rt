@@ -2,15 +2,15 @@
 //!
 //! `scripts/refuse_allocations.sh` refuses each request of the process in turn. Each story is a pair of tests: one in
 //! which the refused call is made again, and one that fails at the first refusal, so that the script knows when to stop.
+ghost use Rattle.std.specs.Prelude.{IfOk};
 ghost use Rattle.fm_registry.specs.HasHistory.{HasHistory};
 
 use crate::both_ways::{expect_both_ways, found_no_memory};
 use fastmetrics::encoder::EncodeMetric;
 use fastmetrics::raw::MetricError;
-use fastmetrics::registry::Registry;
+use fastmetrics::registry::{Registry, RegistryError};
 use fm_test_support::support::Patience;
-use fm_test_support::trees::register;
-use std::alloc::{AllocError, Global};
+use std::alloc::Global;
 use std::test::Fail;
 
 // What a call gives that is made again if it finds no memory.
@@ -43,38 +43,58 @@ fn bear(patience: &mut Patience, error: MetricError) -> Result<(), Fail> {
     patience.bear()
 }
 
-// A clone in a box.
-fn boxed<M: Clone + Drop>(alloc: Global, metric: &M) -> Result<Box<M>, AllocError> {
-    Ok(Box::new(alloc, metric.clone()?)?)
-}
-
-// Registers this metric as `m`, or the spare one where that finds no memory.
-fn add_m(
+// Registers this metric as `m`.
+fn add<M: EncodeMetric + Drop>(
     alloc: Global,
-    patience: &mut Patience,
-    registry: &mut Registry,
-    metric: Box<dyn EncodeMetric>,
-    spare: Box<dyn EncodeMetric>,
-) -> Result<(), Fail>
+    registry: &mut Registry<M>,
+    metric: M,
+) -> Result<(), RegistryError>
     requires { HasHistory registry.old }
     ensures { HasHistory registry.new }
 {
-    if found_no_memory(register(alloc, registry, "m", metric)) {
+    let name = String::from_str(alloc, "m")?;
+    let help = String::from_str(alloc, "H")?;
+    let metric_type = metric.metric_type();
+    registry.add_metric(name, help, metric_type, None, metric)
+}
+
+// A registry of this metric as `m`, or of the spare one where that finds no memory.
+fn registry_of<M: EncodeMetric + Drop>(
+    alloc: Global,
+    patience: &mut Patience,
+    metric: M,
+    spare: M,
+) -> Result<Registry<M>, Fail>
+    ensures { IfOk result HasHistory }
+{
+    let mut registry = Registry::builder().build_root::<M>();
+    if found_no_memory(add(alloc, &mut registry, metric)) {
         patience.bear()?;
-        register(alloc, registry, "m", spare)?;
+        add(alloc, &mut registry, spare)?;
     }
-    Ok(())
+    Ok(registry)
 }
 
 // Checks that a metric alone, or the spare one, has this document, encoded and collected.
-fn expect_document(
+fn expect_document<M: EncodeMetric + Drop>(
     alloc: Global,
     patience: &mut Patience,
-    metric: Box<dyn EncodeMetric>,
-    spare: Box<dyn EncodeMetric>,
+    metric: M,
+    spare: M,
     document: &[u8],
 ) -> Result<(), Fail> {
-    let mut registry = Registry::default();
-    add_m(alloc, patience, &mut registry, metric, spare)?;
+    let registry = registry_of(alloc, patience, metric, spare)?;
     expect_both_ways(alloc, patience, &registry, document)
+}
+
+// Checks that a clone of a metric has this document, encoded and collected.
+fn expect_clone<M: EncodeMetric + Clone + Drop>(
+    alloc: Global,
+    patience: &mut Patience,
+    metric: &M,
+    document: &[u8],
+) -> Result<(), Fail> {
+    let clone = patiently!(*patience, metric.clone());
+    let spare = patiently!(*patience, metric.clone());
+    expect_document(alloc, patience, clone, spare, document)
 }

@@ -161,10 +161,10 @@ fn add_size(
     requires { HasHistory registry.old }
     ensures { HasHistory registry.new }
 {
-    if found_no_memory(register_below(alloc, registry, "db", "size", metric)) {
+    if found_no_memory(register_below(alloc, registry, "db", "size", "H", metric)) {
         patience.bear()?;
         expect_document(alloc, registry, GAUGE)?;
-        register_below(alloc, registry, "db", "size", spare)?;
+        register_below(alloc, registry, "db", "size", "H", spare)?;
     }
     Ok(())
 }

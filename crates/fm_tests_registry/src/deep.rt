@@ -2,9 +2,17 @@
 
 use crate::calls::all_refused;
 use fastmetrics::registry::{Registry, RegistryCall};
-use fm_test_support::trees::path_down;
 use std::alloc::{AllocError, Global};
 use std::test::Fail;
+
+// The path that goes down this number of times, from one subsystem to another of the same name.
+fn path_down(alloc: Global, name: &str, depth: usize) -> Result<Vec<String>, AllocError> {
+    let mut path = Vec::new(alloc);
+    for _ in 0..depth {
+        path.push(String::from_str(alloc, name)?)?;
+    }
+    Ok(path)
+}
 
 // The call that makes a subsystem without labels at a path.
 fn subsystem(alloc: Global, path: Vec<String>, name: &str) -> Result<RegistryCall, AllocError> {

@@ -7,25 +7,23 @@ use fastmetrics::format::text::{
 use fastmetrics::metrics::counter::ConstCounter;
 use fastmetrics::metrics::gauge::ConstGauge;
 use fastmetrics::raw::{Fixed, MetricType, Unit};
-use fastmetrics::registry::Registry;
 use fm_test_support::members::OneMember;
 use fm_test_support::parts::Word;
 use fm_test_support::points::CounterWith;
-use fm_test_support::trees::{are_labels, labels, register_with};
+use fm_test_support::support::registry_of;
+use fm_test_support::trees::{are_labels, labels};
 use std::alloc::Global;
 use std::test::Fail;
 use std::time::Duration;
 
-// What is collected of one metric.
-fn collected(
+// What is collected of one metric, under the help `H`.
+fn collected<M: EncodeMetric + Drop>(
     alloc: Global,
     name: &str,
-    help: &str,
     unit: Option<Unit>,
-    metric: Box<dyn EncodeMetric>,
+    metric: M,
 ) -> Result<Exposition, Fail> {
-    let mut registry = Registry::default();
-    register_with(alloc, &mut registry, name, help, unit, metric)?;
+    let registry = registry_of(alloc, &[], name, unit, metric)?;
     Ok(collect(alloc, &registry)?)
 }
 
@@ -63,7 +61,7 @@ fn parts_of_a_gauge(rt: HostRuntime) -> Result<(), Fail> {
         point: ConstGauge::new(5),
     };
     let bytes = Some(Unit::Bytes);
-    let exposition = collected(alloc, "g", "H", bytes, Box::new(alloc, metric)?)?;
+    let exposition = collected(alloc, "g", bytes, metric)?;
     let [family] = exposition.families() else {
         return Err(Fail::new("not one family"));
     };
@@ -95,7 +93,7 @@ fn are_total_and_time(total: &Sample, created: &Sample) -> bool {
 fn parts_of_a_counter(rt: HostRuntime) -> Result<(), Fail> {
     let alloc = rt.alloc();
     let counter = ConstCounter::with_created(7u32, Duration::from_millis(1005));
-    let exposition = collected(alloc, "c", "H", None, Box::new(alloc, counter)?)?;
+    let exposition = collected(alloc, "c", None, counter)?;
     let [family] = exposition.families() else {
         return Err(Fail::new("not one family"));
     };
@@ -143,7 +141,7 @@ fn parts_of_an_exemplar(rt: HostRuntime) -> Result<(), Fail> {
             exemplar,
         },
     };
-    let exposition = collected(alloc, "c", "H", None, Box::new(alloc, metric)?)?;
+    let exposition = collected(alloc, "c", None, metric)?;
     let [family] = exposition.families() else {
         return Err(Fail::new("not one family"));
     };

@@ -12,6 +12,8 @@ mod lines;
 #[cfg(test)]
 mod sizes;
 #[cfg(test)]
+mod stopping;
+#[cfg(test)]
 mod stops;
 #[cfg(test)]
 mod writers;

@@ -1,10 +1,11 @@
 //! Writers that stop, and what they have taken by then.
 ghost use Rattle.fm_registry.specs.HasHistory.{HasHistory};
 
+use crate::stopping::Stopping;
 use fastmetrics::format::text::{EncodeError, encode};
 use fastmetrics::metrics::counter::ConstCounter;
 use fastmetrics::registry::Registry;
-use fm_test_support::support::{Stopping, expect_text, text_of};
+use fm_test_support::support::{expect_text, text_of};
 use fm_test_support::trees::{register, register_with};
 use std::alloc::Global;
 use std::io::ErrorKind;

@@ -3,14 +3,14 @@ ghost use Rattle.std.specs.List.{AllByRecursion};
 ghost use Rattle.fm_grammar.specs.WellFormed.{AreLabels, IsSample};
 ghost use Rattle.fm_grammar.specs.declared.MetricType.TheVariants.{Counter};
 
+use crate::stopping::Stopping;
 use fm_encode_error::EncodeError;
 use fm_exposition::{Exposition, SampleStore, Value, make};
-use fm_grammar::{MetricType, SampleKind};
+use fm_grammar::{LabelList, MetricType, SampleKind};
 use fm_raw::fixed::Fixed;
-use fm_text::LabelList;
 use fm_writer::encode_exposition;
 use std::alloc::{AllocError, Global};
-use std::io::{self, ErrorKind, Write};
+use std::io::ErrorKind;
 use std::sync::Arc;
 use std::test::Fail;
 
@@ -19,42 +19,6 @@ const DOCUMENT: &[u8] = b"# TYPE c counter
 c_total{a=\"x\\\"\\\\\\ny\",b=\"\"} 42 1.005 # {} 0.7 2.000
 # EOF
 ";
-
-// Takes at most `step` bytes a call and `room` bytes in all, and then returns an error, or 0.
-#[derive(Drop)]
-struct Stopping {
-    bytes: Vec<u8>,
-    room: usize,
-    step: usize,
-    is_failing: bool,
-}
-
-impl Stopping {
-    fn new(alloc: Global, room: usize, step: usize, is_failing: bool) -> Stopping {
-        Stopping {
-            bytes: Vec::new(alloc),
-            room,
-            step,
-            is_failing,
-        }
-    }
-}
-
-impl Write for Stopping {
-    fn write(&mut self, buf: &[u8]) -> io::Result<usize> {
-        let count = buf.len().min(self.room).min(self.step);
-        if count == 0 && self.is_failing {
-            return Err(io::Error::from(ErrorKind::Other));
-        }
-        self.bytes.extend_from_slice(&buf[..count])?;
-        self.room -= count;
-        Ok(count)
-    }
-
-    fn flush(&mut self) -> io::Result<()> {
-        Ok(())
-    }
-}
 
 // A list of one label.
 fn one_label(alloc: Global, name: &str, value: &str) -> Result<LabelList, AllocError>
@@ -130,7 +94,7 @@ fn writes_documents(rt: HostRuntime) -> Result<(), Fail> {
 #[test]
 fn writes_byte_by_byte(rt: HostRuntime) -> Result<(), Fail> {
     let counter = counter(rt.alloc())?;
-    let mut slow = Stopping::new(rt.alloc(), 1000, 1, true);
+    let mut slow = Stopping::new(rt.alloc(), 1000, 1, Some(ErrorKind::Other));
     encode_exposition(rt.alloc(), &mut slow, &counter)?;
     assert!(rt; slow.bytes.as_slice() == DOCUMENT);
     Ok(())
@@ -140,10 +104,10 @@ fn writes_byte_by_byte(rt: HostRuntime) -> Result<(), Fail> {
 fn is_stopped(
     alloc: Global,
     exposition: Exposition,
-    is_failing: bool,
+    end: Option<ErrorKind>,
     refusal: EncodeError,
 ) -> bool {
-    let mut writer = Stopping::new(alloc, 10, 7, is_failing);
+    let mut writer = Stopping::new(alloc, 10, 7, end);
     encode_exposition(alloc, &mut writer, &exposition) == Err(refusal)
         && writer.bytes.as_slice() == b"# TYPE c c".as_slice()
 }
@@ -151,8 +115,11 @@ fn is_stopped(
 #[test]
 fn stops_at_the_writers_end(rt: HostRuntime) -> Result<(), Fail> {
     let alloc = rt.alloc();
-    for (is_failing, refusal) in [(true, EncodeError::Write), (false, EncodeError::WriteZero)] {
-        assert!(rt; is_stopped(alloc, counter(alloc)?, is_failing, refusal));
+    for (end, refusal) in [
+        (Some(ErrorKind::Other), EncodeError::Write),
+        (None, EncodeError::WriteZero),
+    ] {
+        assert!(rt; is_stopped(alloc, counter(alloc)?, end, refusal));
     }
     Ok(())
 }

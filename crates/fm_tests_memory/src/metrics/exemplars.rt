@@ -14,13 +14,13 @@ use std::time::Duration;
 type Traced = OneMember<(), CounterWith<u64, LabeledExemplar<Vec<(String, String)>>>>;
 
 // A counter of the total 5 with an exemplar.
-fn traced(alloc: Global) -> Result<Box<Traced>, AllocError> {
+fn traced(alloc: Global) -> Result<Traced, AllocError> {
     let exemplar = LabeledExemplar {
         labels: labels(alloc, &[("trace_id", "7")])?,
         value: Fixed::from_millionths(500_000),
         timestamp: Some(Duration::from_millis(1005)),
     };
-    let metric = OneMember {
+    Ok(OneMember {
         metric_type: MetricType::Counter,
         time: None,
         labels: (),
@@ -28,8 +28,7 @@ fn traced(alloc: Global) -> Result<Box<Traced>, AllocError> {
             total: 5u64,
             exemplar,
         },
-    };
-    Ok(Box::new(alloc, metric)?)
+    })
 }
 
 // Encodes a counter with an exemplar.

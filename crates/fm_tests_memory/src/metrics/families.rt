@@ -1,5 +1,5 @@
 //! Families under refused memory: a refused member is not there.
-use super::{bear, boxed, expect_document};
+use super::{bear, expect_clone};
 use fastmetrics::metrics::counter::Counter;
 use fastmetrics::metrics::family::{
     DefaultFactory, Family, FamilyCore, TextFamily, remove_texts, with_texts,
@@ -83,34 +83,29 @@ fn count<H: Wait + Clone + Drop>(
     Ok(())
 }
 
-// Two clones of a family that counted once under each of two paths.
-fn counted<H: Wait + Copy + Drop>(
+// Counts once under each of two paths, clones and encodes the family.
+fn count_both<H: Wait + Copy + Send + Sync + Drop>(
     wait: H,
     alloc: Global,
-    patience: &mut Patience,
-) -> Result<(Box<Counters<H>>, Box<Counters<H>>), Fail> {
-    let counters = patiently!(*patience, Counters::<H>::try_default(wait, alloc));
-    let root = path(alloc, patience, "/")?;
-    let users = path(alloc, patience, "/users")?;
-    count(&counters, patience, &root)?;
-    count(&counters, patience, &users)?;
-    let first = patiently!(*patience, boxed(alloc, &counters));
-    let second = patiently!(*patience, boxed(alloc, &counters));
-    Ok((first, second))
+    refusals: u32,
+) -> Result<(), Fail> {
+    let mut patience = Patience::new(refusals);
+    let counters = patiently!(patience, Counters::<H>::try_default(wait, alloc));
+    let root = path(alloc, &mut patience, "/")?;
+    count(&counters, &mut patience, &root)?;
+    let users = path(alloc, &mut patience, "/users")?;
+    count(&counters, &mut patience, &users)?;
+    expect_clone(alloc, &mut patience, &counters, COUNTED)
 }
 
 #[test]
 fn families_without_refusals(rt: HostRuntime) -> Result<(), Fail> {
-    let mut patience = Patience::new(0);
-    let (metric, spare) = counted(rt, rt.alloc(), &mut patience)?;
-    expect_document(rt.alloc(), &mut patience, metric, spare, COUNTED)
+    count_both(rt, rt.alloc(), 0)
 }
 
 #[test]
 fn families_after_a_refusal(rt: HostRuntime) -> Result<(), Fail> {
-    let mut patience = Patience::new(1);
-    let (metric, spare) = counted(rt, rt.alloc(), &mut patience)?;
-    expect_document(rt.alloc(), &mut patience, metric, spare, COUNTED)
+    count_both(rt, rt.alloc(), 1)
 }
 
 // Removes the requests of a method, which are there. A refusal leaves them.
@@ -141,40 +136,32 @@ fn remove<H: Wait + Clone + Drop>(
 
 const LEFT: &[u8] = b"before\n# TYPE m counter\n# HELP m H\nm_total{method=\"PUT\"} 1\n# EOF\n";
 
-// Two clones of a family by texts, of whose three members the first and the last left.
-fn left<H: Wait + Copy + Drop>(
+// Counts under three methods, removes the first and the last, clones and encodes the family.
+fn leave_one<H: Wait + Copy + Send + Sync + Drop>(
     wait: H,
     alloc: Global,
-    patience: &mut Patience,
-) -> Result<(Box<TextFamily<Counter, H>>, Box<TextFamily<Counter, H>>), Fail> {
-    let requests = patiently!(
-        *patience,
-        TextFamily::<Counter, H>::try_default(wait, alloc)
-    );
+    refusals: u32,
+) -> Result<(), Fail> {
+    let mut patience = Patience::new(refusals);
+    let requests = patiently!(patience, TextFamily::<Counter, H>::try_default(wait, alloc));
     for method in ["GET", "PUT", "PATCH"] {
         let labels = [("method", method)];
         patiently!(
-            *patience,
+            patience,
             with_texts(alloc, &requests, &labels, |count| count.inc())
         );
     }
-    remove(alloc, &requests, patience, "GET")?;
-    remove(alloc, &requests, patience, "PATCH")?;
-    let first = patiently!(*patience, boxed(alloc, &requests));
-    let second = patiently!(*patience, boxed(alloc, &requests));
-    Ok((first, second))
+    remove(alloc, &requests, &mut patience, "GET")?;
+    remove(alloc, &requests, &mut patience, "PATCH")?;
+    expect_clone(alloc, &mut patience, &requests, LEFT)
 }
 
 #[test]
 fn removals_without_refusals(rt: HostRuntime) -> Result<(), Fail> {
-    let mut patience = Patience::new(0);
-    let (metric, spare) = left(rt, rt.alloc(), &mut patience)?;
-    expect_document(rt.alloc(), &mut patience, metric, spare, LEFT)
+    leave_one(rt, rt.alloc(), 0)
 }
 
 #[test]
 fn removals_after_a_refusal(rt: HostRuntime) -> Result<(), Fail> {
-    let mut patience = Patience::new(1);
-    let (metric, spare) = left(rt, rt.alloc(), &mut patience)?;
-    expect_document(rt.alloc(), &mut patience, metric, spare, LEFT)
+    leave_one(rt, rt.alloc(), 1)
 }

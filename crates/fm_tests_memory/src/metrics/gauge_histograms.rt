@@ -1,5 +1,5 @@
 //! Gauge histograms under refused memory.
-use super::{bear, boxed, expect_document};
+use super::{bear, expect_clone};
 use fastmetrics::metrics::gauge_histogram::{GaugeHistogram, GaugeHistogramSnapshot};
 use fastmetrics::raw::{Fixed, MetricError, TryDefault};
 use fm_test_support::support::Patience;
@@ -14,37 +14,32 @@ fn whole(n: i8) -> Fixed {
     Fixed::from_millionths(i64::from(n) * 1_000_000)
 }
 
-// Two clones of a gauge histogram that observed -3 and 2.
-fn observed_twice<H: Wait + Copy + Drop>(
+// Makes a gauge histogram that observes -3 and 2, clones and encodes it.
+fn observe_twice<H: Wait + Copy + Send + Sync + Drop>(
     wait: H,
     alloc: Global,
-    patience: &mut Patience,
-) -> Result<(Box<GaugeHistogram<H>>, Box<GaugeHistogram<H>>), Fail> {
+    refusals: u32,
+) -> Result<(), Fail> {
+    let mut patience = Patience::new(refusals);
     let bounds = [whole(-1), whole(1)];
     let current = patiently!(
-        *patience,
+        patience,
         GaugeHistogram::new(wait, alloc, bounds.iter().copied())
     );
     for value in [whole(-3), whole(2)] {
         current.observe(value)?;
     }
-    let first = patiently!(*patience, boxed(alloc, &current));
-    let second = patiently!(*patience, boxed(alloc, &current));
-    Ok((first, second))
+    expect_clone(alloc, &mut patience, &current, OBSERVED)
 }
 
 #[test]
 fn gauge_histograms_without_refusals(rt: HostRuntime) -> Result<(), Fail> {
-    let mut patience = Patience::new(0);
-    let (metric, spare) = observed_twice(rt, rt.alloc(), &mut patience)?;
-    expect_document(rt.alloc(), &mut patience, metric, spare, OBSERVED)
+    observe_twice(rt, rt.alloc(), 0)
 }
 
 #[test]
 fn gauge_histograms_after_a_refusal(rt: HostRuntime) -> Result<(), Fail> {
-    let mut patience = Patience::new(1);
-    let (metric, spare) = observed_twice(rt, rt.alloc(), &mut patience)?;
-    expect_document(rt.alloc(), &mut patience, metric, spare, OBSERVED)
+    observe_twice(rt, rt.alloc(), 1)
 }
 
 // Makes a gauge histogram and a snapshot with the default bounds.

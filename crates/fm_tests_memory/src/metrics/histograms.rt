@@ -1,5 +1,5 @@
 //! Histograms and their snapshots under refused memory.
-use super::{bear, boxed, expect_document};
+use super::{bear, expect_clone};
 use fastmetrics::metrics::histogram::{Histogram, HistogramSnapshot};
 use fastmetrics::raw::{Fixed, MetricError, TryDefault};
 use fm_test_support::support::Patience;
@@ -14,37 +14,32 @@ fn whole(n: i8) -> Fixed {
     Fixed::from_millionths(i64::from(n) * 1_000_000)
 }
 
-// Two clones of a histogram that observed 1 and 3.
-fn observed_histogram<H: Wait + Copy + Drop>(
+// Makes a histogram that observes 1 and 3, clones and encodes it.
+fn observe_shared<H: Wait + Copy + Send + Sync + Drop>(
     wait: H,
     alloc: Global,
-    patience: &mut Patience,
-) -> Result<(Box<Histogram<H>>, Box<Histogram<H>>), Fail> {
+    refusals: u32,
+) -> Result<(), Fail> {
+    let mut patience = Patience::new(refusals);
     let bounds = [whole(1), whole(2)];
     let histogram = patiently!(
-        *patience,
+        patience,
         Histogram::new(wait, alloc, bounds.iter().copied())
     );
     for value in [whole(1), whole(3)] {
         histogram.observe(value)?;
     }
-    let first = patiently!(*patience, boxed(alloc, &histogram));
-    let second = patiently!(*patience, boxed(alloc, &histogram));
-    Ok((first, second))
+    expect_clone(alloc, &mut patience, &histogram, OBSERVED)
 }
 
 #[test]
 fn histograms_without_refusals(rt: HostRuntime) -> Result<(), Fail> {
-    let mut patience = Patience::new(0);
-    let (metric, spare) = observed_histogram(rt, rt.alloc(), &mut patience)?;
-    expect_document(rt.alloc(), &mut patience, metric, spare, OBSERVED)
+    observe_shared(rt, rt.alloc(), 0)
 }
 
 #[test]
 fn histograms_after_a_refusal(rt: HostRuntime) -> Result<(), Fail> {
-    let mut patience = Patience::new(1);
-    let (metric, spare) = observed_histogram(rt, rt.alloc(), &mut patience)?;
-    expect_document(rt.alloc(), &mut patience, metric, spare, OBSERVED)
+    observe_shared(rt, rt.alloc(), 1)
 }
 
 // Makes a snapshot that observes 1 and 3, clones and encodes it.
@@ -58,9 +53,7 @@ fn observe_and_encode(alloc: Global, refusals: u32) -> Result<(), Fail> {
     for value in [whole(1), whole(3)] {
         snapshot.observe(value)?;
     }
-    let metric = patiently!(patience, boxed(alloc, &snapshot));
-    let spare = patiently!(patience, boxed(alloc, &snapshot));
-    expect_document(alloc, &mut patience, metric, spare, OBSERVED)
+    expect_clone(alloc, &mut patience, &snapshot, OBSERVED)
 }
 
 #[test]

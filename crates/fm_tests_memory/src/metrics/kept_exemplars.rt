@@ -1,5 +1,5 @@
 //! Counters and histograms that keep exemplars, under refused memory.
-use super::{bear, boxed, expect_document};
+use super::{bear, expect_clone};
 use fastmetrics::encoder::{EncodeError, ExemplarLabels, LabeledExemplar};
 use fastmetrics::metrics::counter::ExemplarCounter;
 use fastmetrics::metrics::histogram::ExemplarHistogram;
@@ -38,64 +38,54 @@ fn traced(alloc: Global, patience: &mut Patience) -> Result<LabeledExemplar<Exem
     })
 }
 
-// Two clones of a counter that counted 3 with an exemplar.
-fn counted<H: Wait + Copy + Drop>(
+// Makes a counter that counts 3 with an exemplar, clones and encodes it.
+fn count_traced<H: Wait + Copy + Send + Sync + Drop>(
     wait: H,
     alloc: Global,
-    patience: &mut Patience,
-) -> Result<(Box<ExemplarCounter<H>>, Box<ExemplarCounter<H>>), Fail> {
+    refusals: u32,
+) -> Result<(), Fail> {
+    let mut patience = Patience::new(refusals);
     let counter = patiently!(
-        *patience,
+        patience,
         <ExemplarCounter<H> as TryDefault<H>>::try_default(wait, alloc)
     );
-    counter.inc_by_with(3, traced(alloc, patience)?)?;
-    let first = patiently!(*patience, boxed(alloc, &counter));
-    let second = patiently!(*patience, boxed(alloc, &counter));
-    Ok((first, second))
+    counter.inc_by_with(3, traced(alloc, &mut patience)?)?;
+    expect_clone(alloc, &mut patience, &counter, COUNTED)
 }
 
-// Two clones of a histogram that observed 1, and 3 with an exemplar.
-fn observed<H: Wait + Copy + Drop>(
+// Makes a histogram that observes 1, and 3 with an exemplar, clones and encodes it.
+fn observe_traced<H: Wait + Copy + Send + Sync + Drop>(
     wait: H,
     alloc: Global,
-    patience: &mut Patience,
-) -> Result<(Box<ExemplarHistogram<H>>, Box<ExemplarHistogram<H>>), Fail> {
+    refusals: u32,
+) -> Result<(), Fail> {
+    let mut patience = Patience::new(refusals);
     let bounds = [whole(1), whole(2)];
     let histogram = patiently!(
-        *patience,
+        patience,
         ExemplarHistogram::new(wait, alloc, bounds.iter().copied())
     );
     histogram.observe(whole(1))?;
-    histogram.observe_with(traced(alloc, patience)?)?;
-    let first = patiently!(*patience, boxed(alloc, &histogram));
-    let second = patiently!(*patience, boxed(alloc, &histogram));
-    Ok((first, second))
+    histogram.observe_with(traced(alloc, &mut patience)?)?;
+    expect_clone(alloc, &mut patience, &histogram, OBSERVED)
 }
 
 #[test]
 fn counted_without_refusals(rt: HostRuntime) -> Result<(), Fail> {
-    let mut patience = Patience::new(0);
-    let (metric, spare) = counted(rt, rt.alloc(), &mut patience)?;
-    expect_document(rt.alloc(), &mut patience, metric, spare, COUNTED)
+    count_traced(rt, rt.alloc(), 0)
 }
 
 #[test]
 fn counted_after_a_refusal(rt: HostRuntime) -> Result<(), Fail> {
-    let mut patience = Patience::new(1);
-    let (metric, spare) = counted(rt, rt.alloc(), &mut patience)?;
-    expect_document(rt.alloc(), &mut patience, metric, spare, COUNTED)
+    count_traced(rt, rt.alloc(), 1)
 }
 
 #[test]
 fn observed_without_refusals(rt: HostRuntime) -> Result<(), Fail> {
-    let mut patience = Patience::new(0);
-    let (metric, spare) = observed(rt, rt.alloc(), &mut patience)?;
-    expect_document(rt.alloc(), &mut patience, metric, spare, OBSERVED)
+    observe_traced(rt, rt.alloc(), 0)
 }
 
 #[test]
 fn observed_after_a_refusal(rt: HostRuntime) -> Result<(), Fail> {
-    let mut patience = Patience::new(1);
-    let (metric, spare) = observed(rt, rt.alloc(), &mut patience)?;
-    expect_document(rt.alloc(), &mut patience, metric, spare, OBSERVED)
+    observe_traced(rt, rt.alloc(), 1)
 }

@@ -1,6 +1,6 @@
 use Rattle.std.proofs.Common.{◌∙◌, refl, subst, sym}
 use Rattle.std.specs.String.{string_bytes}
-use Rattle.fm_text.specs.LabelPairs.{labels_of}
+use Rattle.fm_grammar.specs.LabelPairs.{labels_of}
 use Rattle.fm_registry.specs.HasHistory.{HasHistory}
 use Rattle.fm_registry.proofs.GrowthLemmas.{Grows-sound, Grows-same, Grows-lent}
 use Rattle.fm_test_support.proofs.trees.build_below.Goals as goal

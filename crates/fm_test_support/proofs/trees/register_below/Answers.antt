@@ -2,7 +2,7 @@ use Rattle.std.proofs.Common.{[], refl, subst}
 use Rattle.std.specs.String.{string_bytes}
 use Rattle.fm_registry.specs.HasHistory.{Grows}
 use Rattle.fm_registry.proofs.GrowthLemmas.{Grows-sound, Grows-lent}
-use Rattle.fm_test_support.proofs.trees.register_below_with.Goals as goal
+use Rattle.fm_test_support.proofs.trees.register_below.Goals as goal
 
 pub returns : goal.returns
 returns g c =

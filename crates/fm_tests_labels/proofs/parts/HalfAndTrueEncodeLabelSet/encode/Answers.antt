@@ -1,6 +1,6 @@
 use Rattle.std.proofs.Common.{inl, inr}
 use Rattle.fm_labels.proofs.LabelsLemmas.{EmitsLabels-then, EmitsLabels-weaker}
-use Rattle.fm_test_support.proofs.parts.HalfAndTrueEncodeLabelSet.encode.Goals as goal
+use Rattle.fm_tests_labels.proofs.parts.HalfAndTrueEncodeLabelSet.encode.Goals as goal
 
 pub returns : goal.returns
 returns c =

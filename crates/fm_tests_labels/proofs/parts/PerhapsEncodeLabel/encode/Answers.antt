@@ -1,6 +1,6 @@
 use Rattle.std.proofs.lemmas.Result.{err_from_is_err_and}
 use Rattle.fm_labels.proofs.PiecesLemmas.{EmitsPieces-stopped}
-use Rattle.fm_test_support.proofs.parts.PerhapsEncodeLabel.encode.Goals as goal
+use Rattle.fm_tests_labels.proofs.parts.PerhapsEncodeLabel.encode.Goals as goal
 
 pub returns-in_err-encode_label_name : goal.returns-in_err-encode_label_name
 returns-in_err-encode_label_name c =
