@@ -10,7 +10,7 @@ use fm_grammar::{LabelList, MetricType, SampleKind};
 use fm_raw::fixed::Fixed;
 use fm_writer::encode_exposition;
 use std::alloc::{AllocError, Global};
-use std::io::ErrorKind;
+use std::io::{self, ErrorKind, Write};
 use std::sync::Arc;
 use std::test::Fail;
 
