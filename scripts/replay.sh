@@ -6,7 +6,8 @@
 #   scripts/replay.sh [--crates FOLDER] [--scripts FOLDER] [NAME..]        all scripts, or these
 #
 # With --crates the program is built on the crates of another copy of the repository; with --scripts the scripts are those of another folder. The
-# program is compiled once, with run-time checks and no proof (scripts/unproved.py), in a scratch copy of the crates.
+# program is compiled once, with run-time checks and no proof (scripts/unproved.py), in a scratch copy of the crates. A script has ten minutes: the
+# proofs of a gate may leave it little of a processor.
 set -u
 
 top=$(cd "$(dirname "$0")/.." && pwd) || exit 2
@@ -36,7 +37,7 @@ done
 for name in "$@"; do
     [[ -f $scratch/cases/$name ]] || { echo "FAILED: there is no script $name" && exit 2; }
 done
-"$top/scripts/unproved.py" --crates "$scratch/repository" replay --cases "$scratch/cases" >"$scratch/said" 2>&1
+"$top/scripts/unproved.py" --crates "$scratch/repository" replay --seconds 600 --cases "$scratch/cases" >"$scratch/said" 2>&1
 if ! grep -q '^case=' "$scratch/said"; then
     tail -n 20 "$scratch/said"
     echo "FAILED: the program was not built"
