@@ -23,6 +23,7 @@ pub use Rattle.fm_reader.specs.ReadErrors
 pub use Rattle.fm_writer.specs.Output
 pub use Rattle.fm_registry_model.specs.RegistryErrors
 pub use Rattle.fm_registry_model.specs.Texts
+pub use Rattle.fm_registry_model.specs.Lists
 pub use Rattle.fm_registry_model.specs.Registration
 pub use Rattle.fm_registry_model.specs.History
 pub use Rattle.fm_registry_model.specs.Taken
@@ -46,7 +47,6 @@ pub use Rattle.fm_registry.specs.HasHistory
 pub use Rattle.fm_registry.specs.Building
 pub use Rattle.fm_registry.specs.Calls
 pub use Rattle.fm_registry.specs.Lends
-pub use Rattle.fm_registry.specs.Lists
 pub use Rattle.fm_registry.specs.Registers
 pub use Rattle.fm_registry.specs.Seen
 pub use Rattle.fm_registry.specs.View

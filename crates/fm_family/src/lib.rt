@@ -3,7 +3,6 @@
 
 pub mod factory;
 pub mod family;
-mod member_map;
 pub mod members;
 pub mod pairs;
 pub mod texts;

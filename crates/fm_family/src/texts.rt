@@ -46,6 +46,13 @@ impl TextLabels {
         let pairs = owned_labels(alloc, labels)?;
         Ok(TextLabels { pairs })
     }
+
+    /// The pairs, in the order in which they were given.
+    pub fn pairs(&self) -> &[(String, String)]
+        ensures { result.now ≡ self.now.pairs.items }
+    {
+        self.pairs.as_slice()
+    }
 }
 
 impl EncodeLabelSet for TextLabels {

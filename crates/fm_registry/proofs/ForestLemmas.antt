@@ -3,7 +3,7 @@ use Rattle.std.proofs.Common.{◌≡◌, ℕ, suc, zero, ◌+◌, ◌<◌, List,
 use Rattle.std.specs.Option.{option_map}
 use Rattle.std.specs.Vec.{with_item}
 use Rattle.std.proofs.Common.{Vec, Global}
-use Rattle.fm_registry.specs.Lists.{items_of}
+use Rattle.fm_registry_model.specs.Lists.{items_of}
 use Rattle.std.specs.List.{position_from}
 use Rattle.std.specs.Str.{bytes_eq}
 use Rattle.std.specs.String.{string_bytes}

@@ -1,6 +1,5 @@
 pub mod SoundLemmas
 pub mod MetricLemmas
-pub mod BelowLemmas
 pub mod TailLemmas
 pub mod ListingLemmas
 pub mod ForestLemmas

@@ -12,7 +12,7 @@ use Rattle.fm_registry_model.specs.Listing.{Listed, listed_with, own_metrics, li
 use Rattle.fm_registry.specs.View.{seen_metric}
 use Rattle.fm_registry.specs.inside.TreeView.{seen_metrics, forest_of}
 use Rattle.fm_registry.specs.Seen.{listed_in}
-use Rattle.fm_registry.specs.declared.names.Tailed.{Tailed}
+use Rattle.fm_registry_model.specs.declared.names.Tailed.{Tailed}
 use Rattle.fm_registry.specs.declared.registry.Subsystem.{Subsystem}
 
 module _ {M : Type 0} where

@@ -16,7 +16,7 @@ use Rattle.fm_registry_model.specs.Registration.{is_same_metric, same_type, same
 use Rattle.fm_registry_model.proofs.MetricLemmas as history
 use Rattle.fm_registry.specs.View.{seen_metric}
 use Rattle.fm_registry.specs.inside.TreeView.{seen_metrics}
-use Rattle.fm_registry.specs.declared.names.Tailed.{Tailed}
+use Rattle.fm_registry_model.specs.declared.names.Tailed.{Tailed}
 
 -- units
 

@@ -19,12 +19,12 @@ use Rattle.fm_registry_model.specs.Tree.{names_in}
 use Rattle.fm_registry_model.specs.Answer.{AlreadyExists, NameTaken, first_of, has_metric}
 use Rattle.fm_registry_model.specs.inside.Refusals.{standing_refusal}
 use Rattle.fm_registry_model.proofs.MetricLemmas.{one_under_tail, absent_under_tail}
-use Rattle.fm_registry.specs.inside.Names.{refusal_beside}
+use Rattle.fm_registry_model.specs.inside.Names.{refusal_beside}
 use Rattle.fm_registry.specs.View.{seen_metric}
 use Rattle.fm_registry.specs.inside.TreeView.{seen_metrics, forest_of}
-use Rattle.fm_registry.specs.declared.names.Tailed.{Tailed}
+use Rattle.fm_registry_model.specs.declared.names.Tailed.{Tailed}
 use Rattle.fm_registry.specs.declared.registry.Subsystem.{Subsystem}
-use Rattle.fm_registry.specs.contracts.names.TailedPartialEq.TheImpl as key
+use Rattle.fm_registry_model.specs.contracts.names.TailedPartialEq.TheImpl as key
 
 -- keys are equal if their tails are
 tails_decide : (a b : Tailed) → Decides (key.ghosts.eq a b) (string_bytes a.tail ≡ string_bytes b.tail)

@@ -1,5 +1,6 @@
 pub use Rattle.fm_grammar.specs.LabelPairs
 pub use Rattle.fm_registry_model.specs.Texts
+pub use Rattle.fm_registry_model.specs.Lists
 pub use Rattle.fm_registry_model.specs.Registration
 pub use Rattle.fm_registry_model.specs.History
 pub use Rattle.fm_registry_model.specs.Taken
@@ -10,7 +11,6 @@ pub use Rattle.fm_registry_model.specs.Steps
 pub use Rattle.fm_registry_model.specs.Loan
 pub use Rattle.fm_registry_model.specs.Listing
 pub use Rattle.fm_registry_model.specs.Running
-pub mod Lists
 pub mod View
 pub mod Seen
 pub mod HasHistory

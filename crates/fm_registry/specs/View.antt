@@ -1,5 +1,5 @@
--- How contracts see a metric with its metadata, and the labels of a registry.
-use Rattle.std.specs.Prelude.{Option, Vec, String}
+-- How contracts see a metric with its metadata.
+use Rattle.std.specs.Prelude.{Option, String}
 use Rattle.std.specs.declared.alloc.Global.{Global}
 use Rattle.std.specs.Option.{option_map}
 use Rattle.std.specs.String.{string_bytes}
@@ -7,10 +7,7 @@ use Rattle.fm_grammar.specs.declared.MetricType.{MetricType}
 use Rattle.fm_raw.specs.declared.metadata.Metadata.{Metadata}
 use Rattle.fm_raw.specs.declared.metadata.Unit as unit
 use Rattle.fm_raw.specs.Units.{seen_unit}
-use Rattle.fm_grammar.specs.LabelPairs.{labels_of}
-use Rattle.fm_registry_model.specs.Texts.{Labels}
 use Rattle.fm_registry_model.specs.Registration.{Registration}
-use Rattle.fm_registry.specs.Lists.{items_of}
 
 -- a metric with its metadata
 abbrev pub seen_metric : {M : Type 0} → Metadata → M → Registration M
@@ -29,7 +26,3 @@ asked name help metric_type u = record { name = name; help = help; metric_type =
 -- the metric that a call asks to register, with the type that it declared
 abbrev pub asked_metric : {M : Type 0} → String Global → String Global → Option unit.Unit → M → MetricType → Registration M
 asked_metric name help u metric metric_type = seen_metric (asked name help metric_type u) metric
-
--- labels, or none
-abbrev pub seen_labels : Option (Vec (String Global × String Global) Global) → Labels
-seen_labels labels = labels_of (items_of labels)

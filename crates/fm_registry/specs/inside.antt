@@ -1,7 +1,5 @@
 -- What public contracts don't cite: views, stored forms, laws, and the words of private functions.
-pub mod Names
 pub mod Falls
-pub mod RootLabels
 pub mod Request
 pub mod LendsParts
 pub mod TreeView

@@ -4,11 +4,8 @@
 //! does.
 #![tactic(auto)]
 
-mod labels;
 mod listed;
 mod listing;
-mod lists;
-mod names;
 pub mod registering;
 pub mod registry;
 

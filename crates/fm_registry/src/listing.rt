@@ -7,7 +7,7 @@ ghost use Rattle.fm_registry.specs.inside.TreeView.{seen_metrics};
 ghost use Rattle.fm_registry.specs.Seen.{seen_listed};
 
 use crate::listed::ListedMetric;
-use crate::names::Tailed;
+use fm_registry_model::names::Tailed;
 use indexmap::IndexMap;
 
 // The metric at an index in a registry with this namespace and these labels.

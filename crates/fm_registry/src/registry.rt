@@ -6,13 +6,13 @@ mod run;
 mod subsystem_builder;
 mod subsystems;
 
-use crate::labels::labels_of_option;
 use crate::listed::ListedMetric;
 use crate::listing::metric_in;
-use crate::names::Tailed;
 pub use builder::RegistryBuilder;
 use fm_encoder::EncodeMetric;
 use fm_registry_model::RegistryError;
+use fm_registry_model::labels::labels_of_option;
+use fm_registry_model::names::Tailed;
 use indexmap::IndexMap;
 pub use run::RegistryCall;
 use std::alloc::{AllocError, Global};

@@ -4,7 +4,7 @@ ghost use Rattle.std.specs.Option.{option_map};
 ghost use Rattle.fm_grammar.specs.LabelPairs.{shown_label};
 ghost use Rattle.fm_registry_model.specs.declared.RegistryError.TheVariants.{Memory};
 ghost use Rattle.fm_registry.specs.HasHistory.{HasHistory, IsNewRoot};
-ghost use Rattle.fm_registry.specs.View.{seen_labels};
+ghost use Rattle.fm_registry_model.specs.Lists.{seen_labels};
 ghost use Rattle.fm_registry.specs.Calls.{seen_path};
 ghost use Rattle.fm_registry.specs.Named.{named_metric};
 ghost use Rattle.fm_registry_at.specs.Roots.{AddsOrNot, Makes, Enters};

@@ -15,4 +15,6 @@ pub mod RootLemmas
 pub mod ListableLemmas
 pub mod MetricLemmas
 pub mod NameLemmas
+pub mod BelowLemmas
+pub mod RefusedLabelLemmas
 mod Examples

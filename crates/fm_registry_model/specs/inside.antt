@@ -4,3 +4,6 @@ pub mod Refusals
 pub mod Paths
 pub mod Forests
 pub mod Once
+pub mod Names
+pub mod RootLabels
+pub mod LendsElement

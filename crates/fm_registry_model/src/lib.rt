@@ -1,9 +1,14 @@
-//! `RegistryError`, and the definitions of registry calls: histories of accepted calls, and the trees that read them.
+//! `RegistryError`, and the definitions of registry calls: histories of accepted calls, and the trees that read them. What a
+//! registry asks of labels and of names is tested here.
 #![tactic(auto)]
 
 ghost use Rattle.std.specs.Prelude.{◌≡◌};
 ghost use Rattle.fm_registry_model.specs.RegistryErrors.{error_number};
 ghost use Rattle.fm_registry_model.specs.declared.RegistryError.TheVariants.{Memory};
+
+pub mod labels;
+pub mod lists;
+pub mod names;
 
 use std::alloc::{AllocError, AllocFailed};
 use thiserror::Error;

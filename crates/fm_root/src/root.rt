@@ -9,7 +9,7 @@ ghost use Rattle.fm_registry_model.specs.declared.RegistryError.TheVariants.{Mem
 ghost use Rattle.fm_registry_model.specs.Listing.{order};
 ghost use Rattle.fm_registry_model.specs.Tree.{Shows};
 ghost use Rattle.fm_registry.specs.HasHistory.{IsNewRoot};
-ghost use Rattle.fm_registry.specs.View.{seen_labels};
+ghost use Rattle.fm_registry_model.specs.Lists.{seen_labels};
 ghost use Rattle.fm_scrape.specs.Admits.{AdmittedBy, Fault};
 ghost use Rattle.fm_scrape.specs.Encoded.{WritesAdmitted, BeginsAdmitted};
 ghost use Rattle.fm_registry.specs.Named.{named_metric};

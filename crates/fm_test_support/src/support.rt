@@ -157,12 +157,6 @@ fn refusal_of<M: EncodeMetric>(alloc: Global, registry: &Registry<M>) -> Result<
     }
 }
 
-/// Why a metric alone, under the name `t`, is refused. A refusal leaves what its writer held.
-pub fn refusal<M: EncodeMetric + Drop>(alloc: Global, metric: M) -> Result<EncodeError, Fail> {
-    let registry = registry_of(alloc, &[], "t", None, metric)?;
-    refusal_of(alloc, &registry)
-}
-
 /// Fails if these are not the sample lines and the last line of a gauge `t`.
 pub fn expect_lines<M: EncodeMetric + Drop>(
     alloc: Global,

@@ -3,7 +3,7 @@
 use fastmetrics::encoder::{EncodeMetric, StaticStr};
 use fastmetrics::metrics::counter::Counter;
 use fastmetrics::metrics::family::{
-    FamilyCore, PairFamily, TextFamily, remove_texts, with_pairs, with_texts,
+    FamilyCore, PairFamily, TextFamily, TextLabels, remove_texts, with_pairs, with_texts,
 };
 use fastmetrics::raw::{MetricError, TryDefault};
 use fm_test_support::replies::Outcome;
@@ -189,27 +189,52 @@ fn clones_of_a_family_see_that_one_left(rt: HostRuntime) -> Result<(), Fail> {
     Ok(())
 }
 
+// Requests by method and status, of which three methods counted.
+fn requests_of<H: Wait + Clone + Drop>(
+    wait: H,
+    alloc: Global,
+) -> Result<TextFamily<Counter, H>, MetricError> {
+    let requests = TextFamily::try_default(wait, alloc)?;
+    for (method, by) in [("GET", 1), ("PUT", 2), ("PATCH", 3)] {
+        let labels = [("method", method), ("status", "200")];
+        with_texts(
+            alloc,
+            &requests,
+            &labels,
+            |count: &Counter| count.inc_by(by),
+        )??;
+    }
+    Ok(requests)
+}
+
+// The document without the requests of one method.
+const WITHOUT_PUT: &str = "# TYPE f counter\n# HELP f H\nf_total{method=\"GET\",status=\"200\"} 1\n\
+    f_total{method=\"PATCH\",status=\"200\"} 3\n# EOF\n";
+
 #[test]
 fn one_leaves_by_texts(rt: HostRuntime) -> Result<(), Fail> {
     let alloc = rt.alloc();
-    let requests = TextFamily::<Counter, _>::try_default(rt, alloc)?;
-    for (method, by) in [("GET", 1), ("PUT", 2), ("PATCH", 3)] {
-        let labels = [("method", method), ("status", "200")];
-        with_texts(alloc, &requests, &labels, |count| count.inc_by(by))??;
-    }
+    let requests = requests_of(rt, alloc)?;
     let put = [("method", "PUT"), ("status", "200")];
     assert!(rt; remove_texts(alloc, &requests, &put) == Ok(true));
     assert!(rt; remove_texts(alloc, &requests, &put) == Ok(false));
     assert!(rt; remove_texts(alloc, &requests, &[]) == Ok(false));
-    let metric = requests;
-    expect_document(
-        alloc,
-        "f",
-        None,
-        metric,
-        "# TYPE f counter\n# HELP f H\nf_total{method=\"GET\",status=\"200\"} 1\n\
-         f_total{method=\"PATCH\",status=\"200\"} 3\n# EOF\n",
-    )
+    expect_shards(alloc, requests, WITHOUT_PUT)
+}
+
+// Whether there are two of these labels, and the first has this value.
+fn begins_with(labels: &TextLabels, value: &str) -> bool {
+    match labels.pairs() {
+        [method, _] => method.1.as_str() == value,
+        _ => false,
+    }
+}
+
+#[test]
+fn those_with_other_texts_stay(rt: HostRuntime) -> Result<(), Fail> {
+    let requests = requests_of(rt, rt.alloc())?;
+    requests.retain(|labels, _| !begins_with(labels, "PUT"));
+    expect_shards(rt.alloc(), requests, WITHOUT_PUT)
 }
 
 type Values = FamilyCore<Outcome, u64, BuildHasherDefault<FoldHasher>>;

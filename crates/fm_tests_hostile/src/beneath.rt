@@ -10,15 +10,15 @@ use fm_test_support::trees::{metric_at, subsystem_at};
 use std::alloc::Global;
 use std::test::Fail;
 
-// Makes a call, which is accepted.
-fn accept<M: EncodeMetric>(
+// Makes a call, which the registry accepts or refuses.
+fn call<M: EncodeMetric>(
     registry: &mut Registry<M>,
-    call: RegistryCall<M>,
+    asked: RegistryCall<M>,
 ) -> Result<(), RegistryError>
     requires { HasHistory registry.old }
     ensures { HasHistory registry.new }
 {
-    registry.run_call(call)
+    registry.run_call(asked)
 }
 
 // The registry of a metric with the help `H` beneath a subsystem of this label.
@@ -31,8 +31,8 @@ fn registry_beneath<M: EncodeMetric + Drop>(
     ensures { IfOk result HasHistory }
 {
     let mut registry = Registry::builder().build_root::<M>();
-    accept(&mut registry, subsystem_at(alloc, &[], "sub", &[label])?)?;
-    accept(&mut registry, metric_at(alloc, &["sub"], name, metric)?)?;
+    call(&mut registry, subsystem_at(alloc, &[], "sub", &[label])?)?;
+    call(&mut registry, metric_at(alloc, &["sub"], name, metric)?)?;
     Ok(registry)
 }
 

@@ -14,14 +14,15 @@ use fastmetrics::metrics::gauge::ConstGauge;
 use fastmetrics::raw::{Fixed, FixedSum, MetricError, Unit};
 use fastmetrics::registry::{Registry, RegistryCall, RegistryError};
 use fm_test_support::support::{Patience, document_of};
-use fm_test_support::trees::{
-    build_below, gauge, have_numbers, labels, register_below, register_with, six_calls,
-};
+use fm_test_support::trees::{gauge, have_numbers, labels, register_with, six_calls};
 use std::alloc::{AllocError, Global};
 use std::test::Fail;
 
+mod below;
 mod lines;
 mod reading;
+
+use below::{build_below, register_below};
 
 const NOTHING: &str = "# EOF\n";
 

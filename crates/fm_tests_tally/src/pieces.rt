@@ -137,7 +137,7 @@ fn first_refused_piece(rt: HostRuntime) -> Result<(), Fail> {
     }
 }
 
-// Lets a piece through once both have come, and gives up after many turns.
+// Lets a piece through once both have come, and gives up after some seconds.
 #[derive(Drop)]
 struct WaitsForBoth {
     come: AtomicU64,
@@ -148,7 +148,7 @@ impl Gate for WaitsForBoth {
 
     fn pass(&self, _piece: usize) -> bool {
         self.come.fetch_add(1, Ordering::SeqCst);
-        for _ in 0..10_000_000u64 {
+        for _ in 0..1_000_000_000u64 {
             if self.come.load(Ordering::SeqCst) >= 2 {
                 return true;
             }

@@ -1,27 +1,19 @@
 -- What the parts of a registry are once a `&mut` into one of them has ended.
 use Rattle.std.specs.Prelude.{ℕ, Option, Vec}
 use Rattle.std.specs.declared.alloc.Global.{Global}
-use Rattle.std.specs.declared.alloc.Allocator as alloc
 use Rattle.std.specs.contracts.option.Option as option
 use Rattle.std.specs.contracts.vec.Vec as vec
 use Rattle.std.specs.contracts.alloc.Global as global
 use Rattle.std.specs.contracts.impls.GlobalAllocator.TheImpl.{ghosts}
-use Rattle.std.specs.Option.{option_map}
 use Rattle.std.specs.String.{string_bytes}
-use Rattle.std.specs.Vec.{with_item}
 use Rattle.std.specs.Borrow.{Fml, RattleType, MutBor, Lends}
 use Rattle.fm_registry_model.specs.Tree.{Tree}
 use Rattle.fm_registry_model.specs.inside.Forests.{with_nth}
-use Rattle.fm_registry.specs.Lists.{items_of}
+use Rattle.fm_registry_model.specs.Lists.{items_of}
 use Rattle.fm_registry.specs.inside.TreeView.{forest_of}
 use Rattle.fm_registry.specs.contracts.registry.Registry.{the_row}
 use Rattle.fm_registry.specs.contracts.registry.Subsystem as subsystem
 use Rattle.fm_registry.specs.declared.registry.Subsystem.{Subsystem}
-
-module _ (T A : RattleType) (g : alloc.Ghosts A.Denot) where
-  -- the list has at this index the final value of r
-  abbrev pub lends_element : MutBor (Option (Vec T.Denot A.Denot)) → ℕ → MutBor T.Denot → Fml
-  lends_element v index r = Lends (option.the_row (vec.the_row T A g)) T v r (λ w. option_map (λ items. with_item items index w) v.now)
 
 module _ (M : RattleType) where
   -- the subsystems are the final value of r

@@ -5,11 +5,11 @@ use Rattle.std.specs.String.{string_bytes}
 use Rattle.indexmap.specs.IndexMap.{IndexMap}
 use Rattle.fm_registry_model.specs.Registration.{Registration}
 use Rattle.fm_registry_model.specs.Tree.{Facts, Forest, Leaf, Child, Tree}
-use Rattle.fm_registry.specs.Lists.{items_of}
-use Rattle.fm_registry.specs.declared.names.Tailed.{Tailed}
+use Rattle.fm_registry_model.specs.Lists.{items_of, seen_labels}
+use Rattle.fm_registry_model.specs.declared.names.Tailed.{Tailed}
 use Rattle.fm_registry.specs.declared.registry.Registry.TheInside.{Inside}
 use Rattle.fm_registry.specs.declared.registry.Subsystem.{Subsystem}
-use Rattle.fm_registry.specs.View.{seen_metric, seen_labels}
+use Rattle.fm_registry.specs.View.{seen_metric}
 
 module _ {M : Type 0} where
   -- metrics with their metadata

@@ -10,18 +10,18 @@ ghost use Rattle.fm_registry_model.specs.inside.Refusals.{name_refusal, standing
 ghost use Rattle.fm_registry_model.specs.History.{Register};
 ghost use Rattle.fm_registry_model.specs.Tree.{Reads, names_in};
 ghost use Rattle.fm_registry_model.specs.inside.Forests.{with_metric};
-ghost use Rattle.fm_registry.specs.inside.Names.{refusal_beside};
-ghost use Rattle.fm_registry.specs.contracts.names.TailedPartialEq.TheImpl.{ghosts as tailed};
+ghost use Rattle.fm_registry_model.specs.inside.Names.{refusal_beside};
+ghost use Rattle.fm_registry_model.specs.contracts.names.TailedPartialEq.TheImpl.{ghosts as tailed};
 ghost use Rattle.fm_registry.specs.View.{seen_metric, asked, asked_metric};
 ghost use Rattle.fm_registry.specs.inside.TreeView.{metrics_in, seen_metrics};
 ghost use Rattle.fm_registry.specs.HasHistory.{HasHistory, Grows};
 ghost use Rattle.fm_registry.specs.Registers.{Registers};
 
 use super::Registry;
-use crate::names::Tailed;
 use fm_encoder::EncodeMetric;
 use fm_raw::{Metadata, MetricType, Unit, is_snake_case, is_unit_text};
 use fm_registry_model::RegistryError;
+use fm_registry_model::names::Tailed;
 use indexmap::IndexMap;
 use std::alloc::Global;
 

@@ -14,10 +14,10 @@ ghost use Rattle.fm_registry.specs.HasHistory.{HasHistory};
 
 use super::subsystems::DEPTH_LIMIT;
 use super::{Registry, Subsystem};
-use crate::labels::tested_labels;
 use fm_encoder::EncodeMetric;
 use fm_raw::is_snake_case;
 use fm_registry_model::RegistryError;
+use fm_registry_model::labels::tested_labels;
 
 /// Sets up a subsystem of a registry. It borrows the registry until the subsystem is built.
 #[derive(Drop)]

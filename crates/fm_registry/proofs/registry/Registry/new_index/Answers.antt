@@ -4,7 +4,7 @@ use Rattle.std.specs.String.{string_bytes}
 use Rattle.fm_registry.specs.inside.TreeView.{forest_of, facts_of, tree_of}
 use Rattle.fm_registry_model.specs.Steps.{with_subsystem}
 use Rattle.fm_registry_model.specs.inside.Forests.{index_in, new_tree}
-use Rattle.fm_registry.specs.Lists.{items_of}
+use Rattle.fm_registry_model.specs.Lists.{items_of}
 use Rattle.fm_registry.proofs.PushLemmas.{pushed-index, pushed-tree}
 use Rattle.fm_registry.proofs.registry.Registry.new_index.Goals as goal
 

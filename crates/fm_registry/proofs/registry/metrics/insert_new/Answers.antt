@@ -2,7 +2,7 @@ use Rattle.std.proofs.Common.{true, false, [], ◌∷◌, Some, string_bytes, ap
 use Rattle.indexmap.proofs.CallerLemmas.{insert_entry-new}
 use Rattle.fm_registry_model.specs.Answer.{AlreadyExists, NameTaken, first_of}
 use Rattle.fm_registry.specs.inside.TreeView.{seen_metrics}
-use Rattle.fm_registry.specs.contracts.names.TailedPartialEq.TheImpl as key
+use Rattle.fm_registry_model.specs.contracts.names.TailedPartialEq.TheImpl as key
 use Rattle.fm_registry.proofs.MetricLemmas.{same_metric-test, seen_metrics-push}
 use Rattle.fm_registry.proofs.TailLemmas.{beside_none, beside_one}
 use Rattle.fm_registry.proofs.registry.metrics.insert_new.Goals as goal

@@ -3,7 +3,7 @@ use Rattle.std.specs.Map.{keys_of}
 use Rattle.std.proofs.lemmas.Iterator.Consumers.{YieldsList-from_rest}
 use Rattle.std.proofs.lemmas.Iterator.Search.{any_from_yields_List}
 use Rattle.fm_registry_model.specs.Taken.{is_below}
-use Rattle.fm_registry.specs.declared.names.Tailed.{Tailed}
+use Rattle.fm_registry_model.specs.declared.names.Tailed.{Tailed}
 use Rattle.fm_registry.proofs.TailLemmas.{any_tail}
 use Rattle.fm_registry.proofs.registry.subsystems.is_above_any.Goals as goal
 

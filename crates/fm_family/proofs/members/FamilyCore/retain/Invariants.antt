@@ -1,0 +1,10 @@
+use Rattle.fm_family.specs.Members.{CalledAtMember}
+use Rattle.fm_family.proofs.RetainLemmas.{RetainedSoFar}
+use Rattle.fm_family.proofs.members.FamilyCore.retain.Given as goal
+
+abbrev pub invariant-loop-index : goal.invariant-loop-index
+invariant-loop-index g l =
+    record {
+      callable : goal.F-IsAlwaysCallable g l.keep;
+      so_far : RetainedSoFar (CalledAtMember g.F.FnMut) l.fn.keep l.keep l.fn.self.entries l.self.entries l.retained l.index;
+    }
