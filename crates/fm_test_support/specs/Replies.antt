@@ -1,7 +1,7 @@
 -- The labels of replies, as they are emitted.
 use Rattle.std.specs.Prelude.{ℕ, Bool, true, false, List, [], ◌∷◌, Option, codes, decimal, if◌then◌else◌}
 use Rattle.std.specs.Option.{option_map_or}
-use Rattle.fastmetrics.specs.Labels.{EmittedLabel, NamePiece, ValuePiece}
+use Rattle.fm_labels.specs.Labels.{EmittedLabel, NamePiece, ValuePiece}
 use Rattle.fm_test_support.specs.declared.replies.Method.{Method}
 use Rattle.fm_test_support.specs.declared.replies.Method.TheVariants.{Get, Put}
 use Rattle.fm_test_support.specs.declared.replies.Reply.{Reply}

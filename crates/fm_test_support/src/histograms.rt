@@ -1,9 +1,9 @@
 //! What tests of histograms share: values, and whether a snapshot has counted what it was given.
 
 use crate::support::expect_text;
-use fastmetrics::metrics::gauge_histogram::GaugeHistogramSnapshot;
-use fastmetrics::metrics::histogram::{Bucket, HistogramSnapshot};
-use fastmetrics::raw::{Fixed, FixedSum};
+use fm_histogram::{GaugeHistogramSnapshot, HistogramSnapshot};
+use fm_raw::bucket::Bucket;
+use fm_raw::{Fixed, FixedSum};
 use std::alloc::Global;
 use std::test::Fail;
 

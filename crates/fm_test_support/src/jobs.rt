@@ -2,7 +2,7 @@
 ghost use Rattle.std.specs.Prelude.{◌≡◌, [], ◌∷◌, codes, replicate};
 ghost use Rattle.fm_test_support.specs.declared.jobs.Job.TheVariants.{Pending, Running, Completed, Failed};
 
-use fastmetrics::metrics::state_set::StateSetValue;
+use fm_metrics::state_set::StateSetValue;
 
 /// How far a job is.
 #[derive(Clone, Copy, PartialEq, Eq, Debug)]

@@ -4,9 +4,9 @@ ghost use Rattle.fm_grammar.specs.Exposition.{Whole};
 ghost use Rattle.fm_encoder.specs.Points.{GaugePoint};
 ghost use Rattle.fm_encoder.specs.Emits.{Joined, MembersOf};
 
-use fastmetrics::encoder::{EncodeError, EncodeLabelSet, EncodeMetric, MetricEncoder};
-use fastmetrics::metrics::gauge::ConstGauge;
-use fastmetrics::raw::MetricType;
+use fm_core::encoder::{EncodeError, EncodeLabelSet, EncodeMetric, MetricEncoder};
+use fm_metrics::ConstGauge;
+use fm_raw::MetricType;
 use std::sync::atomic::{AtomicU64, Ordering};
 use std::time::Duration;
 

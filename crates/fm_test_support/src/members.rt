@@ -4,8 +4,8 @@ ghost use Rattle.std.specs.Option.{option_map};
 ghost use Rattle.fm_encoder.specs.Points.{millis};
 ghost use Rattle.fm_encoder.specs.Emits.{MembersOf};
 
-use fastmetrics::encoder::{EncodeError, EncodeLabelSet, EncodeMetric, EncodePoint, MetricEncoder};
-use fastmetrics::raw::MetricType;
+use fm_core::encoder::{EncodeError, EncodeLabelSet, EncodeMetric, EncodePoint, MetricEncoder};
+use fm_raw::MetricType;
 use std::time::Duration;
 
 /// A metric of one member.

@@ -4,7 +4,7 @@ ghost use Rattle.fm_grammar.specs.Exposition.{Whole};
 ghost use Rattle.fm_labels.specs.Labels.{NamePiece, ValuePiece};
 ghost use Rattle.fm_encoder.specs.Points.{UnknownPoint};
 
-use fastmetrics::encoder::{
+use fm_core::encoder::{
     CounterValueEncoder, EncodeCounterValue, EncodeError, EncodeExemplar, EncodeGaugeValue,
     EncodeLabel, EncodeLabelName, EncodeLabelSet, EncodeLabelValue, EncodePoint,
     EncodeUnknownValue, ExemplarEncoder, GaugeValueEncoder, LabelEncoder, LabelSetEncoder,

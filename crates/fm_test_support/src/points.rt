@@ -2,7 +2,7 @@
 ghost use Rattle.std.specs.Prelude.{◌≡◌, ◌⊎◌, [], ◌∷◌, None};
 ghost use Rattle.fm_encoder.specs.Points.{CounterPoint};
 
-use fastmetrics::encoder::{
+use fm_core::encoder::{
     EncodeCounterValue, EncodeError, EncodeExemplar, EncodePoint, PointEncoder,
 };
 

@@ -1,9 +1,9 @@
 //! Labels of replies, which families of the tests are keyed by.
 ghost use Rattle.std.specs.Prelude.{[], ◌∷◌, false};
-ghost use Rattle.fastmetrics.specs.Labels.{ValuePiece};
+ghost use Rattle.fm_labels.specs.Labels.{ValuePiece};
 ghost use Rattle.fm_test_support.specs.Replies.{method_text, error_labels, reply_labels, path_labels};
 
-use fastmetrics::encoder::{
+use fm_core::encoder::{
     EncodeError, EncodeLabelSet, EncodeLabelValue, LabelEncoder, LabelSetEncoder, LabelStr,
 };
 

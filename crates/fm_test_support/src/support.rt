@@ -3,10 +3,10 @@ ghost use Rattle.std.specs.Prelude.{IfOk};
 ghost use Rattle.fm_registry.specs.HasHistory.{HasHistory};
 
 use crate::trees::labels;
-use fastmetrics::encoder::EncodeMetric;
-use fastmetrics::format::text::{EncodeError, collect, encode, encode_exposition};
-use fastmetrics::raw::Unit;
-use fastmetrics::registry::Registry;
+use fm_core::encoder::EncodeMetric;
+use fm_core::format::text::{EncodeError, collect, encode, encode_exposition};
+use fm_core::registry::Registry;
+use fm_raw::Unit;
 use std::alloc::Global;
 use std::test::Fail;
 

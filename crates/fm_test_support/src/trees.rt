@@ -1,10 +1,10 @@
 //! What tests of trees share: paths, lists of labels and calls.
 ghost use Rattle.fm_registry.specs.HasHistory.{HasHistory};
 
-use fastmetrics::encoder::EncodeMetric;
-use fastmetrics::metrics::gauge::ConstGauge;
-use fastmetrics::raw::Unit;
-use fastmetrics::registry::{Registry, RegistryCall, RegistryError};
+use fm_core::encoder::EncodeMetric;
+use fm_core::registry::{Registry, RegistryCall, RegistryError};
+use fm_metrics::ConstGauge;
+use fm_raw::Unit;
 use std::alloc::{AllocError, Global};
 use std::test::Fail;
 

@@ -1,9 +1,9 @@
 //! Families under constant labels.
 
-use fastmetrics::encoder::{EncodeError, EncodeMetric, StaticStr};
-use fastmetrics::metrics::family::{PairFamily, with_pairs};
-use fastmetrics::metrics::gauge::Gauge;
-use fastmetrics::raw::TryDefault;
+use fm_core::encoder::{EncodeError, EncodeMetric, StaticStr};
+use fm_family::{PairFamily, with_pairs};
+use fm_metrics::Gauge;
+use fm_raw::TryDefault;
 use fm_test_support::support::{expect_document_of, expect_refusal_under, registry_of};
 use std::alloc::Global;
 use std::test::Fail;

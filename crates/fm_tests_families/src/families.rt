@@ -1,12 +1,11 @@
 //! Families by their documents: members of each kind, and threads.
-use fastmetrics::encoder::{EncodeMetric, StaticStr};
-use fastmetrics::metrics::counter::{ConstCounter, Counter};
-use fastmetrics::metrics::family::{DefaultFactory, Family, PairFamily, with_pairs};
-use fastmetrics::metrics::gauge::{ConstGauge, Gauge};
-use fastmetrics::metrics::info::Info;
-use fastmetrics::metrics::state_set::ConstStateSet;
-use fastmetrics::metrics::unknown::Unknown;
-use fastmetrics::raw::{MetricError, TryDefault};
+use fm_core::encoder::{EncodeMetric, StaticStr};
+use fm_family::{DefaultFactory, Family, PairFamily, with_pairs};
+use fm_metrics::info::Info;
+use fm_metrics::state_set::ConstStateSet;
+use fm_metrics::unknown::Unknown;
+use fm_metrics::{ConstCounter, ConstGauge, Counter, Gauge};
+use fm_raw::{MetricError, TryDefault};
 use fm_test_support::jobs::Job;
 use fm_test_support::replies::{Method, Outcome, Reply};
 use fm_test_support::support::{expect_document_of, registry_of};

@@ -1,11 +1,11 @@
 //! Label sets as the keys of families: with random hashers, of borrowed texts, and of texts of the program.
 ghost use Rattle.std.specs.Prelude.{[], ◌∷◌, codes};
-ghost use Rattle.fastmetrics.specs.Labels.{NamePiece, ValuePiece};
+ghost use Rattle.fm_labels.specs.Labels.{NamePiece, ValuePiece};
 
-use fastmetrics::encoder::{EncodeError, EncodeLabelSet, LabelSetEncoder, LabelStr, StaticStr};
-use fastmetrics::metrics::counter::Counter;
-use fastmetrics::metrics::family::{DefaultFactory, Family, FamilyCore};
-use fastmetrics::metrics::info::Info;
+use fm_core::encoder::{EncodeError, EncodeLabelSet, LabelSetEncoder, LabelStr, StaticStr};
+use fm_family::{DefaultFactory, Family, FamilyCore};
+use fm_metrics::Counter;
+use fm_metrics::info::Info;
 use fm_test_support::replies::Path;
 use fm_test_support::support::expect_document;
 use std::hash::{BuildHasherDefault, FoldHasher, RandomState};

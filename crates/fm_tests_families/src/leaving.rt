@@ -1,11 +1,11 @@
 //! Members that leave a family: what is left of it, and what its document has then.
 
-use fastmetrics::encoder::{EncodeMetric, StaticStr};
-use fastmetrics::metrics::counter::Counter;
-use fastmetrics::metrics::family::{
+use fm_core::encoder::{EncodeMetric, StaticStr};
+use fm_family::{
     FamilyCore, PairFamily, TextFamily, TextLabels, remove_texts, with_pairs, with_texts,
 };
-use fastmetrics::raw::{MetricError, TryDefault};
+use fm_metrics::Counter;
+use fm_raw::{MetricError, TryDefault};
 use fm_test_support::replies::Outcome;
 use fm_test_support::support::{document_alone, expect_document, expect_text};
 use std::alloc::Global;

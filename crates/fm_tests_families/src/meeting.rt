@@ -1,8 +1,8 @@
 //! Threads that are in one family at the same time.
 
-use fastmetrics::metrics::counter::Counter;
-use fastmetrics::metrics::family::{DefaultFactory, Family};
-use fastmetrics::raw::TryDefault;
+use fm_family::{DefaultFactory, Family};
+use fm_metrics::Counter;
+use fm_raw::TryDefault;
 use fm_test_support::replies::Outcome;
 use std::hash::{BuildHasherDefault, FoldHasher};
 use std::sync::Wait;

@@ -1,7 +1,7 @@
 //! Families and their factories, by what calls return.
 
-use fastmetrics::metrics::family::{Family, FamilyCore};
-use fastmetrics::raw::MetricError;
+use fm_family::{Family, FamilyCore};
+use fm_raw::MetricError;
 use fm_test_support::replies::{Method, Reply};
 use std::hash::{BuildHasherDefault, FoldHasher};
 use std::sync::atomic::{AtomicU64, Ordering};

@@ -1,9 +1,9 @@
 //! Families by pairs of a name of the program and a value.
 
-use fastmetrics::encoder::StaticStr;
-use fastmetrics::metrics::family::{PairFamily, with_pairs};
-use fastmetrics::metrics::gauge::Gauge;
-use fastmetrics::raw::TryDefault;
+use fm_core::encoder::StaticStr;
+use fm_family::{PairFamily, with_pairs};
+use fm_metrics::Gauge;
+use fm_raw::TryDefault;
 use fm_test_support::support::expect_lines;
 use std::test::Fail;
 

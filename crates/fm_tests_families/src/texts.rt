@@ -1,10 +1,9 @@
 //! Families by texts, and registrations by texts.
 
-use fastmetrics::metrics::counter::{ConstCounter, Counter};
-use fastmetrics::metrics::family::{TextFamily, with_texts};
-use fastmetrics::metrics::gauge::ConstGauge;
-use fastmetrics::raw::{MetricType, TryDefault, Unit};
-use fastmetrics::registry::{Registry, add, add_with_unit};
+use fm_core::registry::{Registry, add, add_with_unit};
+use fm_family::{TextFamily, with_texts};
+use fm_metrics::{ConstCounter, ConstGauge, Counter};
+use fm_raw::{MetricType, TryDefault, Unit};
 use fm_test_support::liars::Fickle;
 use fm_test_support::support::{expect_document, expect_document_of};
 use fm_test_support::trees::expect_refused;

@@ -1,7 +1,8 @@
 //! The bounds of shared histograms, by value.
 
-use fastmetrics::metrics::histogram::{Bound, Histogram, HistogramSnapshot};
-use fastmetrics::raw::{Fixed, FixedSum, TryDefault};
+use fm_histogram::{Histogram, HistogramSnapshot};
+use fm_raw::bucket::Bound;
+use fm_raw::{Fixed, FixedSum, TryDefault};
 use std::test::Fail;
 use std::time::Duration;
 

@@ -1,8 +1,8 @@
 //! Histograms that keep the last exemplar of each bucket.
 
-use fastmetrics::encoder::{EncodeError, ExemplarLabels, LabeledExemplar};
-use fastmetrics::metrics::histogram::ExemplarHistogram;
-use fastmetrics::raw::{Fixed, TryDefault};
+use fm_core::encoder::{EncodeError, ExemplarLabels, LabeledExemplar};
+use fm_histogram::ExemplarHistogram;
+use fm_raw::{Fixed, TryDefault};
 use fm_test_support::histograms::whole;
 use fm_test_support::support::expect_document;
 use std::alloc::Global;

@@ -1,13 +1,13 @@
 //! Histograms from the calls to the document: bounds, reserved labels, and buckets of a user's own.
 ghost use Rattle.std.specs.Prelude.{◌≡◌, [], ◌∷◌, None, pos};
-ghost use Rattle.fastmetrics.specs.Points.{HistogramPoint};
+ghost use Rattle.fm_encoder.specs.Points.{HistogramPoint};
 
 use crate::own_buckets::OwnBuckets;
-use fastmetrics::encoder::{EncodeMetric, EncodePoint, PointEncoder};
-use fastmetrics::format::text::EncodeError;
-use fastmetrics::metrics::histogram::{Histogram, HistogramSnapshot};
-use fastmetrics::raw::bucket::{Bound, Bucket, linear_buckets};
-use fastmetrics::raw::{Fixed, FixedSum, MetricError, MetricType};
+use fm_core::encoder::{EncodeMetric, EncodePoint, PointEncoder};
+use fm_core::format::text::EncodeError;
+use fm_histogram::{Histogram, HistogramSnapshot};
+use fm_raw::bucket::{Bound, Bucket, linear_buckets};
+use fm_raw::{Fixed, FixedSum, MetricError, MetricType};
 use fm_test_support::histograms::whole;
 use fm_test_support::members::OneMember;
 use fm_test_support::parts::Faulty;

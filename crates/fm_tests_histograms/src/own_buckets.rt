@@ -1,14 +1,14 @@
 //! Buckets of a user's own, which emit whatever they have.
 ghost use Rattle.std.specs.Prelude.{◌≡◌, [], ◌∷◌, decimal, replicate, IfOk, IfErr};
 ghost use Rattle.std.specs.String.{string_bytes};
-ghost use Rattle.fastmetrics.specs.Labels.{NamePiece, ValuePiece};
-ghost use Rattle.fastmetrics.specs.Buckets.{slots_of};
+ghost use Rattle.fm_labels.specs.Labels.{NamePiece, ValuePiece};
+ghost use Rattle.fm_encoder.specs.Buckets.{slots_of};
 ghost use Rattle.fm_encode_error.specs.declared.EncodeError.{EncodeError};
 ghost use Rattle.fm_tests_histograms.specs.OwnBuckets.{own_point};
 
-use fastmetrics::encoder::{EncodeError, EncodeMetric, EncodePoint, MetricEncoder, PointEncoder};
-use fastmetrics::raw::bucket::Bucket;
-use fastmetrics::raw::{FixedSum, MetricType};
+use fm_core::encoder::{EncodeError, EncodeMetric, EncodePoint, MetricEncoder, PointEncoder};
+use fm_raw::bucket::Bucket;
+use fm_raw::{FixedSum, MetricType};
 use std::alloc::Global;
 use std::time::Duration;
 

@@ -1,8 +1,8 @@
 //! How often the search for a bucket asks.
 ghost use Rattle.std.specs.Prelude.{◌≡◌, ◌<◌};
 
-use fastmetrics::raw::bucket::{Probe, find_bucket};
 use fm_histogram::steps::Steps;
+use fm_raw::bucket::{Probe, find_bucket};
 use std::marker::Brand;
 use std::sync::ledger::{Blank, Ledger};
 use std::test::Fail;

@@ -1,10 +1,8 @@
 //! Histograms and their snapshots against values from outside.
 
-use fastmetrics::metrics::gauge_histogram::GaugeHistogramSnapshot;
-use fastmetrics::metrics::histogram::{
-    Bound, Bucket, Histogram, HistogramSnapshot, default_buckets,
-};
-use fastmetrics::raw::{Fixed, FixedSum, MetricError, TryDefault};
+use fm_histogram::{GaugeHistogramSnapshot, Histogram, HistogramSnapshot};
+use fm_raw::bucket::{Bound, Bucket, default_buckets};
+use fm_raw::{Fixed, FixedSum, MetricError, TryDefault};
 use fm_test_support::histograms::{expect_observed, expect_observed_gauge, have_counts, whole};
 use std::alloc::Global;
 use std::sync::Wait;

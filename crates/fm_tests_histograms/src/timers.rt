@@ -1,7 +1,7 @@
 //! Timers, by a clock that tells times of a list.
 
-use fastmetrics::metrics::histogram::{Histogram, HistogramSnapshot, TimerError};
-use fastmetrics::raw::{Fixed, FixedSum, TryDefault};
+use fm_histogram::{Histogram, HistogramSnapshot, TimerError};
+use fm_raw::{Fixed, FixedSum, TryDefault};
 use std::cell::Cell;
 use std::io::{self, ErrorKind};
 use std::sync::Wait;

@@ -2,9 +2,9 @@
 ghost use Rattle.std.specs.Prelude.{IfOk};
 ghost use Rattle.fm_registry.specs.HasHistory.{HasHistory};
 
-use fastmetrics::encoder::EncodeMetric;
-use fastmetrics::format::text::EncodeError;
-use fastmetrics::registry::{Registry, RegistryCall, RegistryError};
+use fm_core::encoder::EncodeMetric;
+use fm_core::format::text::EncodeError;
+use fm_core::registry::{Registry, RegistryCall, RegistryError};
 use fm_test_support::support::{document_of, expect_refusal_of, expect_text};
 use fm_test_support::trees::{metric_at, subsystem_at};
 use std::alloc::Global;

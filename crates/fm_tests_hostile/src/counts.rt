@@ -1,9 +1,8 @@
 //! Snapshots that count 2^64 - 1 values.
 
 use crate::beneath::expect_beneath;
-use fastmetrics::metrics::gauge_histogram::GaugeHistogramSnapshot;
-use fastmetrics::metrics::histogram::HistogramSnapshot;
-use fastmetrics::raw::{Fixed, MetricError};
+use fm_histogram::{GaugeHistogramSnapshot, HistogramSnapshot};
+use fm_raw::{Fixed, MetricError};
 use fm_test_support::histograms::{expect_sum, whole};
 use std::alloc::Global;
 use std::test::Fail;

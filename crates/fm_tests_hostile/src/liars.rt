@@ -1,8 +1,8 @@
 //! Metrics that ignore refusals, return errors of their own, and change their type, beneath a subsystem.
 
 use crate::beneath::{expect_beneath, expect_refusal_beneath};
-use fastmetrics::encoder::EncodeError;
-use fastmetrics::raw::MetricType;
+use fm_core::encoder::EncodeError;
+use fm_raw::MetricType;
 use fm_test_support::liars::{Failing, Fickle, Forgetful};
 use fm_test_support::parts::Word;
 use std::test::Fail;

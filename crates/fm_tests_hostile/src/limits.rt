@@ -1,9 +1,9 @@
 //! The most states beneath a subsystem with labels.
 
 use crate::beneath::{document_beneath, expect_refusal_under};
-use fastmetrics::format::text::EncodeError;
-use fastmetrics::metrics::state_set::{ConstStateSet, StateSet};
-use fastmetrics::raw::MetricError;
+use fm_core::format::text::EncodeError;
+use fm_metrics::state_set::{ConstStateSet, StateSet};
+use fm_raw::MetricError;
 use fm_test_support::jobs::{Alike, OneMore};
 use std::test::Fail;
 

@@ -1,12 +1,12 @@
 //! Buckets of a user's own that don't fit, beneath a subsystem.
 ghost use Rattle.std.specs.Prelude.{[], ◌∷◌, ◌≡◌, None, pos};
-ghost use Rattle.fastmetrics.specs.Points.{HistogramPoint};
+ghost use Rattle.fm_encoder.specs.Points.{HistogramPoint};
 
 use crate::beneath::expect_refusal_beneath;
-use fastmetrics::encoder::{EncodeError, EncodePoint, PointEncoder};
-use fastmetrics::metrics::gauge::ConstGauge;
-use fastmetrics::raw::bucket::{Bound, Bucket};
-use fastmetrics::raw::{Fixed, FixedSum, MetricType};
+use fm_core::encoder::{EncodeError, EncodePoint, PointEncoder};
+use fm_metrics::ConstGauge;
+use fm_raw::bucket::{Bound, Bucket};
+use fm_raw::{Fixed, FixedSum, MetricType};
 use fm_test_support::members::OneMember;
 use std::test::Fail;
 

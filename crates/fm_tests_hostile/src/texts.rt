@@ -1,6 +1,6 @@
 //! The texts of what a reader refuses.
 
-use fastmetrics::format::text::ReadError;
+use fm_core::format::text::ReadError;
 use std::alloc::{AllocError, Global};
 use std::test::Fail;
 

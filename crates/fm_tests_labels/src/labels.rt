@@ -5,7 +5,8 @@ use fastmetrics::encoder::{EncodeMetric, MetricEncoder};
 use fastmetrics::format::text::EncodeError;
 use fastmetrics::metrics::counter::ConstCounter;
 use fastmetrics::metrics::gauge::ConstGauge;
-use fastmetrics::metrics::histogram::HistogramSnapshot;
+use fastmetrics::metrics::histogram::{BUCKET_LABEL, HistogramSnapshot};
+use fastmetrics::metrics::summary::QUANTILE_LABEL;
 use fastmetrics::raw::{Fixed, MetricType};
 use fm_test_support::members::OneMember;
 use fm_test_support::parts::Unvisited;
@@ -272,4 +273,9 @@ fn a_second_name_before_a_reserved_or_doubled_one(rt: HostRuntime) -> Result<(),
     let twice = [TwoNames("a", "le")];
     let metric = OneMember::gauge(twice, ConstGauge::new(5i64));
     expect_refusal_under(alloc, &[("le", "1")], metric, EncodeError::MalformedLabel)
+}
+
+#[test]
+fn labels_that_types_reserve(rt: HostRuntime) {
+    assert!(rt; BUCKET_LABEL == "le" && QUANTILE_LABEL == "quantile");
 }

@@ -3,9 +3,9 @@
 //! A refused call writes nothing after the line `before`, and is made again.
 ghost use Rattle.fm_registry.specs.HasHistory.{HasHistory};
 
-use fastmetrics::encoder::EncodeMetric;
-use fastmetrics::format::text::{EncodeError, Exposition, collect, encode, encode_exposition};
-use fastmetrics::registry::{Registry, RegistryError};
+use fm_core::encoder::EncodeMetric;
+use fm_core::format::text::{EncodeError, Exposition, collect, encode, encode_exposition};
+use fm_core::registry::{Registry, RegistryError};
 use fm_test_support::support::Patience;
 use std::alloc::{AllocError, Global};
 use std::test::Fail;

@@ -1,7 +1,7 @@
 //! A histogram of great size, for which there is memory.
 
-use fastmetrics::metrics::histogram::HistogramSnapshot;
-use fastmetrics::raw::Fixed;
+use fm_histogram::HistogramSnapshot;
+use fm_raw::Fixed;
 use fm_test_support::support::document_alone;
 use std::alloc::Global;
 use std::test::Fail;

@@ -6,9 +6,9 @@ ghost use Rattle.std.specs.Prelude.{IfOk};
 ghost use Rattle.fm_registry.specs.HasHistory.{HasHistory};
 
 use crate::both_ways::{expect_both_ways, found_no_memory};
-use fastmetrics::encoder::EncodeMetric;
-use fastmetrics::raw::MetricError;
-use fastmetrics::registry::{Registry, RegistryError};
+use fm_core::encoder::EncodeMetric;
+use fm_core::registry::{Registry, RegistryError};
+use fm_raw::MetricError;
 use fm_test_support::support::Patience;
 use std::alloc::Global;
 use std::test::Fail;

@@ -9,10 +9,10 @@ use crate::both_ways::{
     collect_patiently, encode_patiently, expect_bytes, found_no_memory, roomy_writer,
     write_patiently,
 };
-use fastmetrics::encoder::EncodeMetric;
-use fastmetrics::metrics::gauge::ConstGauge;
-use fastmetrics::raw::{Fixed, FixedSum, MetricError, Unit};
-use fastmetrics::registry::{Registry, RegistryCall, RegistryError};
+use fm_core::encoder::EncodeMetric;
+use fm_core::registry::{Registry, RegistryCall, RegistryError};
+use fm_metrics::ConstGauge;
+use fm_raw::{Fixed, FixedSum, MetricError, Unit};
 use fm_test_support::support::{Patience, document_of};
 use fm_test_support::trees::{gauge, have_numbers, labels, register_with, six_calls};
 use std::alloc::{AllocError, Global};

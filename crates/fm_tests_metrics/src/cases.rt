@@ -1,6 +1,6 @@
 //! Steps from a value: what each call leaves, at the ends of a type and between them.
 
-use fastmetrics::raw::Fixed;
+use fm_raw::Fixed;
 
 /// A value; another number; the value and one whole more; one whole less; the value and the number; the value without it; and the
 /// greater of both. Sums and differences wrap.

@@ -1,16 +1,14 @@
 //! Clones, other threads, and the times of metrics.
 
 use crate::support::{Job, Silent, Stamped};
-use fastmetrics::encoder::StaticStr;
-use fastmetrics::metrics::counter::{ConstCounter, Counter};
-use fastmetrics::metrics::family::{DefaultFactory, Family};
-use fastmetrics::metrics::gauge::{ConstGauge, Gauge};
-use fastmetrics::metrics::gauge_histogram::{GaugeHistogram, GaugeHistogramSnapshot};
-use fastmetrics::metrics::histogram::{Histogram, HistogramSnapshot};
-use fastmetrics::metrics::info::Info;
-use fastmetrics::metrics::state_set::{ConstStateSet, StateSet};
-use fastmetrics::metrics::unknown::Unknown;
-use fastmetrics::raw::{MetricType, TypedMetric};
+use fm_core::encoder::StaticStr;
+use fm_family::{DefaultFactory, Family};
+use fm_histogram::{GaugeHistogram, GaugeHistogramSnapshot, Histogram, HistogramSnapshot};
+use fm_metrics::info::Info;
+use fm_metrics::state_set::{ConstStateSet, StateSet};
+use fm_metrics::unknown::Unknown;
+use fm_metrics::{ConstCounter, ConstGauge, Counter, Gauge};
+use fm_raw::{MetricType, TypedMetric};
 use fm_test_support::support::expect_document;
 use std::hash::{BuildHasherDefault, FoldHasher};
 use std::test::Fail;

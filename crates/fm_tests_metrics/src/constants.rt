@@ -1,8 +1,7 @@
 //! Constant metrics: their defaults and parts.
 
-use fastmetrics::metrics::counter::ConstCounter;
-use fastmetrics::metrics::gauge::ConstGauge;
-use fastmetrics::raw::{Fixed, MetricType, TypedMetric};
+use fm_metrics::{ConstCounter, ConstGauge};
+use fm_raw::{Fixed, MetricType, TypedMetric};
 use std::time::Duration;
 
 fn type_of<M: TypedMetric>(_: &M) -> (MetricType, bool) {

@@ -1,8 +1,8 @@
 //! State sets that begin with a default, and states that they refuse.
 
 use crate::support::{Crowd, Light};
-use fastmetrics::metrics::state_set::{ConstStateSet, StateSet};
-use fastmetrics::raw::{MetricError, TryDefault};
+use fm_metrics::state_set::{ConstStateSet, StateSet};
+use fm_raw::{MetricError, TryDefault};
 use fm_test_support::support::expect_document;
 use std::test::Fail;
 

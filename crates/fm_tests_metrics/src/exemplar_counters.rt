@@ -1,8 +1,8 @@
 //! Counters that keep their last exemplar, and the labels that an exemplar may have.
 
-use fastmetrics::encoder::{EncodeError, ExemplarLabels, LabelSlice, LabeledExemplar};
-use fastmetrics::metrics::counter::ExemplarCounter;
-use fastmetrics::raw::{Fixed, MetricError, TryDefault};
+use fm_core::encoder::{EncodeError, ExemplarLabels, LabelSlice, LabeledExemplar};
+use fm_metrics::ExemplarCounter;
+use fm_raw::{Fixed, MetricError, TryDefault};
 use fm_test_support::support::expect_document;
 use std::alloc::Global;
 use std::test::Fail;

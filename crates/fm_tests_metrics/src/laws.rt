@@ -1,9 +1,9 @@
 //! Laws: each is a function that can be called and does nothing. Those of orders are shown on values too.
 
-use fastmetrics::laws;
-use fastmetrics::metrics::counter::Counter;
-use fastmetrics::raw::bucket::{Bound, Quantile};
-use fastmetrics::raw::{Fixed, FixedSum};
+use fm_laws as laws;
+use fm_metrics::Counter;
+use fm_raw::bucket::{Bound, Quantile};
+use fm_raw::{Fixed, FixedSum};
 use std::test::Fail;
 
 #[test]

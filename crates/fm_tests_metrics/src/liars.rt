@@ -4,9 +4,9 @@ ghost use Rattle.fm_grammar.specs.Exposition.{Whole};
 ghost use Rattle.fm_encoder.specs.Points.{GaugePoint};
 ghost use Rattle.fm_encoder.specs.Emits.{MembersOf};
 
-use fastmetrics::encoder::{EncodeError, EncodeMetric, MetricEncoder};
-use fastmetrics::metrics::gauge::ConstGauge;
-use fastmetrics::raw::MetricType;
+use fm_core::encoder::{EncodeError, EncodeMetric, MetricEncoder};
+use fm_metrics::ConstGauge;
+use fm_raw::MetricType;
 use fm_test_support::liars::{Failing, Fickle, Forgetful};
 use fm_test_support::support::{expect_document, expect_refusal};
 use std::alloc::{AllocError, Global};

@@ -1,9 +1,8 @@
 //! Counters and gauges that clones and threads share, by their values and by their documents, and the words that hold them.
 
-use fastmetrics::encoder::EncodeMetric;
-use fastmetrics::metrics::counter::Counter;
-use fastmetrics::metrics::gauge::Gauge;
-use fastmetrics::raw::{Atomic, Fixed, Number, TryDefault};
+use fm_core::encoder::EncodeMetric;
+use fm_metrics::{Counter, Gauge};
+use fm_raw::{Atomic, Fixed, Number, TryDefault};
 use fm_test_support::support::{document_alone, expect_text};
 use std::alloc::Global;
 use std::sync::atomic::{AtomicI32, AtomicI64, AtomicIsize, AtomicU32, AtomicU64, AtomicUsize};

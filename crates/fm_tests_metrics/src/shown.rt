@@ -1,13 +1,12 @@
 //! What `Debug` shows of metrics that threads share, and of registries.
 
 use crate::support::Job;
-use fastmetrics::metrics::counter::Counter;
-use fastmetrics::metrics::family::{DefaultFactory, Family};
-use fastmetrics::metrics::gauge::Gauge;
-use fastmetrics::metrics::histogram::Histogram;
-use fastmetrics::metrics::state_set::{ConstStateSet, StateSet};
-use fastmetrics::raw::{Fixed, TryDefault};
-use fastmetrics::registry::Registry;
+use fm_core::registry::Registry;
+use fm_family::{DefaultFactory, Family};
+use fm_histogram::Histogram;
+use fm_metrics::state_set::{ConstStateSet, StateSet};
+use fm_metrics::{Counter, Gauge};
+use fm_raw::{Fixed, TryDefault};
 use fm_test_support::replies::Outcome;
 use fm_test_support::trees::labels;
 use std::alloc::Global;

@@ -1,10 +1,9 @@
 //! Counters, gauges and state sets in use by one thread.
 
 use crate::support::Job;
-use fastmetrics::metrics::counter::Counter;
-use fastmetrics::metrics::gauge::Gauge;
-use fastmetrics::metrics::state_set::{ConstStateSet, StateSet};
-use fastmetrics::raw::{Fixed, MetricError, TryDefault};
+use fm_metrics::state_set::{ConstStateSet, StateSet};
+use fm_metrics::{Counter, Gauge};
+use fm_raw::{Fixed, MetricError, TryDefault};
 use std::test::Fail;
 use std::time::Duration;
 

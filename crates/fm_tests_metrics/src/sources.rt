@@ -1,8 +1,8 @@
 //! Gauges and counters that ask a source for their number.
 
-use fastmetrics::metrics::source::{NumberSource, SourceCounter, SourceGauge};
-use fastmetrics::raw::Fixed;
-use fastmetrics::registry::Registry;
+use fm_core::registry::Registry;
+use fm_metrics::source::{NumberSource, SourceCounter, SourceGauge};
+use fm_raw::Fixed;
 use fm_test_support::support::{expect_document, expect_document_of};
 use fm_test_support::trees::register;
 use std::alloc::Global;

@@ -1,7 +1,7 @@
 //! The most states of a state set.
 
-use fastmetrics::metrics::state_set::{ConstStateSet, StateSet};
-use fastmetrics::raw::MetricError;
+use fm_metrics::state_set::{ConstStateSet, StateSet};
+use fm_raw::MetricError;
 use fm_test_support::jobs::{Alike, OneMore};
 use std::test::Fail;
 

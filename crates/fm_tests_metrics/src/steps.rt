@@ -1,9 +1,8 @@
 //! How many steps of its word a call of a counter or a gauge takes, by a number that counts them.
 ghost use Rattle.std.specs.Prelude.{⊤};
 
-use fastmetrics::metrics::counter::{Counter, CounterValue};
-use fastmetrics::metrics::gauge::{Gauge, GaugeValue};
-use fastmetrics::raw::{Atomic, Number, TryDefault};
+use fm_metrics::{Counter, Gauge};
+use fm_raw::{Atomic, CounterValue, GaugeValue, Number, TryDefault};
 use std::sync::atomic::AtomicU64;
 use std::sync::atomic::Ordering::SeqCst;
 use std::test::Fail;

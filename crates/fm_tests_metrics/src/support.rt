@@ -5,9 +5,9 @@ ghost use Rattle.fm_tests_metrics.specs.declared.support.Job.TheVariants.{Pendin
 ghost use Rattle.fm_tests_metrics.specs.declared.support.Light.TheVariants.{Red, Yellow, Green, Blue};
 ghost use Rattle.fm_tests_metrics.specs.declared.support.Crowd.TheVariants.{Inside};
 
-use fastmetrics::encoder::{EncodeError, EncodeMetric, MetricEncoder};
-use fastmetrics::metrics::state_set::StateSetValue;
-use fastmetrics::raw::{MetricType, TypedMetric};
+use fm_core::encoder::{EncodeError, EncodeMetric, MetricEncoder};
+use fm_metrics::state_set::StateSetValue;
+use fm_raw::{MetricType, TypedMetric};
 use std::time::Duration;
 
 /// How far a job is.

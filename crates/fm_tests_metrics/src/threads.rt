@@ -1,6 +1,6 @@
 //! Steps of two threads on one atomic, at every type of number that one holds: none is lost, and none is seen in parts.
 
-use fastmetrics::raw::{Atomic, Fixed, Number};
+use fm_raw::{Atomic, Fixed, Number};
 use std::sync::atomic::{
     AtomicI32, AtomicI64, AtomicIsize, AtomicU32, AtomicU64, AtomicUsize, Ordering,
 };

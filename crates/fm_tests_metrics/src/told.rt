@@ -1,8 +1,7 @@
 //! What two threads are told of one counter or gauge: each number before a step once, and nothing that was never set.
 
-use fastmetrics::metrics::counter::Counter;
-use fastmetrics::metrics::gauge::Gauge;
-use fastmetrics::raw::TryDefault;
+use fm_metrics::{Counter, Gauge};
+use fm_raw::TryDefault;
 use std::sync::atomic::{AtomicU64, Ordering};
 use std::test::Fail;
 use std::thread;

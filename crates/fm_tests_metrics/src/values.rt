@@ -1,9 +1,8 @@
 //! Every call of a gauge and of a counter, at every type of number that one holds.
 
 use crate::cases::{Case, I32, I64, MILLIONTHS, U32, U64, fixeds, isizes, usizes};
-use fastmetrics::metrics::counter::{Counter, CounterValue};
-use fastmetrics::metrics::gauge::{Gauge, GaugeValue};
-use fastmetrics::raw::{Fixed, MetricError, TryDefault};
+use fm_metrics::{Counter, Gauge};
+use fm_raw::{CounterValue, Fixed, GaugeValue, MetricError, TryDefault};
 use std::alloc::Global;
 use std::sync::Wait;
 use std::test::Fail;

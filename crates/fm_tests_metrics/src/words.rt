@@ -1,7 +1,7 @@
 //! Every call of an atomic, at every type of number that one holds.
 
 use crate::cases::{Case, I32, I64, MILLIONTHS, U32, U64, fixeds, isizes, usizes};
-use fastmetrics::raw::{Atomic, Fixed, Number};
+use fm_raw::{Atomic, Fixed, Number};
 use std::sync::atomic::{AtomicI32, AtomicI64, AtomicIsize, AtomicU32, AtomicU64, AtomicUsize};
 
 // An atomic that holds this value.

@@ -2,11 +2,9 @@
 ghost use Rattle.std.specs.Prelude.{◌≡◌, [], ◌∷◌, Some};
 ghost use Rattle.fm_encoder.specs.Points.{HistogramPoint, GaugeHistogramPoint};
 
-use fastmetrics::encoder::{
-    EncodeError, EncodeExemplar, EncodeMetric, LabeledExemplar, MetricEncoder,
-};
-use fastmetrics::raw::bucket::{Bound, Bucket};
-use fastmetrics::raw::{FixedSum, MetricType};
+use fm_core::encoder::{EncodeError, EncodeExemplar, EncodeMetric, LabeledExemplar, MetricEncoder};
+use fm_raw::bucket::{Bound, Bucket};
+use fm_raw::{FixedSum, MetricType};
 use fm_test_support::histograms::whole;
 use fm_test_support::support::expect_document;
 use fm_test_support::trees::labels;

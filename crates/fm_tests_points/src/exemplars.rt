@@ -1,9 +1,9 @@
 //! Exemplars of a user's own on counters and on buckets.
 
 use crate::points::{NameOnly, TwoBuckets, TwoExemplars, ValueOnly};
-use fastmetrics::encoder::{EncodeError, EncodeMetric, LabeledExemplar};
-use fastmetrics::raw::bucket::{Bound, Bucket};
-use fastmetrics::raw::{Fixed, FixedSum, MetricType};
+use fm_core::encoder::{EncodeError, EncodeMetric, LabeledExemplar};
+use fm_raw::bucket::{Bound, Bucket};
+use fm_raw::{Fixed, FixedSum, MetricType};
 use fm_test_support::members::OneMember;
 use fm_test_support::parts::{Faulty, Unvisited};
 use fm_test_support::points::CounterWith;

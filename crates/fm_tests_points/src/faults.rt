@@ -1,10 +1,10 @@
 //! Which of two faults is named.
 
 use crate::points::{OneSlot, SecondSlot, TwoBuckets, TwoExemplars, TwoGaugeBuckets};
-use fastmetrics::encoder::{EncodeError, EncodeMetric, LabeledExemplar};
-use fastmetrics::metrics::gauge::ConstGauge;
-use fastmetrics::raw::bucket::{Bound, Bucket};
-use fastmetrics::raw::{Fixed, FixedSum, MetricType};
+use fm_core::encoder::{EncodeError, EncodeMetric, LabeledExemplar};
+use fm_metrics::ConstGauge;
+use fm_raw::bucket::{Bound, Bucket};
+use fm_raw::{Fixed, FixedSum, MetricType};
 use fm_test_support::members::OneMember;
 use fm_test_support::parts::{Faulty, Silent, Twice};
 use fm_test_support::points::CounterWith;

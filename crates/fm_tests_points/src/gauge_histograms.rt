@@ -1,11 +1,10 @@
 //! Gauge histograms: negative bounds and values, by a snapshot and under a lock.
 
 use crate::points::{TwoBuckets, TwoGaugeBuckets};
-use fastmetrics::encoder::{EncodeMetric, LabeledExemplar};
-use fastmetrics::metrics::gauge_histogram::{
-    Bound, Bucket, GaugeHistogram, GaugeHistogramSnapshot,
-};
-use fastmetrics::raw::{Fixed, FixedSum, MetricError, MetricType, TryDefault, TypedMetric};
+use fm_core::encoder::{EncodeMetric, LabeledExemplar};
+use fm_histogram::{GaugeHistogram, GaugeHistogramSnapshot};
+use fm_raw::bucket::{Bound, Bucket};
+use fm_raw::{Fixed, FixedSum, MetricError, MetricType, TryDefault, TypedMetric};
 use fm_test_support::histograms::{expect_observed_gauge, have_counts, whole};
 use fm_test_support::members::OneMember;
 use fm_test_support::support::expect_document;

@@ -1,8 +1,8 @@
 //! Points of each type in families of their own type and of each other.
 
 use crate::points::FiveOf;
-use fastmetrics::encoder::EncodeError;
-use fastmetrics::raw::MetricType;
+use fm_core::encoder::EncodeError;
+use fm_raw::MetricType;
 use fm_test_support::members::OneMember;
 use fm_test_support::support::{expect_document, expect_refusal};
 use std::alloc::Global;

@@ -1,9 +1,9 @@
 //! The labels that a sample has of its own, those of states and of information, after the member's labels.
 
 use crate::points::{NameOnly, ValueOnly};
-use fastmetrics::encoder::EncodeError;
-use fastmetrics::metrics::info::Info;
-use fastmetrics::raw::MetricType;
+use fm_core::encoder::EncodeError;
+use fm_metrics::info::Info;
+use fm_raw::MetricType;
 use fm_test_support::members::OneMember;
 use fm_test_support::parts::{Unvisited, Word};
 use fm_test_support::support::{expect_document, expect_refusal};

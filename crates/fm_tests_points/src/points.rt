@@ -4,13 +4,13 @@ ghost use Rattle.fm_labels.specs.Labels.{NamePiece, ValuePiece};
 ghost use Rattle.fm_encoder.specs.Points.{HistogramPoint, GaugeHistogramPoint, SummaryPoint};
 ghost use Rattle.fm_tests_points.specs.Kinds.{five_of};
 
-use fastmetrics::encoder::{
+use fm_core::encoder::{
     EncodeError, EncodeExemplar, EncodeLabel, EncodeLabelSet, EncodePoint, ExemplarEncoder,
     LabelEncoder, PointEncoder,
 };
-use fastmetrics::metrics::summary::Quantile;
-use fastmetrics::raw::bucket::Bucket;
-use fastmetrics::raw::{Fixed, FixedSum, MetricType};
+use fm_raw::bucket::Bucket;
+use fm_raw::quantile::Quantile;
+use fm_raw::{Fixed, FixedSum, MetricType};
 use std::alloc::Global;
 
 /// Two buckets, an exemplar of the first, this number of values and their sum, as the point of a histogram.

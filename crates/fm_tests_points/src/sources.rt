@@ -5,15 +5,14 @@ ghost use Rattle.fm_encoder.specs.Points.{GaugePoint};
 ghost use Rattle.fm_encoder.specs.Emits.{MembersOf};
 
 use crate::points::{TwoBuckets, TwoGaugeBuckets};
-use fastmetrics::encoder::{
+use fm_core::encoder::{
     CounterValueEncoder, EncodeCounterValue, EncodeError, EncodeExemplar, EncodeGaugeValue,
     EncodeLabelSet, EncodeMetric, EncodeUnknownValue, ExemplarEncoder, GaugeValueEncoder,
     MetricEncoder, UnknownValueEncoder,
 };
-use fastmetrics::metrics::counter::ConstCounter;
-use fastmetrics::metrics::gauge::ConstGauge;
-use fastmetrics::raw::bucket::{Bound, Bucket};
-use fastmetrics::raw::{FixedSum, MetricType};
+use fm_metrics::{ConstCounter, ConstGauge};
+use fm_raw::bucket::{Bound, Bucket};
+use fm_raw::{FixedSum, MetricType};
 use fm_test_support::histograms::whole;
 use fm_test_support::members::OneMember;
 use fm_test_support::parts::{UnknownOf, Word};

@@ -1,9 +1,9 @@
 //! Summaries of a user's own.
 
 use crate::points::TwoQuantiles;
-use fastmetrics::encoder::EncodeError;
-use fastmetrics::metrics::summary::{QUANTILE_LABEL, Quantile};
-use fastmetrics::raw::{Fixed, FixedSum, MetricType};
+use fm_core::encoder::EncodeError;
+use fm_raw::quantile::{QUANTILE_LABEL, Quantile};
+use fm_raw::{Fixed, FixedSum, MetricType};
 use fm_test_support::members::OneMember;
 use fm_test_support::support::{expect_document, expect_refusal};
 use fm_test_support::trees::labels;

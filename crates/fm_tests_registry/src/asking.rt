@@ -1,11 +1,9 @@
 //! A metric that tells its type only once another thread has read the registry that it goes into.
 ghost use Rattle.std.specs.Prelude.{◌≡◌, []};
 
-use fastmetrics::encoder::{EncodeError, EncodeMetric, MetricEncoder};
-use fastmetrics::raw::MetricType;
-use fastmetrics::registry::{
-    GlobalRegistry, Registry, RegistryError, register, with_global_registry,
-};
+use fm_core::encoder::{EncodeError, EncodeMetric, MetricEncoder};
+use fm_core::registry::{GlobalRegistry, Registry, RegistryError, register, with_global_registry};
+use fm_raw::MetricType;
 use std::alloc::Global;
 use std::sync::atomic::AtomicU64;
 use std::sync::atomic::Ordering::SeqCst;

@@ -2,7 +2,7 @@
 ghost use Rattle.std.specs.Prelude.{IfOk};
 ghost use Rattle.fm_registry.specs.HasHistory.{HasHistory};
 
-use fastmetrics::registry::{Registry, RegistryCall};
+use fm_core::registry::{Registry, RegistryCall};
 use fm_test_support::trees;
 use fm_test_support::trees::{gauge, labels, metric_at, subsystem_at};
 use std::alloc::{AllocError, Global};

@@ -1,9 +1,9 @@
 //! Calls at the registries of a tree, as one list.
 
 use crate::boxed::{calls_at, root, six_calls};
-use fastmetrics::encoder::EncodeMetric;
-use fastmetrics::raw::MetricType;
-use fastmetrics::registry::{Registry, RegistryCall, RegistryError};
+use fm_core::encoder::EncodeMetric;
+use fm_core::registry::{Registry, RegistryCall, RegistryError};
+use fm_raw::MetricType;
 use fm_test_support::liars::Fickle;
 use fm_test_support::support::expect_document_of;
 use fm_test_support::trees::{have_numbers, metric_at, refuses, subsystem_at};

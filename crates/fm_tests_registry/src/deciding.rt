@@ -2,14 +2,14 @@
 ghost use Rattle.fm_registry.specs.HasHistory.{HasHistory};
 
 use crate::global_support::{One, UpAndDown, document};
-use fastmetrics::encoder::EncodeMetric;
-use fastmetrics::metrics::gauge::ConstGauge;
-use fastmetrics::raw::Unit;
-use fastmetrics::registry::{
+use fm_core::encoder::EncodeMetric;
+use fm_core::registry::{
     GlobalRegistry, Registry, RegistryError, SetRegistryError, register, register_global,
     register_metric, register_with_unit, set_global_registry, with_global_registry,
     with_global_registry_mut,
 };
+use fm_metrics::ConstGauge;
+use fm_raw::Unit;
 use fm_test_support::support::expect_text;
 use std::alloc::Global;
 use std::sync::Wait;

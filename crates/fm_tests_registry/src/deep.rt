@@ -1,7 +1,7 @@
 //! Calls 64 registries below, which is as deep as a registry may lie: which of two faults is named.
 
 use crate::calls::all_refused;
-use fastmetrics::registry::{Registry, RegistryCall};
+use fm_core::registry::{Registry, RegistryCall};
 use std::alloc::{AllocError, Global};
 use std::test::Fail;
 

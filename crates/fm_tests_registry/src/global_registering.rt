@@ -2,13 +2,13 @@
 ghost use Rattle.fm_registry.specs.HasHistory.{HasHistory};
 
 use crate::global_support::{One, UpAndDown, document};
-use fastmetrics::encoder::EncodeMetric;
-use fastmetrics::metrics::gauge::ConstGauge;
-use fastmetrics::raw::MetricType;
-use fastmetrics::registry::{
+use fm_core::encoder::EncodeMetric;
+use fm_core::registry::{
     GlobalRegistry, Registry, RegistryError, register, register_global, register_metric,
     with_global_registry_mut,
 };
+use fm_metrics::ConstGauge;
+use fm_raw::MetricType;
 use fm_test_support::liars::Fickle;
 use fm_test_support::support::expect_text;
 use std::test::Fail;

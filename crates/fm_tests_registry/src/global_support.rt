@@ -2,11 +2,9 @@
 ghost use Rattle.std.specs.Prelude.{◌≡◌, OnErr};
 ghost use Rattle.fm_registry.specs.HasHistory.{HasHistory};
 
-use fastmetrics::format::text::{EncodeError, encode};
-use fastmetrics::raw::MetricType;
-use fastmetrics::registry::{
-    GlobalRegistry, Register, Registry, RegistryError, with_global_registry,
-};
+use fm_core::format::text::{EncodeError, encode};
+use fm_core::registry::{GlobalRegistry, Register, Registry, RegistryError, with_global_registry};
+use fm_raw::MetricType;
 use std::alloc::Global;
 use std::cell::Cell;
 use std::sync::Wait;

@@ -2,7 +2,7 @@
 
 use crate::boxed::calls_at;
 use crate::calls::all_refused;
-use fastmetrics::registry::{Registry, RegistryCall};
+use fm_core::registry::{Registry, RegistryCall};
 use fm_test_support::support::expect_document_of;
 use fm_test_support::trees::have_numbers;
 use std::alloc::{AllocError, Global};

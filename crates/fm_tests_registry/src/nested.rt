@@ -1,7 +1,7 @@
 //! What subsystems of subsystems say of themselves.
 
 use crate::boxed::root;
-use fastmetrics::registry::{Registry, RegistryCall, Subsystem};
+use fm_core::registry::{Registry, RegistryCall, Subsystem};
 use fm_test_support::trees::{are_labels, subsystem_at};
 use std::alloc::{AllocError, Global};
 use std::test::Fail;

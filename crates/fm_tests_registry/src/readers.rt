@@ -1,6 +1,6 @@
 //! Threads that read the registry that a program shares.
 
-use fastmetrics::registry::{GlobalRegistry, Registry, set_global_registry, with_global_registry};
+use fm_core::registry::{GlobalRegistry, Registry, set_global_registry, with_global_registry};
 use std::sync::{Barrier, Wait};
 use std::test::Fail;
 use std::thread;

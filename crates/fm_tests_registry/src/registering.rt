@@ -1,9 +1,9 @@
 //! The tests of names, and the numbers and texts of all refusals.
 
-use fastmetrics::format::text::EncodeError;
-use fastmetrics::metrics::tally::TallyError;
-use fastmetrics::raw::{is_label_name, is_snake_case, is_unit_text};
-use fastmetrics::registry::{RegistryError, SetRegistryError};
+use fm_core::format::text::EncodeError;
+use fm_core::registry::{RegistryError, SetRegistryError};
+use fm_raw::{is_label_name, is_snake_case, is_unit_text};
+use fm_tally::TallyError;
 use fm_test_support::support::expect_text;
 use std::alloc::{AllocError, Global};
 use std::fmt::Display;

@@ -1,7 +1,7 @@
 //! The namespaces and labels of roots and subsystems.
 
 use crate::boxed::{gauge_at, root};
-use fastmetrics::registry::{Registry, RegistryCall, Subsystem};
+use fm_core::registry::{Registry, RegistryCall, Subsystem};
 use fm_test_support::trees::{are_labels, labels, subsystem_at};
 use std::alloc::{AllocError, Global};
 use std::test::Fail;

@@ -1,7 +1,7 @@
 //! Closing tallies.
 ghost use Rattle.std.specs.Prelude.{◌≡◌};
 
-use fastmetrics::metrics::tally::{Tally, TallyError, TallyKey};
+use fm_tally::{Tally, TallyError, TallyKey};
 use std::alloc::Global;
 use std::marker::Brand;
 use std::sync::ledger::Blank;

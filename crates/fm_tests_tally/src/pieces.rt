@@ -1,10 +1,9 @@
 //! Observations cut among workers.
 
-use fastmetrics::metrics::gauge_histogram::GaugeHistogramSnapshot;
-use fastmetrics::metrics::histogram::HistogramSnapshot;
-use fastmetrics::metrics::tally::{Gate, OpenGate, TallyError, observe_all, observe_all_gauge};
-use fastmetrics::raw::Fixed;
-use fastmetrics::raw::bucket::{Bound, Bucket};
+use fm_histogram::{GaugeHistogramSnapshot, HistogramSnapshot};
+use fm_raw::Fixed;
+use fm_raw::bucket::{Bound, Bucket};
+use fm_tally::{Gate, OpenGate, TallyError, observe_all, observe_all_gauge};
 use fm_test_support::histograms::{expect_sum, have_counts, whole};
 use std::alloc::{AllocError, Global};
 use std::sync::atomic::{AtomicU64, Ordering};

@@ -1,7 +1,7 @@
 //! What shares are told after each other's adds, the last number that fits, and many shares.
 ghost use Rattle.std.specs.Prelude.{◌≡◌};
 
-use fastmetrics::metrics::tally::{Tally, TallyError, TallyKey};
+use fm_tally::{Tally, TallyError, TallyKey};
 use std::alloc::Global;
 use std::marker::Brand;
 use std::sync::Wait;

@@ -1,7 +1,7 @@
 //! What several shares of one tally add and are told.
 ghost use Rattle.std.specs.Prelude.{◌≡◌};
 
-use fastmetrics::metrics::tally::{Share, Tally, TallyError, TallyKey};
+use fm_tally::{Share, Tally, TallyError, TallyKey};
 use std::alloc::Global;
 use std::marker::Brand;
 use std::sync::Wait;

@@ -1,6 +1,6 @@
 //! Tallies: events and their replies.
 
-use fastmetrics::metrics::tally::{Book, Event, Reply, TallyError};
+use fm_tally::{Book, Event, Reply, TallyError};
 use std::alloc::Global;
 use std::test::Fail;
 

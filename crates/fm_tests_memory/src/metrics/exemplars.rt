@@ -1,8 +1,8 @@
 //! A counter with an exemplar under refused memory.
 
 use super::{bear, expect_document};
-use fastmetrics::encoder::LabeledExemplar;
-use fastmetrics::raw::{Fixed, MetricError, MetricType};
+use fm_core::encoder::LabeledExemplar;
+use fm_raw::{Fixed, MetricError, MetricType};
 use fm_test_support::members::OneMember;
 use fm_test_support::points::CounterWith;
 use fm_test_support::support::Patience;

@@ -1,10 +1,8 @@
 //! Families under refused memory: a refused member is not there.
 use super::{bear, expect_clone};
-use fastmetrics::metrics::counter::Counter;
-use fastmetrics::metrics::family::{
-    DefaultFactory, Family, FamilyCore, TextFamily, remove_texts, with_texts,
-};
-use fastmetrics::raw::{MetricError, TryDefault};
+use fm_family::{DefaultFactory, Family, FamilyCore, TextFamily, remove_texts, with_texts};
+use fm_metrics::Counter;
+use fm_raw::{MetricError, TryDefault};
 use fm_test_support::replies::Path;
 use fm_test_support::support::Patience;
 use std::alloc::Global;

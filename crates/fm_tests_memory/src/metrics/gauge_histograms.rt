@@ -1,7 +1,7 @@
 //! Gauge histograms under refused memory.
 use super::{bear, expect_clone};
-use fastmetrics::metrics::gauge_histogram::{GaugeHistogram, GaugeHistogramSnapshot};
-use fastmetrics::raw::{Fixed, MetricError, TryDefault};
+use fm_histogram::{GaugeHistogram, GaugeHistogramSnapshot};
+use fm_raw::{Fixed, MetricError, TryDefault};
 use fm_test_support::support::Patience;
 use std::alloc::Global;
 use std::sync::Wait;

@@ -1,9 +1,8 @@
 //! Counters, gauges and state sets under refused memory.
 use super::{bear, expect_clone};
-use fastmetrics::metrics::counter::Counter;
-use fastmetrics::metrics::gauge::Gauge;
-use fastmetrics::metrics::state_set::StateSet;
-use fastmetrics::raw::{MetricError, TryDefault};
+use fm_metrics::state_set::StateSet;
+use fm_metrics::{Counter, Gauge};
+use fm_raw::{MetricError, TryDefault};
 use fm_test_support::jobs::Job;
 use fm_test_support::support::Patience;
 use std::alloc::Global;

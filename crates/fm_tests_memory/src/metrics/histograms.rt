@@ -1,7 +1,7 @@
 //! Histograms and their snapshots under refused memory.
 use super::{bear, expect_clone};
-use fastmetrics::metrics::histogram::{Histogram, HistogramSnapshot};
-use fastmetrics::raw::{Fixed, MetricError, TryDefault};
+use fm_histogram::{Histogram, HistogramSnapshot};
+use fm_raw::{Fixed, MetricError, TryDefault};
 use fm_test_support::support::Patience;
 use std::alloc::Global;
 use std::sync::Wait;

@@ -1,9 +1,9 @@
 //! Counters and histograms that keep exemplars, under refused memory.
 use super::{bear, expect_clone};
-use fastmetrics::encoder::{EncodeError, ExemplarLabels, LabeledExemplar};
-use fastmetrics::metrics::counter::ExemplarCounter;
-use fastmetrics::metrics::histogram::ExemplarHistogram;
-use fastmetrics::raw::{Fixed, MetricError, TryDefault};
+use fm_core::encoder::{EncodeError, ExemplarLabels, LabeledExemplar};
+use fm_histogram::ExemplarHistogram;
+use fm_metrics::ExemplarCounter;
+use fm_raw::{Fixed, MetricError, TryDefault};
 use fm_test_support::support::Patience;
 use std::alloc::Global;
 use std::sync::Wait;

@@ -1,9 +1,9 @@
 //! Observations that are cut among workers, and snapshots of gauge histograms, under refused memory.
 use super::bear;
-use fastmetrics::metrics::gauge_histogram::GaugeHistogramSnapshot;
-use fastmetrics::metrics::tally::{OpenGate, TallyError, observe_all, observe_all_gauge};
-use fastmetrics::raw::bucket::{Bound, Bucket};
-use fastmetrics::raw::{Fixed, MetricError};
+use fm_histogram::GaugeHistogramSnapshot;
+use fm_raw::bucket::{Bound, Bucket};
+use fm_raw::{Fixed, MetricError};
+use fm_tally::{OpenGate, TallyError, observe_all, observe_all_gauge};
 use fm_test_support::support::Patience;
 use std::alloc::{AllocError, Global};
 use std::sync::Wait;

@@ -1,7 +1,7 @@
 //! Tallies and books of events under refused memory.
 ghost use Rattle.std.specs.Prelude.{◌≡◌};
 
-use fastmetrics::metrics::tally::{Book, Event, Reply, Tally, TallyError, TallyKey};
+use fm_tally::{Book, Event, Reply, Tally, TallyError, TallyKey};
 use fm_test_support::support::Patience;
 use std::alloc::Global;
 use std::marker::Brand;

@@ -1,8 +1,8 @@
 //! What the stories of trees do below a registry.
 ghost use Rattle.fm_registry.specs.HasHistory.{HasHistory};
 
-use fastmetrics::encoder::EncodeMetric;
-use fastmetrics::registry::{Registry, RegistryError};
+use fm_core::encoder::EncodeMetric;
+use fm_core::registry::{Registry, RegistryError};
 use fm_test_support::trees::labels;
 use std::alloc::Global;
 

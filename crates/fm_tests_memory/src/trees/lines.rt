@@ -5,8 +5,8 @@ ghost use Rattle.fm_registry.specs.HasHistory.{HasHistory};
 
 use super::{Patience, add_up, patient_root};
 use crate::both_ways::{collect_patiently, encode_patiently, roomy_writer, write_patiently};
-use fastmetrics::format::text::Exposition;
-use fastmetrics::registry::Registry;
+use fm_core::format::text::Exposition;
+use fm_core::registry::Registry;
 use fm_test_support::members::OneMember;
 use fm_test_support::points::Repeated;
 use std::alloc::{AllocError, Global};

@@ -1,6 +1,6 @@
 //! A document that is read while a request for memory is refused. The lines of its histogram share their labels.
 
-use fastmetrics::format::text::{ReadError, read};
+use fm_core::format::text::{ReadError, read};
 use fm_test_support::support::Patience;
 use std::alloc::Global;
 use std::test::Fail;
