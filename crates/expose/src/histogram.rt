@@ -1,5 +1,5 @@
 //! The metric of the scene of a histogram.
-use crate::output::Fault;
+use expose_io::output::Fault;
 use fastmetrics::metrics::histogram::Histogram;
 use fastmetrics::raw::Fixed;
 use fastmetrics::raw::bucket::exponential_buckets;

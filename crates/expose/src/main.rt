@@ -2,23 +2,19 @@
 #![tactic(auto)]
 
 mod histogram;
-mod output;
-mod scene;
 mod states;
 mod tally;
-#[cfg(test)]
-mod tests;
 mod tree;
 
-use fastmetrics::registry::{Registry, RegistryError};
+ghost use Rattle.fastmetrics.specs.HasHistory.{HasHistory};
+
+use expose_io::output::{Fault, finish};
+use expose_io::scene::{Scene, scene_of_words};
+use fastmetrics::encoder::EncodeMetric;
+use fastmetrics::registry::{Registry, add};
 use histogram::numbers;
-use output::{Fault, finish};
-use scene::{Scene, add_one, choose};
 use states::running_task;
 use std::alloc::Global;
-use std::env;
-use std::env::Env;
-use std::io::ErrorKind;
 use std::process::ExitCode;
 use tally::jobs;
 use tree::{application_metrics, fill};
@@ -72,16 +68,16 @@ fn main(rt: HostRuntime) -> ExitCode {
     ExitCode::from(status)
 }
 
-// The scene that the words after the program's name say. Words that are no text say none.
-fn scene_of_words<R: Env + Alloc<A = Global>>(rt: &R) -> Result<Scene, Fault> {
-    let words = match env::args(rt) {
-        Ok(words) => words,
-        Err(error) if error.kind() == ErrorKind::InvalidData => return Err(Fault::UnknownScene),
-        Err(_) => return Err(Fault::from(RegistryError::Memory)),
-    };
-    let mut given = Vec::new(rt.alloc());
-    for word in words.skip(1) {
-        given.push(word)?;
-    }
-    choose(&given).ok_or(Fault::UnknownScene)
+// Registers the one metric of a scene.
+fn add_one(
+    alloc: Global,
+    registry: &mut Registry,
+    name: &str,
+    help: &str,
+    metric: Box<dyn EncodeMetric>,
+) -> Result<(), Fault>
+    requires { HasHistory registry.old }
+    ensures { HasHistory registry.new }
+{
+    Ok(add(alloc, registry, name, help, metric)?)
 }

@@ -2,7 +2,7 @@
 ghost use Rattle.std.specs.Prelude.{[], ◌∷◌, codes};
 ghost use Rattle.expose.specs.declared.states.Progress.TheVariants.{Pending, Running, Completed, Failed};
 
-use crate::output::Fault;
+use expose_io::output::Fault;
 use fastmetrics::metrics::state_set::{StateSet, StateSetValue};
 use std::alloc::Global;
 

@@ -1,7 +1,7 @@
 //! The metric of the scene of a sum that two workers count.
 ghost use Rattle.std.specs.Prelude.{◌≡◌};
 
-use crate::output::Fault;
+use expose_io::output::Fault;
 use fastmetrics::metrics::counter::ConstCounter;
 use fastmetrics::metrics::tally::{Share, Tally, TallyError, TallyKey};
 use std::alloc::Global;

@@ -4,7 +4,7 @@ ghost use Rattle.fastmetrics.specs.HasHistory.{HasHistory};
 ghost use Rattle.fastmetrics.specs.Labels.{ValuePiece};
 ghost use Rattle.expose.specs.Requests.{method_text, labels_of_request};
 
-use crate::output::Fault;
+use expose_io::output::Fault;
 use fastmetrics::encoder::{
     EncodeError, EncodeLabelSet, EncodeLabelValue, EncodeMetric, LabelEncoder, LabelSetEncoder,
     LabelStr,

@@ -3,8 +3,8 @@ use Rattle.std.specs.Prelude.{◌≡◌, ℕ, List, Option, Result, Ok, Err, ◌
 use Rattle.std.specs.Io.KnownBytes.{Keeps}
 use Rattle.fastmetrics.specs.Exposition.{Exposition}
 use Rattle.fastmetrics.specs.Encoded.{WritesAdmitted, BeginsAdmitted}
-use Rattle.expose.specs.declared.output.Fault.{Fault}
-use Rattle.expose.specs.declared.output.Fault.TheVariants.{UnknownScene, Refused}
+use Rattle.expose_io.specs.declared.output.Fault.{Fault}
+use Rattle.expose_io.specs.declared.output.Fault.TheVariants.{UnknownScene, Refused}
 
 -- the fault says that this layer refused, with this number
 abbrev pub IsRefusal : List ℕ → ℕ → Fault → Type 0

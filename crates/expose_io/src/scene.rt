@@ -1,12 +1,13 @@
 //! The scenes, and the words that name them.
 ghost use Rattle.std.specs.Prelude.{◌≡◌};
-ghost use Rattle.fastmetrics.specs.HasHistory.{HasHistory};
-ghost use Rattle.expose.specs.Scenes.{scene_called, scene_named};
+ghost use Rattle.expose_io.specs.Scenes.{scene_called, scene_named};
 
 use crate::output::Fault;
-use fastmetrics::encoder::EncodeMetric;
-use fastmetrics::registry::{Registry, add};
+use fastmetrics::registry::RegistryError;
 use std::alloc::Global;
+use std::env;
+use std::env::Env;
+use std::io::ErrorKind;
 
 /// What the program shows.
 #[derive(Clone, Copy, Debug, PartialEq, Eq)]
@@ -47,16 +48,16 @@ pub fn choose(words: &[String]) -> Option<Scene>
     }
 }
 
-/// Registers the one metric of a scene.
-pub fn add_one(
-    alloc: Global,
-    registry: &mut Registry,
-    name: &str,
-    help: &str,
-    metric: Box<dyn EncodeMetric>,
-) -> Result<(), Fault>
-    requires { HasHistory registry.old }
-    ensures { HasHistory registry.new }
-{
-    Ok(add(alloc, registry, name, help, metric)?)
+/// The scene that the words after the program's name say. Words that are no text say none. It takes memory for the words.
+pub fn scene_of_words<R: Env + Alloc<A = Global>>(rt: &R) -> Result<Scene, Fault> {
+    let words = match env::args(rt) {
+        Ok(words) => words,
+        Err(error) if error.kind() == ErrorKind::InvalidData => return Err(Fault::UnknownScene),
+        Err(_) => return Err(Fault::from(RegistryError::Memory)),
+    };
+    let mut given = Vec::new(rt.alloc());
+    for word in words.skip(1) {
+        given.push(word)?;
+    }
+    choose(&given).ok_or(Fault::UnknownScene)
 }

@@ -1,6 +1,6 @@
 //! What the program says of faults, and a word that is no text.
 use crate::output::{Fault, finish};
-use crate::scene_of_words;
+use crate::scene::scene_of_words;
 use fastmetrics::metrics::tally::TallyError;
 use fastmetrics::raw::MetricError;
 use fastmetrics::raw::bucket::BucketError;
