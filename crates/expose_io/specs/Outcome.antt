@@ -16,11 +16,6 @@ abbrev pub status_of : Fault → ℕ
 status_of UnknownScene = 2
 status_of _ = 1
 
--- At `Ok` the document of an exposition that is admitted was written, else nothing or a beginning of such a document.
-abbrev pub PrintsDocument : (Exposition → Type 0) → Option (List ℕ) → Option (List ℕ) → Result (Unit {0}) Fault → Type 0
-PrintsDocument IsAdmitted old new (Ok _) = WritesAdmitted IsAdmitted old new
-PrintsDocument IsAdmitted old new (Err _) = Keeps old new ⊎ BeginsAdmitted IsAdmitted old new
-
 -- For a registry, the document of an exposition that it admits and 0, or nothing or a beginning of such a document and 1.
 -- Nothing and the fault's status if there is no registry.
 abbrev pub Finishes : {R : Type 0} → (R → Exposition → Type 0) → Option (List ℕ) → Option (List ℕ) → Result R Fault → ℕ → Type 0

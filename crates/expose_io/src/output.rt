@@ -8,7 +8,8 @@ ghost use Rattle.fm_encode_error.specs.EncodeErrors.{error_number as encode_numb
 ghost use Rattle.fm_encode_error.specs.declared.EncodeError.{EncodeError as AnEncodeError};
 ghost use Rattle.fastmetrics.specs.HasHistory.{HasHistory};
 ghost use Rattle.fastmetrics.specs.Admits.{AdmittedBy};
-ghost use Rattle.expose_io.specs.Outcome.{IsRefusal, status_of, PrintsDocument, Finishes};
+ghost use Rattle.expose_io.specs.Outcome.{IsRefusal, status_of, Finishes};
+ghost use Rattle.expose_io.specs.inside.Printed.{PrintsDocument};
 
 use fastmetrics::format::text::{EncodeError, encode};
 use fastmetrics::metrics::tally::TallyError;

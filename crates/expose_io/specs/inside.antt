@@ -1,0 +1,2 @@
+-- What public contracts don't cite: views, stored forms, laws, and the words of private functions.
+pub mod Printed
