@@ -1,15 +1,21 @@
-//! Constants, and metrics of one and of two own types.
+//! Constants, and metrics of two own types.
 
 use crate::support::expect_root;
-use fastmetrics::encoder::{EncodeError, ExemplarLabels, LabeledExemplar};
-use fastmetrics::metrics::counter::{ConstCounter, ExemplarCounter};
+use fastmetrics::encoder::{EncodeError, ExemplarLabels, LabeledExemplar, StaticStr};
+use fastmetrics::metrics::counter::{ConstCounter, Counter, ExemplarCounter};
+use fastmetrics::metrics::family::{PairFamily, with_pairs};
 use fastmetrics::metrics::gauge::ConstGauge;
 use fastmetrics::metrics::histogram::ExemplarHistogram;
+use fastmetrics::metrics::state_set::StateSet;
 use fastmetrics::metrics::unknown::Unknown;
 use fastmetrics::raw::{Fixed, TryDefault};
 use fastmetrics::registry::{Metric, OneOf, Registry, Root, Unit};
+use fm_test_support::jobs::Job;
 use std::alloc::Global;
 use std::test::Fail;
+
+// Counters by ports.
+type Ports<H> = PairFamily<u64, Counter, H, 1>;
 
 const CONSTANTS: &str = "# TYPE a counter\n\
 # HELP a H\n\
@@ -23,13 +29,24 @@ b_volts 0.5\n\
 c -4\n\
 # EOF\n";
 
+const OWN: &str = "# TYPE phase stateset\n\
+# HELP phase H\n\
+phase{phase=\"pending\"} 0\n\
+phase{phase=\"running\"} 1\n\
+phase{phase=\"completed\"} 0\n\
+phase{phase=\"failed\"} 0\n\
+# TYPE sizes counter\n\
+# HELP sizes H\n\
+sizes_total{size=\"4\"} 1\n\
+# EOF\n";
+
 const ROUTES: &str = "# TYPE routes counter\n\
 # HELP routes H\n\
-routes_total 1\n\
+routes_total{port=\"80\"} 1\n\
 # TYPE ways_bytes counter\n\
 # HELP ways_bytes H\n\
 # UNIT ways_bytes bytes\n\
-ways_bytes_total 1\n\
+ways_bytes_total{port=\"80\"} 1\n\
 # EOF\n";
 
 const TRACED: &str = "# TYPE requests counter\n\
@@ -53,15 +70,34 @@ fn constants(rt: HostRuntime) -> Result<(), Fail> {
 }
 
 #[test]
+fn two_own_types(rt: HostRuntime) -> Result<(), Fail> {
+    let alloc = rt.alloc();
+    let mut root = Root::with_own(Registry::builder(), rt, alloc);
+    let phase = StateSet::new(alloc, Job::Pending)?;
+    root.register(
+        "phase",
+        "H",
+        None,
+        Metric::Own(OneOf::First(phase.clone()?)),
+    )?;
+    let sizes = PairFamily::<u64, Counter, _, 1>::try_default(rt, alloc)?;
+    root.register(
+        "sizes",
+        "H",
+        None,
+        Metric::Own(OneOf::Second(sizes.clone()?)),
+    )?;
+    phase.set(Job::Running)?;
+    with_pairs(&sizes, &[(StaticStr("size"), 4)], |it| it.inc())?;
+    expect_root(alloc, &root, OWN)
+}
+
+#[test]
 fn one_own_type(rt: HostRuntime) -> Result<(), Fail> {
     let alloc = rt.alloc();
-    let mut root = Root::<_, ExemplarCounter<HostRuntime>>::with_own(
-        Registry::builder(),
-        rt,
-        alloc,
-    );
-    let routes: ExemplarCounter<_> = root.own("routes", "H")?;
-    routes.counter().inc();
+    let mut root = Root::<_, Ports<HostRuntime>>::with_own(Registry::builder(), rt, alloc);
+    let routes: Ports<HostRuntime> = root.own("routes", "H")?;
+    with_pairs(&routes, &[(StaticStr("port"), 80)], |it| it.inc())?;
     root.add_own("ways", "H", Some(Unit::Bytes), &routes)?;
     expect_root(alloc, &root, ROUTES)
 }
