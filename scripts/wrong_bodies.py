@@ -44,6 +44,12 @@ def text_of(path):
         return file.read()
 
 
+def head_at(lines, at):
+    """The head of a block that begins in a line, on one line."""
+    end = next(i for i in range(at, len(lines)) if lines[i].endswith("{"))
+    return re.sub(r"<\s|,?\s(?=>)", lambda it: it[0].strip(" ,"), " ".join(it.strip() for it in lines[at : end + 1]))
+
+
 class Function:
     """The function around a line of a file, with its attributes."""
 
@@ -59,7 +65,7 @@ class Function:
             self.first -= 1
         module = self.module = [it for it in file.removesuffix(".rt").split("/")[1:] if it not in ("lib", "main")]
         above = next((i for i in range(fn, -1, -1) if BLOCK.match(lines[i])), None) if is_within and indent else None
-        block = "" if above is None else lines[above]
+        block = "" if above is None else head_at(lines, above)
         head = IMPL.match(re.sub(r"<dyn (\w+)>", r"Dyn\1", block))
         # The type and the trait of a method, as a check joins them; nothing where they have parameters.
         self.owner = head[2][:1].upper() + head[2][1:] + (head[1] or "") if head else ""
@@ -72,7 +78,9 @@ class Function:
         self.path = "::".join(path)
 
     def may_be(self, other):
-        """Whether a check may name the other function as it names this one."""
+        """Whether a check may name the other function as it names this one. What stands outside functions it names by its line."""
+        if not self.name or not other.name:
+            return (self.file, self.first) == (other.file, other.first)
         return self.name == other.name and (self.owner == other.owner or not self.owner or not other.owner)
 
     def refusals(self, said):
@@ -207,8 +215,7 @@ class Crate:
         for crate in self.below(crates):
             words += ["-L", f"dependency={os.path.dirname(rlib(crate.name))}"]
         words += ["--antt-project", f"{KIT}/rattle/logic/antt-project.json", "--logic-built", f"{KIT}/logic_built"]
-        # What stands in a crate of tests is a part of the tests.
-        return [*words, *["--test"] * self.name.startswith("fm_tests_"), "--links", f"{self.name}=", "--jobs", "1"]
+        return [*words, "--links", f"{self.name}=", "--jobs", "1"]
 
     def checked_with(self, wrongs, crates, run, proved):
         """What a check of the functions of these wrong bodies says of a copy in which they stand, and the functions of each. What is proved is kept for

@@ -3,10 +3,14 @@
 use fm_core::encoder::{EncodeError, EncodeMetric, StaticStr};
 use fm_family::{PairFamily, with_pairs};
 use fm_metrics::Gauge;
-use fm_raw::TryDefault;
+use fm_raw::{MetricError, TryDefault};
 use fm_test_support::support::{expect_document_of, expect_refusal_under, registry_of};
 use std::alloc::Global;
+use std::sync::Wait;
 use std::test::Fail;
+
+// Pages by one label.
+type Pages<H> = PairFamily<StaticStr, Gauge, H, 1>;
 
 // Fails if this is not the document of a metric alone, under these constant labels.
 fn expect_under<M: EncodeMetric + Drop>(
@@ -48,10 +52,9 @@ fn escapes_in_constant_labels_and_members(rt: HostRuntime) -> Result<(), Fail> {
     )
 }
 
-#[test]
-fn a_second_member_with_the_name_of_a_constant_label(rt: HostRuntime) -> Result<(), Fail> {
-    let alloc = rt.alloc();
-    let pages = PairFamily::<StaticStr, Gauge, _, 1>::try_default(rt, alloc)?;
+// Two pages, of which one is named by a zone and one by an environment.
+fn two_pages<H: Wait + Clone + Drop>(wait: H, alloc: Global) -> Result<Pages<H>, MetricError> {
+    let pages = Pages::try_default(wait, alloc)?;
     for (name, value) in [("zone", "b"), ("env", "prod")] {
         with_pairs(
             &pages,
@@ -59,22 +62,28 @@ fn a_second_member_with_the_name_of_a_constant_label(rt: HostRuntime) -> Result<
             |page| page.inc(),
         )?;
     }
-    expect_refusal_under(
-        alloc,
-        &[("env", "dev")],
-        pages.clone()?,
-        EncodeError::DuplicateLabel,
-    )?;
-    expect_refusal_under(
-        alloc,
-        &[("env", "prod")],
-        pages.clone()?,
-        EncodeError::DuplicateLabel,
-    )?;
+    Ok(pages)
+}
+
+#[test]
+fn a_second_member_with_the_name_of_a_constant_label(rt: HostRuntime) -> Result<(), Fail> {
+    for value in ["dev", "prod"] {
+        expect_refusal_under(
+            rt.alloc(),
+            &[("env", value)],
+            two_pages(rt, rt.alloc())?,
+            EncodeError::DuplicateLabel,
+        )?;
+    }
+    Ok(())
+}
+
+#[test]
+fn members_with_other_names_than_a_constant_label(rt: HostRuntime) -> Result<(), Fail> {
     expect_under(
-        alloc,
+        rt.alloc(),
         &[("cell", "7")],
-        pages,
+        two_pages(rt, rt.alloc())?,
         "# TYPE f gauge\n# HELP f H\nf{cell=\"7\",zone=\"b\"} 1\nf{cell=\"7\",env=\"prod\"} 1\n# EOF\n",
     )
 }

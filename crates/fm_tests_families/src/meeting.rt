@@ -23,10 +23,11 @@ const KNOWN: Outcome = Outcome { error: Some(false) };
 // Whether a second thread comes here while this one waits, which gives up after many turns.
 fn meets(come: &AtomicU64) -> bool {
     come.fetch_add(1, Ordering::SeqCst);
-    for _ in 0..2_000_000_000u64 {
+    for _ in 0..10_000_000u64 {
         if come.load(Ordering::SeqCst) >= 2 {
             return true;
         }
+        thread::yield_now();
     }
     false
 }

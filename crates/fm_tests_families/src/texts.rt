@@ -18,12 +18,11 @@ fn members_by_texts(rt: HostRuntime) -> Result<(), Fail> {
         let counted = with_texts(alloc, &requests, &labels, |count| count.inc())?;
         assert!(rt; counted == before);
     }
-    let metric = Box::new(alloc, requests)?;
-    let mut registry = Registry::default();
-    add(alloc, &mut registry, "requests", "H", metric)?;
-    expect_document_of(
+    expect_document(
         alloc,
-        &registry,
+        "requests",
+        None,
+        requests,
         "# TYPE requests counter\n# HELP requests H\nrequests_total{method=\"GET\",status=\"200\"} 2\nrequests_total{method=\"PUT\",status=\"200\"} 1\n# EOF\n",
     )
 }

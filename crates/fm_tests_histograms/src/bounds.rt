@@ -49,6 +49,7 @@ const DEFAULTS: [i64; 11] = [
 #[test]
 fn default_bounds(rt: HostRuntime) -> Result<(), Fail> {
     let sizes = Histogram::try_default(rt, rt.alloc())?;
+    assert!(rt; sizes.created().is_none());
     assert!(rt; sizes.with_snapshot(|all| has_bounds(all, &DEFAULTS)));
     let snapshot = HistogramSnapshot::try_default(rt, rt.alloc())?;
     assert!(rt; has_bounds(&snapshot, &DEFAULTS));

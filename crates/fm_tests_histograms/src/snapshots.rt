@@ -1,8 +1,8 @@
 //! Histograms and their snapshots against values from outside.
 
 use fm_histogram::{GaugeHistogramSnapshot, Histogram, HistogramSnapshot};
-use fm_raw::bucket::{Bound, Bucket, default_buckets};
-use fm_raw::{Fixed, FixedSum, MetricError, TryDefault};
+use fm_raw::bucket::{Bound, Bucket};
+use fm_raw::{Fixed, FixedSum, MetricError};
 use fm_test_support::histograms::{expect_observed, expect_observed_gauge, have_counts, whole};
 use std::alloc::Global;
 use std::sync::Wait;
@@ -63,27 +63,6 @@ fn is_not_merged(
     count: u64,
 ) -> bool {
     all.merge(other) == Err(error) && all.count() == count
-}
-
-#[test]
-fn other_bounds_are_not_merged(rt: HostRuntime) -> Result<(), Fail> {
-    let alloc = rt.alloc();
-    let mut all = merged(alloc)?;
-    let defaults = HistogramSnapshot::new(alloc, default_buckets().iter().copied())?;
-    assert!(rt; is_not_merged(&mut all, &defaults, MetricError::UnequalBounds, 6));
-    assert!(rt; defaults.buckets().len() == 12);
-    Ok(())
-}
-
-#[test]
-fn counts_of_a_hundred(rt: HostRuntime) -> Result<(), Fail> {
-    let bounds = [whole(1), whole(2), whole(4), whole(8), whole(16)];
-    let mut all = HistogramSnapshot::new(rt.alloc(), bounds.iter().copied())?;
-    for n in 1..101 {
-        all.observe(whole(n))?;
-    }
-    assert!(rt; have_counts(all.buckets(), &[1, 1, 2, 4, 8, 84]));
-    Ok(())
 }
 
 // The snapshot of the first values by the bounds 1 and 2, merged with that of the second.
@@ -164,16 +143,6 @@ fn histograms_keep_when_they_were_created(rt: HostRuntime) -> Result<(), Fail> {
     assert!(rt; sizes.clone()?.created() == Some(since));
     assert!(rt; sizes.observe(whole(-1)).is_ok());
     assert!(rt; sizes.with_snapshot(|all| all.count()) == 0);
-    Ok(())
-}
-
-#[test]
-fn default_histograms(rt: HostRuntime) -> Result<(), Fail> {
-    let sizes = Histogram::try_default(rt, rt.alloc())?;
-    assert!(rt; sizes.created().is_none());
-    assert!(rt; sizes.with_snapshot(|all| all.buckets().len()) == 12);
-    let snapshot = HistogramSnapshot::try_default(rt, rt.alloc())?;
-    assert!(rt; snapshot.buckets().len() == 12);
     Ok(())
 }
 

@@ -102,16 +102,22 @@ fn no_labels() -> [(String, u64); 0] {
     []
 }
 
-// A gauge with such a label set.
-fn contained(alloc: Global, labels: Container) -> Result<Box<dyn EncodeMetric>, AllocError> {
+// Fails if these are not the lines of a gauge with such a label set.
+fn expect_contained(alloc: Global, labels: Container, want: &str) -> Result<(), Fail> {
     let five = ConstGauge::new(5i64);
-    Ok(match labels {
-        Container::List => Box::new(alloc, OneMember::gauge(in_a_list(alloc)?, five))?,
-        Container::Deque => Box::new(alloc, OneMember::gauge(in_a_deque(alloc)?, five))?,
-        Container::Linked => Box::new(alloc, OneMember::gauge(in_a_linked_list(alloc)?, five))?,
-        Container::Nothing => Box::new(alloc, OneMember::gauge((), five))?,
-        Container::EmptyArray => Box::new(alloc, OneMember::gauge(no_labels(), five))?,
-    })
+    match labels {
+        Container::List => expect_lines(alloc, OneMember::gauge(in_a_list(alloc)?, five), want),
+        Container::Deque => expect_lines(alloc, OneMember::gauge(in_a_deque(alloc)?, five), want),
+        Container::Linked => {
+            expect_lines(
+                alloc,
+                OneMember::gauge(in_a_linked_list(alloc)?, five),
+                want,
+            )
+        }
+        Container::Nothing => expect_lines(alloc, OneMember::gauge((), five), want),
+        Container::EmptyArray => expect_lines(alloc, OneMember::gauge(no_labels(), five), want),
+    }
 }
 
 #[test]
@@ -123,7 +129,7 @@ fn containers(rt: HostRuntime) -> Result<(), Fail> {
         (Container::Nothing, "t 5\n# EOF\n"),
         (Container::EmptyArray, "t 5\n# EOF\n"),
     ] {
-        expect_lines(rt.alloc(), contained(rt.alloc(), labels)?, want)?;
+        expect_contained(rt.alloc(), labels, want)?;
     }
     Ok(())
 }

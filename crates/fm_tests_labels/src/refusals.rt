@@ -3,16 +3,14 @@ ghost use Rattle.std.specs.Prelude.{◌≡◌, [], ◌∷◌, None, ◌⊎◌};
 ghost use Rattle.fm_encoder.specs.Points.{CounterPoint};
 
 use crate::parts::{NameAlone, TwoNames, TwoValues, ValueFirst};
-use fastmetrics::encoder::{
-    EncodeCounterValue, EncodeError, EncodeMetric, EncodePoint, PointEncoder,
-};
+use fastmetrics::encoder::{EncodeCounterValue, EncodeError, EncodePoint, PointEncoder};
 use fastmetrics::metrics::counter::ConstCounter;
 use fastmetrics::metrics::gauge::ConstGauge;
 use fastmetrics::raw::MetricType;
 use fm_test_support::members::OneMember;
 use fm_test_support::parts::{Faulty, Silent, Twice, UnknownOf, Word};
 use fm_test_support::support::{expect_document, expect_refusal};
-use std::alloc::{AllocError, Global};
+use std::alloc::Global;
 use std::test::Fail;
 
 // Labels whose parts come in another order, or are missing. Each has a name.
@@ -24,23 +22,27 @@ enum Disorder {
     ValueAgain(&'static str),
 }
 
-// A gauge with such a label. Where a second name comes, the first is `a`.
-fn out_of_order(alloc: Global, label: Disorder) -> Result<Box<dyn EncodeMetric>, AllocError> {
+// Fails if a gauge with such a label is not refused by this error. Where a second name comes, the first is `a`.
+fn expect_disorder(alloc: Global, label: Disorder, error: EncodeError) -> Result<(), Fail> {
     let five = ConstGauge::new(5i64);
-    Ok(match label {
+    match label {
         Disorder::ValueBefore(name) => {
-            Box::new(alloc, OneMember::gauge([ValueFirst(name)], five))?
+            expect_refusal(alloc, OneMember::gauge([ValueFirst(name)], five), error)
         }
         Disorder::ThenName(second) => {
-            Box::new(alloc, OneMember::gauge([TwoNames("a", second)], five))?
+            expect_refusal(
+                alloc,
+                OneMember::gauge([TwoNames("a", second)], five),
+                error,
+            )
         }
         Disorder::WithoutValue(name) => {
-            Box::new(alloc, OneMember::gauge([NameAlone(name)], five))?
+            expect_refusal(alloc, OneMember::gauge([NameAlone(name)], five), error)
         }
         Disorder::ValueAgain(name) => {
-            Box::new(alloc, OneMember::gauge([TwoValues(name)], five))?
+            expect_refusal(alloc, OneMember::gauge([TwoValues(name)], five), error)
         }
-    })
+    }
 }
 
 #[test]
@@ -55,7 +57,7 @@ fn labels_out_of_order(rt: HostRuntime) -> Result<(), Fail> {
         (Disorder::ValueAgain("a"), EncodeError::MalformedLabel),
         (Disorder::WithoutValue("1a"), EncodeError::InvalidLabelName),
     ] {
-        expect_refusal(rt.alloc(), out_of_order(rt.alloc(), label)?, error)?;
+        expect_disorder(rt.alloc(), label, error)?;
     }
     Ok(())
 }
@@ -81,20 +83,21 @@ enum Miscounted {
     UnknownTwice,
 }
 
-// Such a metric.
-fn boxed_miscounted(
-    alloc: Global,
-    metric: Miscounted,
-) -> Result<Box<dyn EncodeMetric>, AllocError> {
+// Fails if such a metric is not refused by this error.
+fn expect_miscounted(alloc: Global, metric: Miscounted, error: EncodeError) -> Result<(), Fail> {
     let unknown = MetricType::Unknown;
-    Ok(match metric {
-        Miscounted::SilentGauge => Box::new(alloc, ConstGauge::new(Silent))?,
-        Miscounted::GaugeTwice => Box::new(alloc, ConstGauge::new(Twice))?,
-        Miscounted::SilentCounter => Box::new(alloc, ConstCounter::new(Silent))?,
-        Miscounted::CounterTwice => Box::new(alloc, ConstCounter::new(Twice))?,
-        Miscounted::SilentUnknown => Box::new(alloc, one_of(unknown, UnknownOf(Silent)))?,
-        Miscounted::UnknownTwice => Box::new(alloc, one_of(unknown, UnknownOf(Twice)))?,
-    })
+    match metric {
+        Miscounted::SilentGauge => expect_refusal(alloc, ConstGauge::new(Silent), error),
+        Miscounted::GaugeTwice => expect_refusal(alloc, ConstGauge::new(Twice), error),
+        Miscounted::SilentCounter => expect_refusal(alloc, ConstCounter::new(Silent), error),
+        Miscounted::CounterTwice => expect_refusal(alloc, ConstCounter::new(Twice), error),
+        Miscounted::SilentUnknown => expect_refusal(
+            alloc,
+            one_of(unknown, UnknownOf(Silent)),
+            error,
+        ),
+        Miscounted::UnknownTwice => expect_refusal(alloc, one_of(unknown, UnknownOf(Twice)), error),
+    }
 }
 
 #[test]
@@ -107,7 +110,7 @@ fn values_of_points(rt: HostRuntime) -> Result<(), Fail> {
         (Miscounted::SilentUnknown, EncodeError::MissingValue),
         (Miscounted::UnknownTwice, EncodeError::ValueTwice),
     ] {
-        expect_refusal(rt.alloc(), boxed_miscounted(rt.alloc(), metric)?, error)?;
+        expect_miscounted(rt.alloc(), metric, error)?;
     }
     Ok(())
 }
@@ -140,17 +143,21 @@ enum Misfit {
     OtherType(MetricType),
 }
 
-// Such a metric.
-fn boxed_misfit(alloc: Global, metric: Misfit) -> Result<Box<dyn EncodeMetric>, AllocError> {
+// Fails if such a metric is not refused by this error.
+fn expect_misfit(alloc: Global, metric: Misfit, error: EncodeError) -> Result<(), Fail> {
     let name = [(Word("1a"), 1)];
     let (counter, gauge) = (ConstCounter::new(5u64), ConstGauge::new(5i64));
-    Ok(match metric {
-        Misfit::OtherPoint => Box::new(alloc, OneMember::gauge((), counter))?,
-        Misfit::OtherPointAndName => Box::new(alloc, OneMember::gauge(name, counter))?,
+    match metric {
+        Misfit::OtherPoint => expect_refusal(alloc, OneMember::gauge((), counter), error),
+        Misfit::OtherPointAndName => expect_refusal(alloc, OneMember::gauge(name, counter), error),
         Misfit::NameAndSilence => {
-            Box::new(alloc, OneMember::gauge(name, ConstGauge::new(Silent)))?
+            expect_refusal(
+                alloc,
+                OneMember::gauge(name, ConstGauge::new(Silent)),
+                error,
+            )
         }
-        Misfit::OtherType(metric_type) => Box::new(
+        Misfit::OtherType(metric_type) => expect_refusal(
             alloc,
             OneMember {
                 metric_type,
@@ -158,8 +165,9 @@ fn boxed_misfit(alloc: Global, metric: Misfit) -> Result<Box<dyn EncodeMetric>, 
                 labels: [(Word("le"), 1), (Word("quantile"), 2)],
                 point: gauge,
             },
-        )?,
-    })
+            error,
+        ),
+    }
 }
 
 #[test]
@@ -173,7 +181,7 @@ fn order_of_tests(rt: HostRuntime) -> Result<(), Fail> {
         (Misfit::OtherType(MetricType::GaugeHistogram), mismatch),
         (Misfit::OtherType(MetricType::Summary), mismatch),
     ] {
-        expect_refusal(rt.alloc(), boxed_misfit(rt.alloc(), metric)?, error)?;
+        expect_misfit(rt.alloc(), metric, error)?;
     }
     Ok(())
 }
@@ -187,19 +195,20 @@ enum Where {
     InValue,
 }
 
-// A gauge that returns this error there.
-fn boxed_faulty(
+// Fails if a gauge that returns this error there is not refused by that one.
+fn expect_fault_at(
     alloc: Global,
     own: EncodeError,
     at: Where,
-) -> Result<Box<dyn EncodeMetric>, AllocError> {
+    error: EncodeError,
+) -> Result<(), Fail> {
     let five = ConstGauge::new(5i64);
-    Ok(match at {
-        Where::InLabel => Box::new(alloc, OneMember::gauge([Faulty(own)], five))?,
-        Where::InLabels => Box::new(alloc, OneMember::gauge(Faulty(own), five))?,
-        Where::InPoint => Box::new(alloc, OneMember::gauge((), Faulty(own)))?,
-        Where::InValue => Box::new(alloc, ConstGauge::new(Faulty(own)))?,
-    })
+    match at {
+        Where::InLabel => expect_refusal(alloc, OneMember::gauge([Faulty(own)], five), error),
+        Where::InLabels => expect_refusal(alloc, OneMember::gauge(Faulty(own), five), error),
+        Where::InPoint => expect_refusal(alloc, OneMember::gauge((), Faulty(own)), error),
+        Where::InValue => expect_refusal(alloc, ConstGauge::new(Faulty(own)), error),
+    }
 }
 
 // Fails where a gauge that returns this error is not refused so, wherever it returns it.
@@ -210,7 +219,7 @@ fn expect_fault(alloc: Global, own: EncodeError, error: EncodeError) -> Result<(
         Where::InPoint,
         Where::InValue,
     ] {
-        expect_refusal(alloc, boxed_faulty(alloc, own, at)?, error)?;
+        expect_fault_at(alloc, own, at, error)?;
     }
     Ok(())
 }
@@ -250,14 +259,14 @@ enum Before {
     OneNumber,
 }
 
-// A counter that writes this, and has such an exemplar.
-fn before_exemplar(alloc: Global, number: Before) -> Result<Box<dyn EncodeMetric>, AllocError> {
+// Fails if a counter that writes this, and has such an exemplar, is not refused by this error.
+fn expect_before_exemplar(alloc: Global, number: Before, error: EncodeError) -> Result<(), Fail> {
     let counter = MetricType::Counter;
-    Ok(match number {
-        Before::NoNumber => Box::new(alloc, one_of(counter, FaultyExemplar(Silent)))?,
-        Before::TwoNumbers => Box::new(alloc, one_of(counter, FaultyExemplar(Twice)))?,
-        Before::OneNumber => Box::new(alloc, one_of(counter, FaultyExemplar(5u64)))?,
-    })
+    match number {
+        Before::NoNumber => expect_refusal(alloc, one_of(counter, FaultyExemplar(Silent)), error),
+        Before::TwoNumbers => expect_refusal(alloc, one_of(counter, FaultyExemplar(Twice)), error),
+        Before::OneNumber => expect_refusal(alloc, one_of(counter, FaultyExemplar(5u64)), error),
+    }
 }
 
 #[test]
@@ -267,7 +276,7 @@ fn numbers_before_exemplars(rt: HostRuntime) -> Result<(), Fail> {
         (Before::TwoNumbers, EncodeError::ValueTwice),
         (Before::OneNumber, EncodeError::MetricFault),
     ] {
-        expect_refusal(rt.alloc(), before_exemplar(rt.alloc(), number)?, error)?;
+        expect_before_exemplar(rt.alloc(), number, error)?;
     }
     Ok(())
 }

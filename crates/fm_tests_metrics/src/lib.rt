@@ -21,8 +21,6 @@ mod shared;
 #[cfg(test)]
 mod shown;
 #[cfg(test)]
-mod single;
-#[cfg(test)]
 mod sources;
 #[cfg(test)]
 mod states;

@@ -1,11 +1,10 @@
-//! Counters and gauges that clones and threads share, by their values and by their documents, and the words that hold them.
+//! Counters and gauges that clones and threads share, by their values and by their documents.
 
 use fm_core::encoder::EncodeMetric;
 use fm_metrics::{Counter, Gauge};
-use fm_raw::{Atomic, Fixed, Number, TryDefault};
+use fm_raw::TryDefault;
 use fm_test_support::support::{document_alone, expect_text};
 use std::alloc::Global;
-use std::sync::atomic::{AtomicI32, AtomicI64, AtomicIsize, AtomicU32, AtomicU64, AtomicUsize};
 use std::test::Fail;
 use std::thread;
 
@@ -114,43 +113,4 @@ fn clones_share_one_value(rt: HostRuntime) -> Result<(), Fail> {
     let level = Gauge::<i64>::new(alloc, 7)?;
     level.clone()?.set(-5);
     expect_gauge(alloc, level, "-5")
-}
-
-#[test]
-fn gauges_that_wrap(rt: HostRuntime) -> Result<(), Fail> {
-    let alloc = rt.alloc();
-    let level = Gauge::<i32>::new(alloc, 0)?;
-    level.clone()?.set(2147483647);
-    assert!(rt; level.inc() == 2147483647 && level.get() == -2147483648);
-    expect_gauge(alloc, level, "-2147483648")
-}
-
-#[test]
-fn counters_that_wrap(rt: HostRuntime) -> Result<(), Fail> {
-    let alloc = rt.alloc();
-    let hits = Counter::<u32>::try_default(rt, alloc)?;
-    hits.set(4294967295)?;
-    assert!(rt; hits.inc() == 4294967295 && hits.total() == 0);
-    expect_counter(alloc, hits, "0")
-}
-
-// Whether a word keeps the greater of its value and another, and returns the value before.
-fn keeps_the_greater<N: Number, W: Atomic<N>>(less: N, greater: N) -> bool {
-    let word = W::default();
-    word.set(less);
-    let before = word.raise(greater);
-    let kept = word.raise(less);
-    before == less && kept == greater && word.get() == greater
-}
-
-#[test]
-fn words_keep_the_greater_value(rt: HostRuntime) {
-    assert!(rt; keeps_the_greater::<i32, AtomicI32>(-5, 7));
-    assert!(rt; keeps_the_greater::<i64, AtomicI64>(-5, 7));
-    assert!(rt; keeps_the_greater::<isize, AtomicIsize>(-5, 7));
-    assert!(rt; keeps_the_greater::<u32, AtomicU32>(5, 7));
-    assert!(rt; keeps_the_greater::<u64, AtomicU64>(5, 7));
-    assert!(rt; keeps_the_greater::<usize, AtomicUsize>(5, 7));
-    let (less, greater) = (Fixed::from_millionths(-5), Fixed::ONE);
-    assert!(rt; keeps_the_greater::<Fixed, AtomicI64>(less, greater));
 }

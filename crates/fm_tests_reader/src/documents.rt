@@ -1,5 +1,5 @@
 //! Documents that are read and written again.
-use fastmetrics::format::text::{CONTENT_TYPE, encode_exposition, read};
+use fm_core::format::text::{CONTENT_TYPE, encode_exposition, read};
 use std::alloc::Global;
 use std::test::Fail;
 

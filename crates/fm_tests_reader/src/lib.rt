@@ -4,8 +4,4 @@
 #[cfg(test)]
 mod documents;
 #[cfg(test)]
-mod metrics;
-#[cfg(test)]
-mod readings;
-#[cfg(test)]
 mod refusals;

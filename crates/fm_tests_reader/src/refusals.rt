@@ -1,5 +1,5 @@
 //! Texts that are no documents, and the lines at which they are refused.
-use fastmetrics::format::text::{ReadError, read};
+use fm_core::format::text::{ReadError, read};
 use std::alloc::{AllocError, Global};
 use std::test::Fail;
 
@@ -222,5 +222,19 @@ fn cut_documents(rt: HostRuntime) -> Result<(), Fail> {
         }
     }
     assert!(rt; read(alloc, TREE).is_ok());
+    Ok(())
+}
+
+// Whether an error has this text and this number.
+fn is_shown(alloc: Global, error: &ReadError, text: &str, number: u8) -> Result<bool, AllocError> {
+    Ok(error.to_string(alloc)?.as_str() == text && error.number() == number)
+}
+
+#[test]
+fn refusals_to_read(rt: HostRuntime) -> Result<(), Fail> {
+    let alloc = rt.alloc();
+    assert!(rt; is_shown(alloc, &ReadError::Memory, "Memory", 1)?);
+    let refusal = ReadError::NotADocument { line: 3 };
+    assert!(rt; is_shown(alloc, &refusal, "NotADocument", 2)?);
     Ok(())
 }

@@ -1,14 +1,12 @@
 //! What decides which registry a program shares.
 ghost use Rattle.fm_registry.specs.HasHistory.{HasHistory};
 
-use crate::global_support::{One, UpAndDown, document};
-use fm_core::encoder::EncodeMetric;
+use crate::global_support::{One, UpAndDown, document, gauge, texts_of};
 use fm_core::registry::{
     GlobalRegistry, Registry, RegistryError, SetRegistryError, register, register_global,
     register_metric, register_with_unit, set_global_registry, with_global_registry,
     with_global_registry_mut,
 };
-use fm_metrics::ConstGauge;
 use fm_raw::Unit;
 use fm_test_support::support::expect_text;
 use std::alloc::Global;
@@ -37,14 +35,8 @@ fn expect_decided<R: Wait>(
 fn registering_decides(rt: HostRuntime) -> Result<(), Fail> {
     let alloc = rt.alloc();
     let global: GlobalRegistry = GlobalRegistry::new();
-    let (name, help) = (String::from_str(alloc, "g")?, String::from_str(alloc, "H")?);
-    register(
-        &rt,
-        &global,
-        name,
-        help,
-        Box::new(alloc, ConstGauge::new(7i64))?,
-    )?;
+    let (name, help) = texts_of(alloc, "g", "H")?;
+    register(&rt, &global, name, help, gauge(alloc, 7)?)?;
     expect_decided(
         &rt,
         alloc,
@@ -57,8 +49,8 @@ fn registering_decides(rt: HostRuntime) -> Result<(), Fail> {
 fn registering_with_a_unit_decides(rt: HostRuntime) -> Result<(), Fail> {
     let alloc = rt.alloc();
     let global: GlobalRegistry = GlobalRegistry::new();
-    let (name, help) = (String::from_str(alloc, "g")?, String::from_str(alloc, "H")?);
-    let metric: Box<dyn EncodeMetric> = Box::new(alloc, ConstGauge::new(7i64))?;
+    let (name, help) = texts_of(alloc, "g", "H")?;
+    let metric = gauge(alloc, 7)?;
     register_with_unit(&rt, &global, name, help, Unit::Bytes, metric)?;
     expect_decided(
         &rt,
@@ -72,8 +64,8 @@ fn registering_with_a_unit_decides(rt: HostRuntime) -> Result<(), Fail> {
 fn registering_a_metric_decides(rt: HostRuntime) -> Result<(), Fail> {
     let alloc = rt.alloc();
     let global: GlobalRegistry = GlobalRegistry::new();
-    let (name, help) = (String::from_str(alloc, "g")?, String::from_str(alloc, "H")?);
-    let metric: Box<dyn EncodeMetric> = Box::new(alloc, ConstGauge::new(7i64))?;
+    let (name, help) = texts_of(alloc, "g", "H")?;
+    let metric = gauge(alloc, 7)?;
     register_metric(&rt, &global, name, help, None, metric)?;
     expect_decided(
         &rt,
@@ -87,8 +79,8 @@ fn registering_a_metric_decides(rt: HostRuntime) -> Result<(), Fail> {
 fn registering_all_of_its_own_decides(rt: HostRuntime) -> Result<(), Fail> {
     let alloc = rt.alloc();
     let global: GlobalRegistry = GlobalRegistry::new();
-    let up: Box<dyn EncodeMetric> = Box::new(alloc, ConstGauge::new(1i64))?;
-    let down: Box<dyn EncodeMetric> = Box::new(alloc, ConstGauge::new(-1i64))?;
+    let up = gauge(alloc, 1)?;
+    let down = gauge(alloc, -1)?;
     register_global(&rt, alloc, &global, &UpAndDown::new(up, down))?;
     expect_decided(
         &rt,
@@ -102,11 +94,8 @@ fn registering_all_of_its_own_decides(rt: HostRuntime) -> Result<(), Fail> {
 fn a_refused_registration_decides(rt: HostRuntime) -> Result<(), Fail> {
     let alloc = rt.alloc();
     let global: GlobalRegistry = GlobalRegistry::new();
-    let (name, help) = (
-        String::from_str(alloc, "no name")?,
-        String::from_str(alloc, "H")?,
-    );
-    let metric: Box<dyn EncodeMetric> = Box::new(alloc, ConstGauge::new(7i64))?;
+    let (name, help) = texts_of(alloc, "no name", "H")?;
+    let metric = gauge(alloc, 7)?;
     assert!(rt; register_metric(&rt, &global, name, help, None, metric).is_err());
     expect_decided(&rt, alloc, &global, "# EOF\n")
 }
@@ -115,7 +104,7 @@ fn a_refused_registration_decides(rt: HostRuntime) -> Result<(), Fail> {
 fn a_refused_registration_of_its_own_decides(rt: HostRuntime) -> Result<(), Fail> {
     let alloc = rt.alloc();
     let global: GlobalRegistry = GlobalRegistry::new();
-    let metric: Box<dyn EncodeMetric> = Box::new(alloc, ConstGauge::new(7i64))?;
+    let metric = gauge(alloc, 7)?;
     assert!(rt; register_global(&rt, alloc, &global, &One::new("no name", metric)).is_err());
     expect_decided(&rt, alloc, &global, "# EOF\n")
 }
@@ -160,7 +149,7 @@ fn a_second_registry_is_refused(rt: HostRuntime) -> Result<(), Fail> {
         set_global_registry(&rt, &global, second),
         Err(SetRegistryError)
     );
-    let metric: Box<dyn EncodeMetric> = Box::new(alloc, ConstGauge::new(7i64))?;
+    let metric = gauge(alloc, 7)?;
     register_global(&rt, alloc, &global, &One::new("g", metric))?;
     expect_decided(
         &rt,
@@ -186,8 +175,8 @@ fn a_registry_that_was_set_is_lent(rt: HostRuntime) -> Result<(), Fail> {
     let namespace = String::from_str(alloc, "first")?;
     let first = Registry::builder().with_namespace(namespace)?.build()?;
     assert_eq!(rt; set_global_registry(&rt, &global, first), Ok(()));
-    let (name, help) = (String::from_str(alloc, "g")?, String::from_str(alloc, "H")?);
-    let metric: Box<dyn EncodeMetric> = Box::new(alloc, ConstGauge::new(7i64))?;
+    let (name, help) = texts_of(alloc, "g", "H")?;
+    let metric = gauge(alloc, 7)?;
     with_global_registry_mut(
         &rt,
         &global,

@@ -1,13 +1,12 @@
 //! What is registered in the registry under the lock.
 ghost use Rattle.fm_registry.specs.HasHistory.{HasHistory};
 
-use crate::global_support::{One, UpAndDown, document};
+use crate::global_support::{One, UpAndDown, document, gauge, texts_of};
 use fm_core::encoder::EncodeMetric;
 use fm_core::registry::{
     GlobalRegistry, Registry, RegistryError, register, register_global, register_metric,
     with_global_registry_mut,
 };
-use fm_metrics::ConstGauge;
 use fm_raw::MetricType;
 use fm_test_support::liars::Fickle;
 use fm_test_support::support::expect_text;
@@ -17,25 +16,13 @@ use std::test::Fail;
 fn a_metric_is_registered_once(rt: HostRuntime) -> Result<(), Fail> {
     let alloc = rt.alloc();
     let global: GlobalRegistry = GlobalRegistry::new();
-    let (name, help) = (
-        String::from_str(alloc, "up")?,
-        String::from_str(alloc, "H")?,
-    );
-    register(
-        &rt,
-        &global,
-        name,
-        help,
-        Box::new(alloc, ConstGauge::new(1i64))?,
-    )?;
-    let (name, help) = (
-        String::from_str(alloc, "up")?,
-        String::from_str(alloc, "again")?,
-    );
-    let metric: Box<dyn EncodeMetric> = Box::new(alloc, ConstGauge::new(2i64))?;
+    let (name, help) = texts_of(alloc, "up", "H")?;
+    register(&rt, &global, name, help, gauge(alloc, 1)?)?;
+    let (name, help) = texts_of(alloc, "up", "again")?;
+    let metric = gauge(alloc, 2)?;
     let again = register_metric(&rt, &global, name, help, None, metric);
     assert!(rt; matches!(again, Err(RegistryError::AlreadyExists { .. })));
-    let metric: Box<dyn EncodeMetric> = Box::new(alloc, ConstGauge::new(3i64))?;
+    let metric = gauge(alloc, 3)?;
     let again = register_global(&rt, alloc, &global, &One::new("up", metric));
     assert!(rt; matches!(again, Err(RegistryError::AlreadyExists { .. })));
     expect_text(
@@ -48,13 +35,13 @@ fn a_metric_is_registered_once(rt: HostRuntime) -> Result<(), Fail> {
 fn metrics_go_on_after_those_of_others(rt: HostRuntime) -> Result<(), Fail> {
     let alloc = rt.alloc();
     let global: GlobalRegistry = GlobalRegistry::new();
-    let metric: Box<dyn EncodeMetric> = Box::new(alloc, ConstGauge::new(7i64))?;
+    let metric = gauge(alloc, 7)?;
     register_global(&rt, alloc, &global, &One::new("g", metric))?;
-    let up: Box<dyn EncodeMetric> = Box::new(alloc, ConstGauge::new(1i64))?;
-    let down: Box<dyn EncodeMetric> = Box::new(alloc, ConstGauge::new(-1i64))?;
+    let up = gauge(alloc, 1)?;
+    let down = gauge(alloc, -1)?;
     register_global(&rt, alloc, &global, &UpAndDown::new(up, down))?;
-    let (name, help) = (String::from_str(alloc, "h")?, String::from_str(alloc, "H")?);
-    let metric: Box<dyn EncodeMetric> = Box::new(alloc, ConstGauge::new(8i64))?;
+    let (name, help) = texts_of(alloc, "h", "H")?;
+    let metric = gauge(alloc, 8)?;
     with_global_registry_mut(
         &rt,
         &global,
@@ -74,7 +61,7 @@ fn metrics_go_on_after_those_of_others(rt: HostRuntime) -> Result<(), Fail> {
 fn a_type_is_read_once(rt: HostRuntime) -> Result<(), Fail> {
     let alloc = rt.alloc();
     let global: GlobalRegistry = GlobalRegistry::new();
-    let (name, help) = (String::from_str(alloc, "g")?, String::from_str(alloc, "H")?);
+    let (name, help) = texts_of(alloc, "g", "H")?;
     let fickle = Fickle::new(MetricType::Gauge, MetricType::Counter);
     let metric: Box<dyn EncodeMetric> = Box::new(alloc, fickle)?;
     register_metric(&rt, &global, name, help, None, metric)?;

@@ -2,10 +2,12 @@
 ghost use Rattle.std.specs.Prelude.{◌≡◌, OnErr};
 ghost use Rattle.fm_registry.specs.HasHistory.{HasHistory};
 
+use fm_core::encoder::EncodeMetric;
 use fm_core::format::text::{EncodeError, encode};
 use fm_core::registry::{GlobalRegistry, Register, Registry, RegistryError, with_global_registry};
+use fm_metrics::ConstGauge;
 use fm_raw::MetricType;
-use std::alloc::Global;
+use std::alloc::{AllocError, Global};
 use std::cell::Cell;
 use std::sync::Wait;
 use std::test::Fail;
@@ -82,6 +84,19 @@ fn owned(alloc: Global, text: &str) -> Result<String, RegistryError> {
         Ok(owned) => Ok(owned),
         Err(_) => Err(RegistryError::Memory),
     }
+}
+
+/// A gauge with this value, boxed.
+pub fn gauge(alloc: Global, value: i64) -> Result<Box<dyn EncodeMetric>, AllocError> {
+    Ok(Box::new(alloc, ConstGauge::new(value))?)
+}
+
+/// A name and a help.
+pub fn texts_of(alloc: Global, name: &str, help: &str) -> Result<(String, String), AllocError> {
+    Ok((
+        String::from_str(alloc, name)?,
+        String::from_str(alloc, help)?,
+    ))
 }
 
 /// The document of a registry.

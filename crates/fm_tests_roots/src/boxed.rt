@@ -43,13 +43,22 @@ fn registering<M: Drop>(alloc: Global, name: &str, metric: M) -> Result<Registry
     })
 }
 
+// A root that has them.
+fn root_of_kinds<H: Wait + Copy + Send + Sync + Drop>(
+    wait: H,
+    alloc: Global,
+) -> Result<Root<H>, Fail> {
+    let mut root = Root::new(wait, alloc);
+    for (name, metric) in kinds(wait, alloc)? {
+        root.register(name, "H", None, metric)?;
+    }
+    Ok(root)
+}
+
 #[test]
 fn boxed_and_unboxed(rt: HostRuntime) -> Result<(), Fail> {
     let alloc = rt.alloc();
-    let mut root = Root::new(rt, alloc);
-    for (name, metric) in kinds(rt, alloc)? {
-        root.register(name, "H", None, metric)?;
-    }
+    let root = root_of_kinds(rt, alloc)?;
     let mut calls: Vec<RegistryCall> = Vec::new(alloc);
     for (name, metric) in kinds(rt, alloc)? {
         let metric: Box<dyn EncodeMetric> = Box::new(alloc, metric)?;

@@ -8,6 +8,7 @@ use fm_test_support::histograms::{expect_sum, have_counts, whole};
 use std::alloc::{AllocError, Global};
 use std::sync::atomic::{AtomicU64, Ordering};
 use std::test::Fail;
+use std::thread;
 
 fn up_to(alloc: Global, n: u8) -> Result<Vec<Fixed>, AllocError> {
     let mut values = Vec::new(alloc);
@@ -147,10 +148,11 @@ impl Gate for WaitsForBoth {
 
     fn pass(&self, _piece: usize) -> bool {
         self.come.fetch_add(1, Ordering::SeqCst);
-        for _ in 0..1_000_000_000u64 {
+        for _ in 0..10_000_000u64 {
             if self.come.load(Ordering::SeqCst) >= 2 {
                 return true;
             }
+            thread::yield_now();
         }
         false
     }

@@ -1,52 +1,12 @@
-//! Documents of a counted sum, and of a metric of the tests' own.
+//! Documents of the metrics of two examples: requests that wait, and a gauge whose value and timestamp are of one moment.
 
-use fastmetrics::metrics::counter::ConstCounter;
-use fastmetrics::metrics::tally::{Book, TallyError};
-use fastmetrics::registry::Registry;
-use fm_test_support::support::{expect_document, expect_document_of};
-use fm_test_support::trees::register_with;
+use fastmetrics::encoder::EncodeError;
+use fm_test_support::support::{expect_document, expect_lines, expect_refusal};
 use own_metric::{Queue, Waiting};
+use own_points::Readings;
 use std::alloc::{AllocError, Global};
+use std::sync::atomic::AtomicUsize;
 use std::test::Fail;
-
-// A counter with this total.
-fn counter(alloc: Global, total: u64) -> Result<Box<ConstCounter>, AllocError> {
-    Ok(Box::new(alloc, ConstCounter::new(total))?)
-}
-
-// Fails if this is not the document of a counter alone.
-fn expect_counter(
-    alloc: Global,
-    name: &str,
-    help: &str,
-    total: u64,
-    want: &str,
-) -> Result<(), Fail> {
-    let counter = counter(alloc, total)?;
-    let mut registry = Registry::default();
-    register_with(alloc, &mut registry, name, help, None, counter)?;
-    expect_document_of(alloc, &registry, want)
-}
-
-// The sum of the numbers from 1 to 100, which two workers add.
-fn counted_jobs() -> Result<u64, TallyError> {
-    let mut book = Book::new();
-    for who in 0..2 {
-        for jobs in 1..101 {
-            book.add(who, jobs)?;
-        }
-    }
-    Ok(book.read())
-}
-
-#[test]
-fn counted_sum(rt: HostRuntime) -> Result<(), Fail> {
-    let alloc = rt.alloc();
-    let want = "# TYPE jobs counter\n# HELP jobs Jobs done\njobs_total 10100\n# EOF\n";
-    expect_counter(alloc, "jobs", "Jobs done", counted_jobs()?, want)?;
-    let empty: Registry = Registry::default();
-    expect_document_of(alloc, &empty, "# EOF\n")
-}
 
 #[test]
 fn waiting_requests(rt: HostRuntime) -> Result<(), Fail> {
@@ -66,4 +26,31 @@ fn waiting_requests(rt: HostRuntime) -> Result<(), Fail> {
         waiting,
         "# TYPE waiting_requests gauge\n# HELP waiting_requests H\nwaiting_requests{queue=\"mail \\\"out\\\"\",priority=\"3\"} 12\n# EOF\n",
     )
+}
+
+// Two readings, of which the one with this index is shown.
+fn readings(alloc: Global, shown: usize) -> Result<Readings, AllocError> {
+    let mut recorded = Vec::new(alloc);
+    recorded.push((1000, 5))?;
+    recorded.push((2005, -7))?;
+    Ok(Readings {
+        recorded,
+        shown: AtomicUsize::new(shown),
+    })
+}
+
+#[test]
+fn value_of_the_moment(rt: HostRuntime) -> Result<(), Fail> {
+    let alloc = rt.alloc();
+    for (shown, lines) in [(0, "t 5 1.000\n# EOF\n"), (1, "t -7 2.005\n# EOF\n")] {
+        expect_lines(alloc, readings(alloc, shown)?, lines)?;
+    }
+    Ok(())
+}
+
+#[test]
+fn no_such_moment(rt: HostRuntime) -> Result<(), Fail> {
+    let alloc = rt.alloc();
+    let metric = readings(alloc, 2)?;
+    expect_refusal(alloc, metric, EncodeError::MetricFault)
 }

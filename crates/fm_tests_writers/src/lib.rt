@@ -1,4 +1,4 @@
-//! Tests of writers that end at any place, and of documents, trees and lists of calls of great size.
+//! Tests of writers that end at any place, of documents, trees and lists of calls of great size, and of the metrics of two examples.
 #![tactic(auto)]
 
 #[cfg(test)]

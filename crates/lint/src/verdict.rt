@@ -2,9 +2,6 @@
 ghost use Rattle.std.specs.Prelude.{◌≡◌, ◌≤◌};
 ghost use Rattle.lint.specs.Documents.{PrintsAgain};
 
-#[cfg(test)]
-mod tests;
-
 use fm_core::format::text::{EncodeError, ReadError, encode_exposition, read};
 use std::alloc::Global;
 use std::io::Write;

@@ -1,9 +1,9 @@
 //! Snapshots that count 2^64 - 1 values.
 
-use crate::beneath::expect_beneath;
 use fm_histogram::{GaugeHistogramSnapshot, HistogramSnapshot};
 use fm_raw::{Fixed, MetricError};
 use fm_test_support::histograms::{expect_sum, whole};
+use fm_test_support::support::expect_document;
 use std::alloc::Global;
 use std::test::Fail;
 
@@ -23,23 +23,6 @@ fn full(alloc: Global, value: Fixed) -> Result<HistogramSnapshot, MetricError> {
         all.observe(value)?;
     }
     Ok(all)
-}
-
-// Whether a full snapshot refuses another for its bounds, though their counts don't fit together either.
-fn bounds_come_first(all: &mut HistogramSnapshot, other: &HistogramSnapshot) -> bool {
-    all.merge(other) == Err(MetricError::UnequalBounds)
-}
-
-#[test]
-fn other_bounds_before_full_counts(rt: HostRuntime) -> Result<(), Fail> {
-    let alloc = rt.alloc();
-    let mut all = full(alloc, whole(1))?;
-    let before = all.clone()?;
-    let mut other = HistogramSnapshot::new(alloc, [].iter().copied())?;
-    other.observe(whole(1))?;
-    assert!(rt; bounds_come_first(&mut all, &other));
-    assert!(rt; are_same(&all, &before));
-    Ok(())
 }
 
 // Whether a full snapshot refuses a value and a merge, and takes a negative value, which it does not count.
@@ -69,14 +52,15 @@ fn full_histogram(rt: HostRuntime) -> Result<(), Fail> {
 #[test]
 fn document_of_a_full_histogram(rt: HostRuntime) -> Result<(), Fail> {
     let alloc = rt.alloc();
-    expect_beneath(
+    expect_document(
         alloc,
         "h",
+        None,
         full(alloc, whole(1))?,
-        "# TYPE sub_h histogram\n# HELP sub_h H\n\
-         sub_h_bucket{k=\"v\",le=\"1.0\"} 18446744073709551615\n\
-         sub_h_bucket{k=\"v\",le=\"+Inf\"} 18446744073709551615\n\
-         sub_h_count{k=\"v\"} 18446744073709551615\nsub_h_sum{k=\"v\"} 18446744073709551615.0\n# EOF\n",
+        "# TYPE h histogram\n# HELP h H\n\
+         h_bucket{le=\"1.0\"} 18446744073709551615\n\
+         h_bucket{le=\"+Inf\"} 18446744073709551615\n\
+         h_count 18446744073709551615\nh_sum 18446744073709551615.0\n# EOF\n",
     )
 }
 
@@ -130,14 +114,15 @@ fn full_gauge_histogram(rt: HostRuntime) -> Result<(), Fail> {
 fn document_of_a_full_gauge_histogram(rt: HostRuntime) -> Result<(), Fail> {
     let alloc = rt.alloc();
     let all = full_gauge(alloc, Fixed::from_millionths(-9223372036854775808))?;
-    expect_beneath(
+    expect_document(
         alloc,
         "h",
+        None,
         all,
-        "# TYPE sub_h gaugehistogram\n# HELP sub_h H\n\
-         sub_h_bucket{k=\"v\",le=\"1.0\"} 18446744073709551615\n\
-         sub_h_bucket{k=\"v\",le=\"+Inf\"} 18446744073709551615\n\
-         sub_h_gcount{k=\"v\"} 18446744073709551615\n\
-         sub_h_gsum{k=\"v\"} -170141183460469231722463931679029.32992\n# EOF\n",
+        "# TYPE h gaugehistogram\n# HELP h H\n\
+         h_bucket{le=\"1.0\"} 18446744073709551615\n\
+         h_bucket{le=\"+Inf\"} 18446744073709551615\n\
+         h_gcount 18446744073709551615\n\
+         h_gsum -170141183460469231722463931679029.32992\n# EOF\n",
     )
 }
