@@ -14,7 +14,6 @@ fn begin(come: &AtomicU64) {
         if come.load(Ordering::SeqCst) >= 2 {
             return;
         }
-        thread::yield_now();
     }
 }
 

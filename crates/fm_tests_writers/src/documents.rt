@@ -1,12 +1,17 @@
-//! Documents of the metrics of two examples: requests that wait, and a gauge whose value and timestamp are of one moment.
+//! Documents of the metrics of two examples: requests that wait, and points of a user's own.
 
-use fastmetrics::encoder::EncodeError;
+use fastmetrics::encoder::{EncodeError, LabeledExemplar};
+use fastmetrics::metrics::summary::Quantile;
+use fastmetrics::raw::bucket::{Bound, Bucket};
+use fastmetrics::raw::{Fixed, FixedSum};
 use fm_test_support::support::{expect_document, expect_lines, expect_refusal};
+use fm_test_support::trees::labels;
 use own_metric::{Queue, Waiting};
-use own_points::Readings;
+use own_points::{Durations, Latencies, Readings, Returned};
 use std::alloc::{AllocError, Global};
 use std::sync::atomic::AtomicUsize;
 use std::test::Fail;
+use std::time::Duration;
 
 #[test]
 fn waiting_requests(rt: HostRuntime) -> Result<(), Fail> {
@@ -53,4 +58,66 @@ fn no_such_moment(rt: HostRuntime) -> Result<(), Fail> {
     let alloc = rt.alloc();
     let metric = readings(alloc, 2)?;
     expect_refusal(alloc, metric, EncodeError::MetricFault)
+}
+
+// An exemplar with a label that has to be escaped, and a time.
+fn trace(alloc: Global) -> Result<LabeledExemplar<Vec<(String, String)>>, AllocError> {
+    Ok(LabeledExemplar {
+        labels: labels(alloc, &[("trace_id", "a\"b")])?,
+        value: Fixed::from_millionths(-1),
+        timestamp: Some(Duration::from_millis(1005)),
+    })
+}
+
+#[test]
+fn a_counter_with_an_exemplar(rt: HostRuntime) -> Result<(), Fail> {
+    let metric = Returned {
+        requests: 7,
+        trace: trace(rt.alloc())?,
+    };
+    expect_document(
+        rt.alloc(),
+        "t",
+        None,
+        metric,
+        "# TYPE t counter\n# HELP t H\nt_total 7 # {trace_id=\"a\\\"b\"} -0.000001 1.005\n# EOF\n",
+    )
+}
+
+#[test]
+fn a_histogram_with_an_exemplar(rt: HostRuntime) -> Result<(), Fail> {
+    let metric = Durations {
+        buckets: [
+            Bucket::new(Bound::Finite(Fixed::ONE), 2),
+            Bucket::new(Bound::Inf, 1),
+        ],
+        trace: trace(rt.alloc())?,
+        requests: 3,
+        seconds: FixedSum::from_millionths(2_500_000),
+    };
+    expect_document(
+        rt.alloc(),
+        "t",
+        None,
+        metric,
+        "# TYPE t histogram\n# HELP t H\nt_bucket{le=\"1.0\"} 2 # {trace_id=\"a\\\"b\"} -0.000001 1.005\n\
+         t_bucket{le=\"+Inf\"} 3\nt_count 3\nt_sum 2.5\n# EOF\n",
+    )
+}
+
+#[test]
+fn a_summary(rt: HostRuntime) -> Result<(), Fail> {
+    let median = Quantile::new(Fixed::from_millionths(500_000), Fixed::ONE);
+    let metric = Latencies {
+        quantiles: vec![in rt.alloc(); median]?,
+        requests: 3,
+        seconds: FixedSum::from_millionths(2_500_000),
+    };
+    expect_document(
+        rt.alloc(),
+        "t",
+        None,
+        metric,
+        "# TYPE t summary\n# HELP t H\nt{quantile=\"0.5\"} 1.0\nt_count 3\nt_sum 2.5\n# EOF\n",
+    )
 }
