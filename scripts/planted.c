@@ -1,8 +1,9 @@
 // For scripts/tested_bodies.py: which of the bodies that are planted beside each other runs. A test runs once for each body that it may refuse, in a
-// process of its own, whose end is noted in a file, and then with none of them.
+// process of its own, whose end is noted in a file, and then with none of them. A program that is passed a number runs with that body.
 #include <fcntl.h>
 #include <stdint.h>
 #include <stdio.h>
+#include <stdlib.h>
 #include <string.h>
 #include <sys/wait.h>
 #include <unistd.h>
@@ -45,6 +46,9 @@ static int is_child(const struct trial *trial, const char *test) {
 
 __attribute__((constructor)) static void try_bodies(int count, char **words) {
     if (count != 2)
+        return;
+    running = (uint32_t)strtoul(words[1], NULL, 10);
+    if (running)
         return;
     for (size_t i = 0; i < sizeof trials / sizeof *trials; i++)
         if ((!trials[i].test || strcmp(trials[i].test, words[1]) == 0) && is_child(&trials[i], words[1]))

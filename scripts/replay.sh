@@ -5,6 +5,7 @@
 #
 #   scripts/replay.sh [--crates FOLDER] [--scripts FOLDER] [NAME..]        all scripts, or these
 #
+# With NAME:N a script runs with the body N of those that are planted in the crates (scripts/tested_bodies.py).
 # With --crates the program is built on the crates of another copy of the repository; with --scripts the scripts are those of another folder. The
 # program is compiled once, with run-time checks and no proof (scripts/unproved.py), in a scratch copy of the crates. A script has ten minutes: the
 # proofs of a gate may leave it little of a processor.
@@ -30,8 +31,11 @@ mkdir "$scratch/cases"
 for folder in "${folders[@]}"; do
     for script in "$folder"/*.script; do
         name=$(basename "$script" .script)
-        [[ $# == 0 || " $* " == *" $name "* ]] || continue
-        cp "$script" "$scratch/cases/$name" && cp "$folder/$name.printed" "$scratch/cases/$name.stdout" || exit 2
+        for case in "${@:-$name}"; do
+            [[ ${case%:*} == "$name" ]] || continue
+            cp "$script" "$scratch/cases/$case" && cp "$folder/$name.printed" "$scratch/cases/$case.stdout" || exit 2
+            [[ $case != *:* ]] || echo "${case#*:}" >"$scratch/cases/$case.args"
+        done
     done
 done
 for name in "$@"; do

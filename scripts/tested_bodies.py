@@ -10,7 +10,7 @@ planted in one copy of the crates, each as another branch of its functions, and 
 function, or that no test refused so, the crates are compiled with it in place of what is right, up to three times. A body with which a test never ends has a line
 `seconds: N`, after which a test has failed. A test `cases::NAME` of a program is a case of its cases.toml (scripts/cases.py), and `requests::N` that it
 asks for memory fewer than N times on the input beside it; `requests::N::TEST` says so of a test. With `tests: replay NAME..` scripts of bench/replay
-stand for tests, and one of them has to differ from its answer (scripts/replay.sh). Prints a line for each body, and then 'N refused, M not refused';
+stand for tests, and one of them has to differ from its answer (scripts/replay.sh); they run with each body alone too. Prints a line for each body, and then 'N refused, M not refused';
 the status is 0 if M is 0.
 """
 import glob
@@ -79,6 +79,21 @@ def failing_beside(bodies):
         return failed
 
 
+def differing_beside(bodies):
+    """For each body that scripts refuse, and that can stand beside the others, the scripts that differ with it."""
+    with tempfile.TemporaryDirectory(prefix="tested-bodies-") as folder:
+        copied_to(folder)
+        outside, placed = stand_beside(bodies, folder, f"{folder}/results")
+        numbers = {**dict.fromkeys(outside, 0), **{body: number for number, body in placed.items()}}
+        runs = {body: {f"{it}:{number}" for it in tests_of(body)[1]} for body, number in numbers.items()}
+        right = {f"{it}:0" for body in placed.values() for it in tests_of(body)[1]} - {it for body in outside for it in runs[body]}
+        failed, said = differing(right.union(*runs.values()), folder)
+        if right & set(failed or []):
+            print(f"replay: its bodies can't stand beside each other: {sorted(right & set(failed))[:3]} {said.strip()[-300:]}", flush=True)
+            return {}
+        return {body: {it.partition(":")[0] for it in found & set(failed or [])} for body, found in runs.items()}
+
+
 def fit_together(one, other):
     """Whether two bodies of one crate of tests may be planted together."""
     (crate, tests), (other_crate, other_tests) = tests_of(one), tests_of(other)
@@ -143,14 +158,14 @@ def tried(bodies, turns=3):
     return tried(bodies, turns - 1) if turns > 1 else answers
 
 
-def is_one_of_tests(body):
-    """Whether tests have to refuse a body, and no cases, scripts or requests for memory."""
-    return not (are_cases(body) or are_scripts(body) or request_of(body))
+def stands_beside(body):
+    """Whether tests or scripts have to refuse a body, and no cases or requests for memory."""
+    return not (are_cases(body) or request_of(body))
 
 
 def tried_beside(bodies):
-    """Each of the bodies that name one crate of tests, as `tried` says."""
-    failed = failing_beside(bodies)
+    """Each of the bodies that name one crate of tests, or scripts, as `tried` says."""
+    failed = (differing_beside if are_scripts(bodies[0]) else failing_beside)(bodies)
     left = [body for body in bodies if not failed.get(body)]
     return [(body, sorted(failed[body]), "") for body in bodies if failed.get(body)] + [it for batch in batches(left) for it in tried(batch)]
 
@@ -167,7 +182,7 @@ def tried_or_kept(bodies, crates):
     found = kept.given(key)
     if found:
         return [(body, failed, "") for body, failed in zip(bodies, found)]
-    answers = (tried_beside if is_one_of_tests(bodies[0]) else tried)(bodies)
+    answers = (tried_beside if stands_beside(bodies[0]) else tried)(bodies)
     if all(failed for _, failed, _ in answers):
         kept.keep(key, [failed for _, failed, _ in sorted(answers, key=lambda it: bodies.index(it[0]))])
     return answers
@@ -179,9 +194,9 @@ def main():
     crates["replay"] = Crate("replay", crates["fastmetrics"].libraries + ["fastmetrics"])
     bodies = [it for name, crate in crates.items() if not sys.argv[1:] or name in sys.argv[1:] for it in listed(crate, "tested_bodies")]
     beside = {}
-    for body in filter(is_one_of_tests, bodies):
+    for body in filter(stands_beside, bodies):
         beside.setdefault(tests_of(body)[0], []).append(body)
-    jobs = sorted(beside.values(), key=len, reverse=True) + batches([it for it in bodies if not is_one_of_tests(it)])
+    jobs = sorted(beside.values(), key=len, reverse=True) + batches([it for it in bodies if not stands_beside(it)])
     with ThreadPoolExecutor(len(os.sched_getaffinity(0))) as pool:
         counts = {True: 0, False: 0}
         for answers in pool.map(lambda it: tried_or_kept(it, crates), jobs):
