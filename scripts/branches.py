@@ -26,10 +26,19 @@ pub fn is(number: u32) -> bool {
 """
 
 
+# What stands before a test that must ask for memory fewer times than the number says.
+LIMIT = re.compile(r"requests::(\d+)::(\S+)$")
+
+
 def tests_of(body):
     """The crate of tests that a body names, and the tests that fail with it alone, if it names them."""
     crate, *tests = body.tests.split()
-    return crate, set(tests)
+    return crate, {LIMIT.sub(r"\2", it) for it in tests}
+
+
+def limits_of(body):
+    """The tests of these that must ask for memory fewer than so many times, each with that number."""
+    return {it[2]: int(it[1]) for it in map(LIMIT.match, body.tests.split()) if it}
 
 
 def block_of(function, lines):
@@ -103,9 +112,11 @@ def stand_within(bodies, folder):
 
 
 def trials_of(placed):
-    """The lines of C for these bodies: each with each of its tests, or with all."""
-    named = [(f'"{test}"' if test else "0", number, body.seconds) for number, body in placed.items() for test in sorted(tests_of(body)[1]) or [None]]
-    return "".join(f"    {{{test}, {number}, {seconds or MOST_RUN}}},\n" for test, number, seconds in named)
+    """The lines of C for these bodies: each with each of its tests, or with all. Where a test may ask for memory only so often, it is tried with no body too."""
+    named = [(test, number, body) for number, body in placed.items() for test in sorted(tests_of(body)[1]) or [None]]
+    right = [(test, 0, body) for body in placed.values() for test in limits_of(body)]
+    line = lambda test, number, body: (f'"{test}"' if test else "0", number, body.seconds or MOST_RUN, limits_of(body).get(test, 0))
+    return "".join(f"    {{{', '.join(map(str, it))}}},\n" for it in dict.fromkeys(line(*it) for it in named + right))
 
 
 def stand_beside(bodies, folder, results):

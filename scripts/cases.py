@@ -89,16 +89,6 @@ def failing(crate, folder):
     return [it.name for it in cases if not it.to and not passes(it)], said
 
 
-def asks_for_more(crate, folder, request):
-    """Whether another copy of a program asks for memory so often, on the input beside it: it ends otherwise where this request is refused. With a
-    request N::TEST the same of a test, which then fails. And what was said."""
-    request, _, test = request.partition("::")
-    given = os.devnull if test else f"{TOP}/crates/{crate}/stdin"
-    said = unproved.run(folder, crate, ["--fail-alloc", request], tests=test != "", stdin=given)
-    ended = rf"^test {test} \.\.\. (?!ok$)" if test else r"^run=ended status=(?!0 )"
-    return re.search(ended, said, re.M) is not None, said
-
-
 def refused(program, case, no_memory, counter, request):
     """What is wrong where this request for memory is refused, or nothing."""
     status, out, errors = case.run(program, {"LD_PRELOAD": counter, "REFUSE": str(request)})

@@ -1,6 +1,8 @@
 // For scripts/tested_bodies.py: which of the bodies that are planted beside each other runs. A test runs once for each body that it may refuse, in a
-// process of its own, whose end is noted in a file, and then with none of them. A program that is passed a number runs with that body.
+// process of its own, whose end is noted in a file, and then with none of them. Where a test may ask for memory only so often, its process ends at the
+// first request that is one too many. A program that is passed a number runs with that body.
 #include <fcntl.h>
+#include <stddef.h>
 #include <stdint.h>
 #include <stdio.h>
 #include <stdlib.h>
@@ -10,8 +12,9 @@
 
 struct trial {
     const char *test; // or null, for each test
-    uint32_t body;
+    uint32_t body; // or 0 for none
     unsigned seconds;
+    unsigned long requests; // the first request for memory that must not be made, or 0
 };
 
 // The name of that file, and the trials.
@@ -22,6 +25,19 @@ static uint32_t running;
 // The body that runs, or 0.
 uint32_t planted_body(void) { return running; }
 
+// What finds faulty addresses (AddressSanitizer) calls the first function after each request, and the second after each return of memory.
+int __sanitizer_install_malloc_and_free_hooks(void (*)(const volatile void *, size_t), void (*)(const volatile void *));
+
+static unsigned long requests, one_too_many;
+
+static void count(const volatile void *place, size_t size) {
+    (void)place, (void)size;
+    if (++requests == one_too_many)
+        _exit(1);
+}
+
+static void pass(const volatile void *place) { (void)place; }
+
 // Whether this is the process that runs the test with a body. The process before it waits for it, and notes how it ended.
 static int is_child(const struct trial *trial, const char *test) {
     pid_t child = fork();
@@ -31,6 +47,9 @@ static int is_child(const struct trial *trial, const char *test) {
         dup2(nothing, 2);
         alarm(trial->seconds);
         running = trial->body;
+        one_too_many = trial->requests;
+        if (one_too_many)
+            __sanitizer_install_malloc_and_free_hooks(count, pass);
         return 1;
     }
     int status = 0;

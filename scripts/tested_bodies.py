@@ -8,10 +8,10 @@ crate of tests and those of its tests that fail with this body alone; with `test
 planted in one copy of the crates, each as another branch of its functions, and the tests are compiled once, with run-time checks and no proof
 (scripts/unproved.py); each test runs once for each body that names it, and must pass with none (scripts/planted.c). Of a body that lies outside a
 function, or that no test refused so, the crates are compiled with it in place of what is right, up to three times. A body with which a test never ends has a line
-`seconds: N`, after which a test has failed. A test `cases::NAME` of a program is a case of its cases.toml (scripts/cases.py), and `requests::N` that it
-asks for memory fewer than N times on the input beside it; `requests::N::TEST` says so of a test. With `tests: replay NAME..` scripts of bench/replay
-stand for tests, and one of them has to differ from its answer (scripts/replay.sh); they run with each body alone too. Prints a line for each body, and then 'N refused, M not refused';
-the status is 0 if M is 0.
+`seconds: N`, after which a test has failed. With `requests::N::TEST` the test has failed once it asks for memory the Nth time, and must ask fewer times
+without the body. A test `cases::NAME` of a program is a case of its cases.toml (scripts/cases.py). With `tests: replay NAME..` scripts of bench/replay
+stand for tests, and one of them has to differ from its answer (scripts/replay.sh); they run with each body alone too. Prints a line for each body, and
+then 'N refused, M not refused'; the status is 0 if M is 0.
 """
 import glob
 import os
@@ -53,11 +53,6 @@ def are_scripts(body):
     return tests_of(body)[0] == "replay"
 
 
-def request_of(body):
-    """The request for memory that a program or a test must not make, if it has to refuse a body."""
-    return body.tests.partition(" requests::")[2]
-
-
 def failing_beside(bodies):
     """For each body of one crate of tests that can stand beside the others, the tests that fail with it."""
     with tempfile.TemporaryDirectory(prefix="tested-bodies-") as folder:
@@ -72,9 +67,10 @@ def failing_beside(bodies):
             print(f"{tests_of(bodies[0])[0]}: its bodies can't stand beside each other: {sorted(always)[:3]} {last}", flush=True)
             return {}
         failed = {body: always & tests_of(body)[1] for body in outside}
-        for line in text_of(f"{folder}/results").split("\n") if placed else []:
-            number, test, end = line.split() or ("", "", "")
-            if end == "failed" and test not in always:
+        ended = re.findall(r"^(\d+) (\S+) failed$", text_of(f"{folder}/results") if placed else "", re.M)
+        always |= {test for number, test in ended if number == "0"}
+        for number, test in ended:
+            if test not in always:
                 failed.setdefault(placed[int(number)], set()).add(test)
         return failed
 
@@ -97,7 +93,7 @@ def differing_beside(bodies):
 def fit_together(one, other):
     """Whether two bodies of one crate of tests may be planted together."""
     (crate, tests), (other_crate, other_tests) = tests_of(one), tests_of(other)
-    if crate != other_crate or one.seconds != other.seconds or are_cases(one) != are_cases(other) or request_of(one) or request_of(other):
+    if crate != other_crate or one.seconds != other.seconds or are_cases(one) != are_cases(other):
         return False
     if not tests or not other_tests or tests & other_tests:
         return False
@@ -135,9 +131,6 @@ def failing_with(bodies):
         if are_cases(bodies[0]):
             failed, said = cases.failing(tests_of(bodies[0])[0], folder)
             return ([f"cases::{it}" for it in failed] if failed else None), said
-        if request_of(bodies[0]):
-            is_one_more, said = cases.asks_for_more(tests_of(bodies[0])[0], folder, request_of(bodies[0]))
-            return ([f"requests::{request_of(bodies[0])}"] if is_one_more else None), said
         try:
             said = unproved.run(folder, tests_of(bodies[0])[0], ["--seconds", bodies[0].seconds or MOST_RUN], tests=True, seconds=MOST)
         except subprocess.TimeoutExpired:
@@ -158,11 +151,6 @@ def tried(bodies, turns=3):
     return tried(bodies, turns - 1) if turns > 1 else answers
 
 
-def stands_beside(body):
-    """Whether tests or scripts have to refuse a body, and no cases or requests for memory."""
-    return not (are_cases(body) or request_of(body))
-
-
 def tried_beside(bodies):
     """Each of the bodies that name one crate of tests, or scripts, as `tried` says."""
     failed = (differing_beside if are_scripts(bodies[0]) else failing_beside)(bodies)
@@ -176,13 +164,13 @@ def tried_or_kept(bodies, crates):
     scripts = [f"{TOP}/scripts/{name}" for name in ("tested_bodies.py", "branches.py", "planted.c", "wrong_bodies.py", "cases.py", "unproved.py")]
     if are_scripts(bodies[0]):
         scripts += sorted(glob.glob(f"{TOP}/scripts/*.sh") + glob.glob(f"{TOP}/bench/replay/**/*.*", recursive=True))
-    scripts += [f"{crate.folder}/cases.toml"] * are_cases(bodies[0]) + [f"{crate.folder}/stdin"] * request_of(bodies[0]).isdigit()
+    scripts += [f"{crate.folder}/cases.toml"] * are_cases(bodies[0])
     sources = kept.files_in(f"{it.folder}/src" for it in [crate, *crate.below(crates)])
     key = kept.sum_of([f"{KIT}/KIT-ID", *scripts], sources, bodies)
     found = kept.given(key)
     if found:
         return [(body, failed, "") for body, failed in zip(bodies, found)]
-    answers = (tried_beside if stands_beside(bodies[0]) else tried)(bodies)
+    answers = (tried if are_cases(bodies[0]) else tried_beside)(bodies)
     if all(failed for _, failed, _ in answers):
         kept.keep(key, [failed for _, failed, _ in sorted(answers, key=lambda it: bodies.index(it[0]))])
     return answers
@@ -194,9 +182,9 @@ def main():
     crates["replay"] = Crate("replay", crates["fastmetrics"].libraries + ["fastmetrics"])
     bodies = [it for name, crate in crates.items() if not sys.argv[1:] or name in sys.argv[1:] for it in listed(crate, "tested_bodies")]
     beside = {}
-    for body in filter(stands_beside, bodies):
+    for body in (it for it in bodies if not are_cases(it)):
         beside.setdefault(tests_of(body)[0], []).append(body)
-    jobs = sorted(beside.values(), key=len, reverse=True) + batches([it for it in bodies if not stands_beside(it)])
+    jobs = sorted(beside.values(), key=len, reverse=True) + batches([it for it in bodies if are_cases(it)])
     with ThreadPoolExecutor(len(os.sched_getaffinity(0))) as pool:
         counts = {True: 0, False: 0}
         for answers in pool.map(lambda it: tried_or_kept(it, crates), jobs):

@@ -54,8 +54,8 @@ fn bad_index(labels: &[(String, String)]) -> Option<usize>
     labels.iter().position(|l| !is_label_name(l.0.as_str()))
 }
 
-/// The index of the label with this name.
-pub fn index_of_label(labels: &[(String, String)], name: &str) -> Option<usize>
+// The index of the label with this name.
+fn index_of_label(labels: &[(String, String)], name: &str) -> Option<usize>
     ensures { result ≡ position_from (λ l. bytes_eq (label_of l).name name.now) 0 labels.now }
 {
     labels.iter().position(|l| l.0.as_str() == name)

@@ -167,8 +167,8 @@ pub fn expect_lines<M: EncodeMetric + Drop>(
     expect_text(lines.as_str(), want)
 }
 
-/// Fails if a registry is not refused by this error, or if a refusal wrote something.
-pub fn expect_refusal_of<M: EncodeMetric>(
+// Fails if a registry is not refused by this error, or if a refusal wrote something.
+fn expect_refusal_of<M: EncodeMetric>(
     alloc: Global,
     registry: &Registry<M>,
     want: EncodeError,

@@ -6,7 +6,6 @@ use fm_core::registry::{Registry, RegistryCall, RegistryError};
 use fm_metrics::ConstGauge;
 use fm_raw::Unit;
 use std::alloc::{AllocError, Global};
-use std::test::Fail;
 
 /// Owned texts, such as the names of a path.
 pub fn texts(alloc: Global, names: &[&str]) -> Result<Vec<String>, AllocError> {
@@ -59,19 +58,6 @@ fn text_in(error: &RegistryError) -> &str {
         RegistryError::OtherUnitFormatMustBeLowercase { unit } => unit.as_str(),
         RegistryError::InvalidNamespace { namespace } => namespace.as_str(),
         RegistryError::Memory => "",
-    }
-}
-
-/// Fails if this is not the refusal with this number, which names this text.
-pub fn expect_refused(
-    answer: Result<(), RegistryError>,
-    number: u8,
-    text: &str,
-) -> Result<(), Fail> {
-    match answer {
-        Err(error) if error.number() == number && text_in(&error) == text => Ok(()),
-        Err(error) => Err(Fail::new(error)),
-        Ok(()) => Err(Fail::new("nothing was refused")),
     }
 }
 

@@ -1,13 +1,11 @@
 //! Members that leave a family: what is left of it, and what its document has then.
 
-use fm_core::encoder::{EncodeMetric, StaticStr};
-use fm_family::{
-    FamilyCore, PairFamily, TextFamily, TextLabels, remove_texts, with_pairs, with_texts,
-};
+use fm_core::encoder::StaticStr;
+use fm_family::{FamilyCore, PairFamily, with_pairs};
 use fm_metrics::Counter;
 use fm_raw::{MetricError, TryDefault};
 use fm_test_support::replies::Outcome;
-use fm_test_support::support::{document_alone, expect_document, expect_text};
+use fm_test_support::support::{document_alone, expect_document};
 use std::alloc::Global;
 use std::hash::{BuildHasherDefault, FoldHasher};
 use std::sync::Wait;
@@ -44,83 +42,6 @@ fn shards_of<H: Wait + Clone + Drop>(
     Ok(shards)
 }
 
-// The document of three shards.
-const THREE: &str = "# TYPE f counter\n# HELP f H\n\
-    f_total{shard=\"1\"} 1\nf_total{shard=\"2\"} 2\nf_total{shard=\"3\"} 3\n# EOF\n";
-
-// Fails if this is not the document of a family alone.
-fn expect_shards<M: EncodeMetric + Drop>(alloc: Global, shards: M, want: &str) -> Result<(), Fail> {
-    expect_document(alloc, "f", None, shards, want)
-}
-
-// Fails if these are not the lines of a family alone after its heading.
-fn expect_lines<M: EncodeMetric + Drop>(alloc: Global, shards: M, want: &str) -> Result<(), Fail> {
-    let document = document_alone(alloc, "f", None, shards)?;
-    match document
-        .as_str()
-        .strip_prefix("# TYPE f counter\n# HELP f H\n")
-    {
-        Some(lines) => expect_text(lines, want),
-        None => Err(Fail::new("another head")),
-    }
-}
-
-#[test]
-fn one_of_three_leaves(rt: HostRuntime) -> Result<(), Fail> {
-    for (gone, want) in [
-        (1, "f_total{shard=\"2\"} 2\nf_total{shard=\"3\"} 3\n# EOF\n"),
-        (2, "f_total{shard=\"1\"} 1\nf_total{shard=\"3\"} 3\n# EOF\n"),
-        (3, "f_total{shard=\"1\"} 1\nf_total{shard=\"2\"} 2\n# EOF\n"),
-    ] {
-        let shards = shards_of(rt, rt.alloc(), &[1, 2, 3])?;
-        if !shards.remove(&shard(gone)) || shards.len() != 2 {
-            return Err(Fail::new("it is still there"));
-        }
-        expect_lines(rt.alloc(), shards, want)?;
-    }
-    Ok(())
-}
-
-#[test]
-fn one_that_comes_again_is_new_and_last(rt: HostRuntime) -> Result<(), Fail> {
-    let shards = shards_of(rt, rt.alloc(), &[1, 2, 3])?;
-    assert!(rt; shards.remove(&shard(1)));
-    count(&shards, 1, 10)?;
-    assert!(rt; shards.len() == 3);
-    expect_lines(
-        rt.alloc(),
-        shards,
-        "f_total{shard=\"2\"} 2\nf_total{shard=\"3\"} 3\nf_total{shard=\"1\"} 10\n# EOF\n",
-    )
-}
-
-#[test]
-fn one_that_is_not_there(rt: HostRuntime) -> Result<(), Fail> {
-    let shards = shards_of(rt, rt.alloc(), &[1, 2, 3])?;
-    assert!(rt; !shards.remove(&shard(4)) && shards.len() == 3);
-    expect_shards(rt.alloc(), shards, THREE)
-}
-
-#[test]
-fn all_leave(rt: HostRuntime) -> Result<(), Fail> {
-    let shards = shards_of(rt, rt.alloc(), &[1, 2, 3])?;
-    shards.clear();
-    assert!(rt; shards.len() == 0);
-    count(&shards, 2, 5)?;
-    expect_lines(rt.alloc(), shards, "f_total{shard=\"2\"} 5\n# EOF\n")
-}
-
-#[test]
-fn those_with_odd_labels_leave(rt: HostRuntime) -> Result<(), Fail> {
-    let shards = shards_of(rt, rt.alloc(), &[1, 2, 3, 4, 5, 6])?;
-    shards.retain(|labels, _| labels[0].1 % 2 == 0);
-    expect_lines(
-        rt.alloc(),
-        shards,
-        "f_total{shard=\"2\"} 2\nf_total{shard=\"4\"} 4\nf_total{shard=\"6\"} 6\n# EOF\n",
-    )
-}
-
 #[test]
 fn those_with_small_values_leave(rt: HostRuntime) -> Result<(), Fail> {
     let shards = shards_of(rt, rt.alloc(), &[1, 2, 3, 4, 5, 6])?;
@@ -128,10 +49,12 @@ fn those_with_small_values_leave(rt: HostRuntime) -> Result<(), Fail> {
     assert!(rt; shards.len() == 3);
     count(&shards, 6, 10)?;
     count(&shards, 1, 10)?;
-    expect_lines(
+    expect_document(
         rt.alloc(),
+        "f",
+        None,
         shards,
-        "f_total{shard=\"4\"} 4\nf_total{shard=\"5\"} 5\n\
+        "# TYPE f counter\n# HELP f H\nf_total{shard=\"4\"} 4\nf_total{shard=\"5\"} 5\n\
          f_total{shard=\"6\"} 16\nf_total{shard=\"1\"} 10\n# EOF\n",
     )
 }
@@ -145,14 +68,14 @@ fn each_is_seen_once_and_stays(rt: HostRuntime) -> Result<(), Fail> {
         true
     });
     assert!(rt; seen == 123);
-    expect_shards(rt.alloc(), shards, THREE)
-}
-
-#[test]
-fn none_stays(rt: HostRuntime) -> Result<(), Fail> {
-    let shards = shards_of(rt, rt.alloc(), &[1, 2, 3])?;
-    shards.retain(|_, _| false);
-    expect_shards(rt.alloc(), shards, "# EOF\n")
+    expect_document(
+        rt.alloc(),
+        "f",
+        None,
+        shards,
+        "# TYPE f counter\n# HELP f H\n\
+         f_total{shard=\"1\"} 1\nf_total{shard=\"2\"} 2\nf_total{shard=\"3\"} 3\n# EOF\n",
+    )
 }
 
 // A handle of the counter of a shard.
@@ -171,10 +94,12 @@ fn a_handle_of_one_that_left(rt: HostRuntime) -> Result<(), Fail> {
     count(&shards, 1, 7)?;
     handle.inc();
     assert!(rt; handle.total() == 2);
-    expect_lines(
+    expect_document(
         rt.alloc(),
+        "f",
+        None,
         shards,
-        "f_total{shard=\"2\"} 2\nf_total{shard=\"1\"} 7\n# EOF\n",
+        "# TYPE f counter\n# HELP f H\nf_total{shard=\"2\"} 2\nf_total{shard=\"1\"} 7\n# EOF\n",
     )
 }
 
@@ -187,54 +112,6 @@ fn clones_of_a_family_see_that_one_left(rt: HostRuntime) -> Result<(), Fail> {
     shards.clear();
     assert!(rt; other.len() == 0);
     Ok(())
-}
-
-// Requests by method and status, of which three methods counted.
-fn requests_of<H: Wait + Clone + Drop>(
-    wait: H,
-    alloc: Global,
-) -> Result<TextFamily<Counter, H>, MetricError> {
-    let requests = TextFamily::try_default(wait, alloc)?;
-    for (method, by) in [("GET", 1), ("PUT", 2), ("PATCH", 3)] {
-        let labels = [("method", method), ("status", "200")];
-        with_texts(
-            alloc,
-            &requests,
-            &labels,
-            |count: &Counter| count.inc_by(by),
-        )??;
-    }
-    Ok(requests)
-}
-
-// The document without the requests of one method.
-const WITHOUT_PUT: &str = "# TYPE f counter\n# HELP f H\nf_total{method=\"GET\",status=\"200\"} 1\n\
-    f_total{method=\"PATCH\",status=\"200\"} 3\n# EOF\n";
-
-#[test]
-fn one_leaves_by_texts(rt: HostRuntime) -> Result<(), Fail> {
-    let alloc = rt.alloc();
-    let requests = requests_of(rt, alloc)?;
-    let put = [("method", "PUT"), ("status", "200")];
-    assert!(rt; remove_texts(alloc, &requests, &put) == Ok(true));
-    assert!(rt; remove_texts(alloc, &requests, &put) == Ok(false));
-    assert!(rt; remove_texts(alloc, &requests, &[]) == Ok(false));
-    expect_shards(alloc, requests, WITHOUT_PUT)
-}
-
-// Whether there are two of these labels, and the first has this value.
-fn begins_with(labels: &TextLabels, value: &str) -> bool {
-    match labels.pairs() {
-        [method, _] => method.1.as_str() == value,
-        _ => false,
-    }
-}
-
-#[test]
-fn those_with_other_texts_stay(rt: HostRuntime) -> Result<(), Fail> {
-    let requests = requests_of(rt, rt.alloc())?;
-    requests.retain(|labels, _| !begins_with(labels, "PUT"));
-    expect_shards(rt.alloc(), requests, WITHOUT_PUT)
 }
 
 type Values = FamilyCore<Outcome, u64, BuildHasherDefault<FoldHasher>>;

@@ -15,5 +15,3 @@ mod meeting;
 mod members;
 #[cfg(test)]
 mod pairs;
-#[cfg(test)]
-mod texts;

@@ -160,15 +160,6 @@ fn a_second_registry_is_refused(rt: HostRuntime) -> Result<(), Fail> {
 }
 
 #[test]
-fn the_text_of_a_refusal(rt: HostRuntime) -> Result<(), Fail> {
-    assert_eq!(rt;
-        SetRegistryError.to_string(rt.alloc())?.as_str(),
-        "Global registry has already been initialized"
-    );
-    Ok(())
-}
-
-#[test]
 fn a_registry_that_was_set_is_lent(rt: HostRuntime) -> Result<(), Fail> {
     let alloc = rt.alloc();
     let global: GlobalRegistry = GlobalRegistry::new();

@@ -3,6 +3,8 @@
 #![tactic(auto)]
 
 #[cfg(test)]
+mod adding;
+#[cfg(test)]
 mod asking;
 #[cfg(test)]
 mod boxed;
@@ -17,12 +19,10 @@ mod global_registering;
 #[cfg(test)]
 mod global_support;
 #[cfg(test)]
-mod names;
-#[cfg(test)]
 mod nested;
 #[cfg(test)]
 mod readers;
 #[cfg(test)]
-mod registering;
+mod refusals;
 #[cfg(test)]
 mod trees;

@@ -1,12 +1,12 @@
 //! The same metrics in a root and, boxed, in a registry: both documents are the same.
 
-use crate::support::{expect_root, two};
+use crate::support::expect_root;
 use fastmetrics::encoder::EncodeMetric;
 use fastmetrics::metrics::counter::ConstCounter;
 use fastmetrics::metrics::family::{TextFamily, with_texts};
 use fastmetrics::metrics::gauge::Gauge;
 use fastmetrics::metrics::gauge_histogram::GaugeHistogram;
-use fastmetrics::raw::TryDefault;
+use fastmetrics::raw::{Fixed, TryDefault};
 use fastmetrics::registry::{Metric, Registry, RegistryCall, Root};
 use fm_test_support::support::document_of;
 use std::alloc::Global;
@@ -19,7 +19,7 @@ fn kinds<H: Wait + Copy + Send + Sync + Drop>(
     alloc: Global,
 ) -> Result<Vec<(&'static str, Metric<H>)>, Fail> {
     let levels = GaugeHistogram::try_default(wait, alloc)?;
-    levels.observe(two())?;
+    levels.observe(Fixed::from_millionths(2_000_000))?;
     let members: TextFamily<Gauge, H> = TryDefault::try_default(wait, alloc)?;
     with_texts(alloc, &members, &[("m", "GET")], |it| it.inc())?;
     let number = Gauge::<i64>::new(alloc, 5)?;

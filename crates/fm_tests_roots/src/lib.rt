@@ -1,10 +1,9 @@
-//! Tests of roots: each call that makes a metric, metrics of a program's own, subsystems, and what is refused.
+//! Tests of roots: constants, metrics of a program's own, paths, the metrics of a process, and refused memory. What a root makes by its
+//! own calls is tested by scripts (bench/replay).
 #![tactic(auto)]
 
 #[cfg(test)]
 mod boxed;
-#[cfg(test)]
-mod families;
 #[cfg(test)]
 mod own;
 #[cfg(test)]
@@ -15,9 +14,5 @@ mod process;
 mod refused;
 #[cfg(test)]
 mod refused_paths;
-#[cfg(test)]
-mod single;
-#[cfg(test)]
-mod subsystems;
 #[cfg(test)]
 mod support;

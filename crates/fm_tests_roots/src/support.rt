@@ -2,17 +2,11 @@
 
 use fastmetrics::encoder::EncodeMetric;
 use fastmetrics::format::text::encode_exposition;
-use fastmetrics::raw::Fixed;
 use fastmetrics::registry::Root;
 use fm_test_support::support::{expect_text, text_of};
 use std::alloc::Global;
 use std::sync::Wait;
 use std::test::Fail;
-
-/// Two, in millionths.
-pub fn two() -> Fixed {
-    Fixed::from_millionths(2_000_000)
-}
 
 /// Fails if this is not the document of a root, straight and by collecting first.
 pub fn expect_root<H: Wait + Copy + Send + Sync + Drop, X: EncodeMetric>(
