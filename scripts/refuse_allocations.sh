@@ -18,7 +18,7 @@ export scratch
 failed=0
 stories=0
 requests_in_all=0
-[[ $# -gt 0 ]] || set -- fm_tests_memory fm_tests_roots
+[[ $# -gt 0 ]] || set -- fm_tests_memory fm_tests_documents
 
 # How many requests a test makes.
 count() {

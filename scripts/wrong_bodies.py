@@ -359,6 +359,8 @@ def main():
     words.add_argument("crates", nargs="*")
     given, crates = words.parse_args(), crates_of()
     left = [it for name, it in crates.items() if (not given.crates or name in given.crates) and it.batches()]
+    # Those with the most bodies first, so that no long check is the last.
+    left.sort(key=lambda it: -len(listed(it, "wrong_bodies")))
     if given.copies:
         return said_of_copies(left, crates)
     lanes, lock, counts = len(os.sched_getaffinity(0)), threading.Lock(), {True: 0, False: 0}

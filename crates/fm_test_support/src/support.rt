@@ -134,18 +134,6 @@ pub fn expect_document<M: EncodeMetric + Drop>(
     expect_text(document.as_str(), want)
 }
 
-// The sample lines and the last line of a gauge `t`.
-fn lines_of<M: EncodeMetric + Drop>(alloc: Global, metric: M) -> Result<String, Fail> {
-    let document = document_alone(alloc, "t", None, metric)?;
-    match document
-        .as_str()
-        .strip_prefix("# TYPE t gauge\n# HELP t H\n")
-    {
-        Some(lines) => Ok(String::from_str(alloc, lines)?),
-        None => Err(Fail::new("another head")),
-    }
-}
-
 // Why a registry is refused. A refusal leaves what its writer held.
 fn refusal_of<M: EncodeMetric>(alloc: Global, registry: &Registry<M>) -> Result<EncodeError, Fail>
     requires { HasHistory registry.now }
@@ -155,16 +143,6 @@ fn refusal_of<M: EncodeMetric>(alloc: Global, registry: &Registry<M>) -> Result<
         (Err(_), _) => Err(Fail::new("a refusal wrote something")),
         (Ok(()), _) => Err(Fail::new("nothing was refused")),
     }
-}
-
-/// Fails if these are not the sample lines and the last line of a gauge `t`.
-pub fn expect_lines<M: EncodeMetric + Drop>(
-    alloc: Global,
-    metric: M,
-    want: &str,
-) -> Result<(), Fail> {
-    let lines = lines_of(alloc, metric)?;
-    expect_text(lines.as_str(), want)
 }
 
 // Fails if a registry is not refused by this error, or if a refusal wrote something.

@@ -28,13 +28,6 @@ pub fn labels(alloc: Global, pairs: &[(&str, &str)]) -> Result<Vec<(String, Stri
     Ok(labels)
 }
 
-/// Whether these are the labels, in this order.
-pub fn are_labels(labels: &[(String, String)], pairs: &[(&str, &str)]) -> bool {
-    labels.len() == pairs.len()
-        && labels.iter().zip(pairs).all(|(label, pair)| label.0.as_str() == pair.0
-            && label.1.as_str() == pair.1)
-}
-
 // The number of the refusal in a result, and 0 for `Ok`.
 fn number_of(answer: &Result<(), RegistryError>) -> u8 {
     match answer {

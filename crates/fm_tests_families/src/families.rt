@@ -1,12 +1,8 @@
 //! Families by their documents: members of each kind, and threads.
 use fm_core::encoder::{EncodeMetric, StaticStr};
 use fm_family::{DefaultFactory, Family, PairFamily, with_pairs};
-use fm_metrics::info::Info;
-use fm_metrics::state_set::ConstStateSet;
-use fm_metrics::unknown::Unknown;
-use fm_metrics::{ConstCounter, ConstGauge, Counter, Gauge};
+use fm_metrics::{Counter, Gauge};
 use fm_raw::{MetricError, TryDefault};
-use fm_test_support::jobs::Job;
 use fm_test_support::replies::{Method, Outcome, Reply};
 use fm_test_support::support::{expect_document_of, registry_of};
 use std::alloc::Global;
@@ -120,81 +116,5 @@ fn names_that_other_types_reserve(rt: HostRuntime) -> Result<(), Fail> {
         rt.alloc(),
         counters,
         "# TYPE m counter\n# HELP m H\nm_total{le=\"1\"} 1\nm_total{quantile=\"1\"} 1\n# EOF\n",
-    )
-}
-
-#[test]
-fn constant_state_sets_by_labels(rt: HostRuntime) -> Result<(), Fail> {
-    let alloc = rt.alloc();
-    let jobs = Family::<Outcome, ConstStateSet<Job>, _, Hasher, HostRuntime>::new(
-        rt,
-        alloc,
-        move || ConstStateSet::new(alloc, Job::Failed),
-    )?;
-    jobs.with_or_new(&FAILED, |_| ())?;
-    expect_twice(
-        alloc,
-        jobs,
-        "# TYPE m stateset\n# HELP m H\n\
-         m{error=\"true\",m=\"pending\"} 0\nm{error=\"true\",m=\"running\"} 0\n\
-         m{error=\"true\",m=\"completed\"} 0\nm{error=\"true\",m=\"failed\"} 1\n# EOF\n",
-    )
-}
-
-#[test]
-fn information_by_labels(rt: HostRuntime) -> Result<(), Fail> {
-    let alloc = rt.alloc();
-    let infos = Family::<Outcome, Info<()>, _, Hasher, HostRuntime>::new(rt, alloc, || {
-        Ok(Info::new(()))
-    })?;
-    infos.with_or_new(&FAILED, |_| ())?;
-    expect_twice(
-        alloc,
-        infos,
-        "# TYPE m info\n# HELP m H\nm_info{error=\"true\"} 1\n# EOF\n",
-    )
-}
-
-#[test]
-fn values_without_a_type_by_labels(rt: HostRuntime) -> Result<(), Fail> {
-    let alloc = rt.alloc();
-    let unknowns = Family::<Outcome, Unknown<i64>, _, Hasher, HostRuntime>::new(rt, alloc, || {
-        Ok(Unknown::new(-5i64))
-    })?;
-    unknowns.with_or_new(&FAILED, |_| ())?;
-    expect_twice(
-        alloc,
-        unknowns,
-        "# TYPE m unknown\n# HELP m H\nm{error=\"true\"} -5\n# EOF\n",
-    )
-}
-
-#[test]
-fn constant_gauges_by_labels(rt: HostRuntime) -> Result<(), Fail> {
-    let alloc = rt.alloc();
-    let levels = Family::<Outcome, ConstGauge<i64>, _, Hasher, HostRuntime>::new(rt, alloc, || {
-        Ok(ConstGauge::new(-5i64))
-    })?;
-    levels.with_or_new(&FAILED, |_| ())?;
-    expect_twice(
-        alloc,
-        levels,
-        "# TYPE m gauge\n# HELP m H\nm{error=\"true\"} -5\n# EOF\n",
-    )
-}
-
-#[test]
-fn constant_counters_by_labels(rt: HostRuntime) -> Result<(), Fail> {
-    let alloc = rt.alloc();
-    let counts = Family::<Outcome, ConstCounter<u64>, _, Hasher, HostRuntime>::new(
-        rt,
-        alloc,
-        || Ok(ConstCounter::new(7u64)),
-    )?;
-    counts.with_or_new(&FAILED, |_| ())?;
-    expect_twice(
-        alloc,
-        counts,
-        "# TYPE m counter\n# HELP m H\nm_total{error=\"true\"} 7\n# EOF\n",
     )
 }

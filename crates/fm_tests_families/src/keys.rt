@@ -2,12 +2,10 @@
 ghost use Rattle.std.specs.Prelude.{[], ◌∷◌, codes};
 ghost use Rattle.fm_labels.specs.Labels.{NamePiece, ValuePiece};
 
-use fm_core::encoder::{EncodeError, EncodeLabelSet, LabelSetEncoder, LabelStr, StaticStr};
+use fm_core::encoder::{EncodeError, EncodeLabelSet, LabelSetEncoder, LabelStr};
 use fm_family::{DefaultFactory, Family, FamilyCore};
 use fm_metrics::Counter;
-use fm_metrics::info::Info;
 use fm_test_support::replies::Path;
-use fm_test_support::support::expect_document;
 use std::hash::{BuildHasherDefault, FoldHasher, RandomState};
 use std::test::Fail;
 
@@ -54,20 +52,4 @@ fn lent_texts(rt: HostRuntime) -> Result<(), Fail> {
     assert!(rt; core.get(&Lent(LabelStr("/b"))) == Some(&8) && core.len() == 2);
     assert!(rt; LabelStr("a") < LabelStr("b") && LabelStr("a") == LabelStr("a"));
     Ok(())
-}
-
-#[test]
-fn texts_of_the_program(rt: HostRuntime) -> Result<(), Fail> {
-    let alloc = rt.alloc();
-    let build = Info::new([
-        (StaticStr("version"), StaticStr("1.2")),
-        (StaticStr("commit"), StaticStr("abc")),
-    ]);
-    expect_document(
-        alloc,
-        "build",
-        None,
-        build,
-        "# TYPE build info\n# HELP build H\nbuild_info{version=\"1.2\",commit=\"abc\"} 1\n# EOF\n",
-    )
 }

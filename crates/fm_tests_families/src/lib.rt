@@ -2,8 +2,6 @@
 #![tactic(auto)]
 
 #[cfg(test)]
-mod constants;
-#[cfg(test)]
 mod families;
 #[cfg(test)]
 mod keys;
@@ -13,5 +11,3 @@ mod leaving;
 mod meeting;
 #[cfg(test)]
 mod members;
-#[cfg(test)]
-mod pairs;

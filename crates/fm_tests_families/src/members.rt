@@ -1,6 +1,6 @@
 //! Families and their factories, by what calls return.
 
-use fm_family::{Family, FamilyCore};
+use fm_family::Family;
 use fm_raw::MetricError;
 use fm_test_support::replies::{Method, Reply};
 use std::hash::{BuildHasherDefault, FoldHasher};
@@ -9,8 +9,6 @@ use std::test::Fail;
 
 type Hasher = BuildHasherDefault<FoldHasher>;
 
-type Core = FamilyCore<Reply, u64, Hasher>;
-
 // The labels of a status.
 fn reply(status: u16) -> Reply {
     Reply {
@@ -18,35 +16,6 @@ fn reply(status: u16) -> Reply {
         status,
         error: None,
     }
-}
-
-// Whether a status has this member, made as the first number if it has none.
-fn gives(core: &mut Core, status: u16, new: u64, want: u64) -> bool {
-    core.get_or_new(&reply(status), &|| Ok(new)) == Ok(&want)
-}
-
-#[test]
-fn members_by_labels(rt: HostRuntime) -> Result<(), Fail> {
-    let mut core = Core::new(rt.alloc());
-    assert!(rt; core.is_empty());
-    for (status, new, want) in [(200, 7, 7), (404, 8, 8), (200, 9, 7)] {
-        assert!(rt; gives(&mut core, status, new, want));
-    }
-    for (status, want) in [(200, Some(&7)), (404, Some(&8)), (500, None)] {
-        assert!(rt; core.get(&reply(status)) == want);
-    }
-    assert!(rt; core.len() == 2 && !core.is_empty());
-    Ok(())
-}
-
-#[test]
-fn refusals_of_factories_are_handed_on(rt: HostRuntime) -> Result<(), Fail> {
-    let full = || -> Result<u64, MetricError> { Err(MetricError::CountFull) };
-    let mut core = Core::with_hasher(rt.alloc(), Hasher::new());
-    assert!(rt; core.get_or_new(&reply(200), &full) == Err(MetricError::CountFull));
-    assert!(rt; core.len() == 0 && gives(&mut core, 200, 7, 7));
-    assert!(rt; core.get_or_new(&reply(200), &full) == Ok(&7));
-    Ok(())
 }
 
 #[test]

@@ -13,7 +13,6 @@ use fm_test_support::support::expect_document;
 use std::hash::{BuildHasherDefault, FoldHasher};
 use std::test::Fail;
 use std::thread;
-use std::time::Duration;
 
 static SECOND_STATE: &str =
     "# TYPE s stateset\n# HELP s H\ns{s=\"pending\"} 0\ns{s=\"running\"} 1\n# EOF\n";
@@ -25,25 +24,6 @@ fn a_state_set_by_another_thread(rt: HostRuntime) -> Result<(), Fail> {
     let clone = job.clone()?;
     let (is_set, _) = thread::join(&rt, || clone.set(Job::Running).is_ok(), || ());
     assert!(rt; is_set && *job.get() == Job::Running);
-    expect_document(alloc, "s", None, job, SECOND_STATE)
-}
-
-#[test]
-fn clones_of_constants(rt: HostRuntime) -> Result<(), Fail> {
-    let since = Duration::from_millis(1005);
-    let total = ConstCounter::<u64>::with_created(42, since).clone()?;
-    assert!(rt; total.total() == 42 && total.created() == Some(since));
-    assert!(rt; ConstGauge::<i64>::new(-5).clone()?.get() == -5);
-    assert!(rt; *Unknown::<i64>::new(-5).clone()?.get() == -5);
-    assert!(rt; *Info::new([(1u8, 2u8)]).clone()?.get() == [(1, 2)]);
-    Ok(())
-}
-
-#[test]
-fn a_clone_of_a_constant_state_set(rt: HostRuntime) -> Result<(), Fail> {
-    let alloc = rt.alloc();
-    let job = ConstStateSet::new(alloc, Job::Running)?.clone()?;
-    assert!(rt; *job.get() == Job::Running);
     expect_document(alloc, "s", None, job, SECOND_STATE)
 }
 

@@ -1,7 +1,7 @@
 //! State sets that begin with a default, and states that they refuse.
 
-use crate::support::{Crowd, Light};
-use fm_metrics::state_set::{ConstStateSet, StateSet};
+use crate::support::Light;
+use fm_metrics::state_set::StateSet;
 use fm_raw::{MetricError, TryDefault};
 use fm_test_support::support::expect_document;
 use std::test::Fail;
@@ -28,19 +28,4 @@ fn a_refused_state_changes_nothing(rt: HostRuntime) -> Result<(), Fail> {
     light.set(Light::Red)?;
     assert!(rt; *light.get() == Light::Red);
     Ok(())
-}
-
-#[test]
-fn sets_do_not_begin_with_an_unknown_state(rt: HostRuntime) {
-    let unknown = Some(MetricError::UnknownState);
-    assert!(rt; StateSet::new(rt.alloc(), Light::Blue).err() == unknown);
-    assert!(rt; ConstStateSet::new(rt.alloc(), Light::Blue).err() == unknown);
-    assert!(rt; MetricError::UnknownState.number() == 4);
-}
-
-#[test]
-fn too_many_states_before_an_unknown_one(rt: HostRuntime) {
-    let too_many = Some(MetricError::TooManyStates);
-    assert!(rt; StateSet::new(rt.alloc(), Crowd::Outside).err() == too_many);
-    assert!(rt; ConstStateSet::new(rt.alloc(), Crowd::Outside).err() == too_many);
 }

@@ -8,7 +8,7 @@ use fm_core::encoder::{EncodeError, EncodeMetric, MetricEncoder};
 use fm_metrics::ConstGauge;
 use fm_raw::MetricType;
 use fm_test_support::liars::{Failing, Fickle, Forgetful};
-use fm_test_support::support::{expect_document, expect_refusal, expect_refusal_under};
+use fm_test_support::support::{expect_document, expect_refusal};
 use std::alloc::{AllocError, Global};
 use std::sync::{Mutex, Wait};
 use std::test::Fail;
@@ -32,29 +32,6 @@ fn forgotten_refusals(rt: HostRuntime) -> Result<(), Fail> {
     expect_refusal(alloc, metric, EncodeError::InvalidLabelName)?;
     let metric = forgetful(alloc, &["a", "a"])?;
     expect_refusal(alloc, metric, EncodeError::DuplicateLabel)
-}
-
-#[test]
-fn a_forgotten_refusal_under_a_constant_label(rt: HostRuntime) -> Result<(), Fail> {
-    let alloc = rt.alloc();
-    expect_refusal_under(
-        alloc,
-        &[("k", "v")],
-        forgetful(alloc, &["k"])?,
-        EncodeError::DuplicateLabel,
-    )
-}
-
-#[test]
-fn nothing_to_forget(rt: HostRuntime) -> Result<(), Fail> {
-    let alloc = rt.alloc();
-    expect_document(
-        alloc,
-        "t",
-        None,
-        forgetful(alloc, &["a"])?,
-        "# TYPE t gauge\n# HELP t H\nt{a=\"1\"} 5\nt 5\n# EOF\n",
-    )
 }
 
 #[test]

@@ -1,13 +1,13 @@
-//! Tests of counters, gauges, state sets and other metrics: every call at every type of number, clones, threads, documents, metrics that
-//! lie, what `Debug` shows, and laws.
+//! Tests of numbers, bounds and names, and of counters, gauges, state sets and other metrics: every call at every type of number, clones,
+//! threads, documents, metrics that lie, what `Debug` shows, and laws.
 #![tactic(auto)]
 
+#[cfg(test)]
+mod buckets;
 #[cfg(test)]
 mod cases;
 #[cfg(test)]
 mod clones;
-#[cfg(test)]
-mod constants;
 #[cfg(test)]
 mod default_states;
 #[cfg(test)]
@@ -16,6 +16,8 @@ mod exemplar_counters;
 mod laws;
 #[cfg(test)]
 mod liars;
+#[cfg(test)]
+mod numbers;
 #[cfg(test)]
 mod shared;
 #[cfg(test)]

@@ -79,19 +79,3 @@ impl NumberSource<Fixed> for Half {
         Fixed::from_millionths(500_000)
     }
 }
-
-#[test]
-fn a_counter_asks_for_millionths(rt: HostRuntime) -> Result<(), Fail> {
-    let alloc = rt.alloc();
-    let document = "# TYPE time counter\n# HELP time H\ntime_total 0.5\n# EOF\n";
-    let counter = SourceCounter::new(Half);
-    expect_document(alloc, "time", None, counter, document)
-}
-
-#[test]
-fn a_gauge_asks_for_millionths(rt: HostRuntime) -> Result<(), Fail> {
-    let alloc = rt.alloc();
-    let document = "# TYPE level gauge\n# HELP level H\nlevel 0.5\n# EOF\n";
-    let gauge = SourceGauge::new(Half);
-    expect_document(alloc, "level", None, gauge, document)
-}

@@ -4,7 +4,6 @@ use crate::support::Job;
 use fm_metrics::state_set::{ConstStateSet, StateSet};
 use fm_raw::MetricError;
 use fm_test_support::jobs::{Alike, OneMore};
-use fm_test_support::support::document_alone;
 use std::test::Fail;
 
 // Whether of two states this one alone is current.
@@ -25,13 +24,6 @@ fn clones_share_a_state(rt: HostRuntime) -> Result<(), Fail> {
 }
 
 #[test]
-fn constants_keep_a_state(rt: HostRuntime) -> Result<(), Fail> {
-    let job = ConstStateSet::new(rt.alloc(), Job::Pending)?;
-    assert!(rt; is_current(&job.states()?, 0));
-    Ok(())
-}
-
-#[test]
 fn most_states(rt: HostRuntime) -> Result<(), Fail> {
     let alloc = rt.alloc();
     assert!(rt; StateSet::new(alloc, Alike)?.states()?.len() == 256);
@@ -44,19 +36,4 @@ fn too_many_states(rt: HostRuntime) {
     let too_many = Some(MetricError::TooManyStates);
     assert!(rt; StateSet::new(rt.alloc(), OneMore).err() == too_many);
     assert!(rt; ConstStateSet::new(rt.alloc(), OneMore).err() == too_many);
-}
-
-// Whether a document has 256 states, of which the first is the current one.
-fn has_most_states(document: &str) -> bool {
-    document.starts_with("# TYPE s stateset\n# HELP s H\ns{s=\"x\"} 1\ns{s=\"x\"} ")
-        && document.matches("\ns{s=\"").count() == 256
-}
-
-#[test]
-fn the_document_of_most_states(rt: HostRuntime) -> Result<(), Fail> {
-    let alloc = rt.alloc();
-    let most = ConstStateSet::new(alloc, Alike)?;
-    let document = document_alone(alloc, "s", None, most)?;
-    assert!(rt; has_most_states(document.as_str()));
-    Ok(())
 }

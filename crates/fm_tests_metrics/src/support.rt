@@ -1,9 +1,8 @@
 //! What the tests share: a set of two states, and metrics of the tests' own.
-ghost use Rattle.std.specs.Prelude.{◌≡◌, [], ◌∷◌, codes, replicate};
+ghost use Rattle.std.specs.Prelude.{◌≡◌, [], ◌∷◌, codes};
 ghost use Rattle.fm_grammar.specs.declared.MetricType.TheVariants.{Gauge};
 ghost use Rattle.fm_tests_metrics.specs.declared.support.Job.TheVariants.{Pending, Running};
 ghost use Rattle.fm_tests_metrics.specs.declared.support.Light.TheVariants.{Red, Yellow, Green, Blue};
-ghost use Rattle.fm_tests_metrics.specs.declared.support.Crowd.TheVariants.{Inside};
 
 use fm_core::encoder::{EncodeError, EncodeMetric, MetricEncoder};
 use fm_metrics::state_set::StateSetValue;
@@ -76,29 +75,6 @@ impl Default for Light {
 
     fn default() -> Light {
         Light::Yellow
-    }
-}
-
-/// One state more than a state set may have. Of these, `Outside` is no state.
-#[derive(Clone, Copy, PartialEq, Eq, Debug)]
-pub enum Crowd {
-    Inside,
-    Outside,
-}
-
-static CROWD: [Crowd; 257] = [Crowd::Inside; 257];
-
-impl StateSetValue for Crowd {
-    ghost all = { replicate 257 Inside };
-
-    ghost text = { λ _. codes "x" };
-
-    fn variants() -> &'static [Crowd] {
-        &CROWD
-    }
-
-    fn as_str(&self) -> &str {
-        "x"
     }
 }
 

@@ -1,1 +1,2 @@
+pub mod PointsLemmas
 pub mod TwoLemmas

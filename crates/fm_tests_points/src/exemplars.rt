@@ -7,13 +7,10 @@ use fm_raw::{Fixed, FixedSum, MetricType};
 use fm_test_support::members::OneMember;
 use fm_test_support::parts::{Faulty, Unvisited};
 use fm_test_support::points::CounterWith;
-use fm_test_support::support::{expect_document, expect_refusal};
+use fm_test_support::support::expect_refusal;
 use fm_test_support::trees::labels;
-use std::alloc::Global;
 use std::test::Fail;
 use std::time::Duration;
-
-type Labels = Vec<(String, String)>;
 
 // A counter of the total 5 with this exemplar.
 fn five_with<E>(exemplar: E) -> OneMember<(), CounterWith<u64, E>> {
@@ -32,18 +29,6 @@ fn half<LS>(labels: LS) -> LabeledExemplar<LS> {
         value: Fixed::from_millionths(500_000),
         timestamp: None,
     }
-}
-
-#[test]
-fn no_exemplar(rt: HostRuntime) -> Result<(), Fail> {
-    let alloc = rt.alloc();
-    expect_document(
-        alloc,
-        "x",
-        None,
-        five_with(()),
-        "# TYPE x counter\n# HELP x H\nx_total 5\n# EOF\n",
-    )
 }
 
 #[test]
@@ -101,33 +86,6 @@ fn two_buckets<E>(time: Option<Duration>, exemplar: E) -> OneMember<(), TwoBucke
             sum: FixedSum::from_millionths(12_500_000),
         },
     }
-}
-
-// Fails if this is not the document of such a histogram with the exemplar 0.7 under these labels.
-fn expect_buckets(
-    alloc: Global,
-    time: Option<Duration>,
-    pairs: &[(&str, &str)],
-    want: &str,
-) -> Result<(), Fail> {
-    let exemplar = LabeledExemplar {
-        labels: labels(alloc, pairs)?,
-        value: Fixed::from_millionths(700_000),
-        timestamp: None,
-    };
-    let metric = two_buckets(time, exemplar);
-    expect_document(alloc, "h", None, metric, want)
-}
-
-#[test]
-fn exemplar_of_a_bucket(rt: HostRuntime) -> Result<(), Fail> {
-    expect_buckets(
-        rt.alloc(),
-        None,
-        &[],
-        "# TYPE h histogram\n# HELP h H\nh_bucket{le=\"1.0\"} 3 # {} 0.7\nh_bucket{le=\"+Inf\"} 5\n\
-        h_count 5\nh_sum 12.5\n# EOF\n",
-    )
 }
 
 #[test]

@@ -6,7 +6,7 @@ use fm_metrics::ConstGauge;
 use fm_raw::bucket::{Bound, Bucket};
 use fm_raw::{Fixed, FixedSum, MetricType};
 use fm_test_support::members::OneMember;
-use fm_test_support::parts::{Faulty, Silent, Twice};
+use fm_test_support::parts::{Silent, Twice};
 use fm_test_support::points::CounterWith;
 use fm_test_support::support::expect_refusal;
 use fm_test_support::trees::labels;
@@ -86,20 +86,6 @@ fn exemplar_of_a_bucket_before_the_sum_of_the_next(rt: HostRuntime) -> Result<()
     let point = two_buckets(18446744073709551615, 1, TwoExemplars((), Fixed::ONE));
     let metric: Box<dyn EncodeMetric> = Box::new(alloc, member(MetricType::Histogram, (), point))?;
     expect_refusal(alloc, metric, EncodeError::ExemplarTwice)
-}
-
-#[test]
-fn number_before_the_exemplar(rt: HostRuntime) -> Result<(), Fail> {
-    let alloc = rt.alloc();
-    for own in [EncodeError::Write, EncodeError::ExemplarTooLong] {
-        let point = CounterWith {
-            total: Silent,
-            exemplar: Faulty(own),
-        };
-        let metric = member(MetricType::Counter, (), point);
-        expect_refusal(alloc, metric, EncodeError::MissingValue)?;
-    }
-    Ok(())
 }
 
 #[test]

@@ -4,7 +4,7 @@ use crate::points::FiveOf;
 use fm_core::encoder::EncodeError;
 use fm_raw::MetricType;
 use fm_test_support::members::OneMember;
-use fm_test_support::support::{expect_document, expect_refusal};
+use fm_test_support::support::expect_refusal;
 use std::alloc::Global;
 use std::test::Fail;
 
@@ -42,49 +42,6 @@ fn each_kind_in_each_other_family(rt: HostRuntime) -> Result<(), Fail> {
                 expect_refusal(alloc, metric, EncodeError::KindMismatch)?;
             }
         }
-    }
-    Ok(())
-}
-
-#[test]
-fn each_kind_in_its_own_family(rt: HostRuntime) -> Result<(), Fail> {
-    let alloc = rt.alloc();
-    for (metric_type, want) in [
-        (
-            MetricType::Unknown,
-            "# TYPE t unknown\n# HELP t H\nt 5\n# EOF\n",
-        ),
-        (
-            MetricType::Gauge,
-            "# TYPE t gauge\n# HELP t H\nt 5\n# EOF\n",
-        ),
-        (
-            MetricType::Counter,
-            "# TYPE t counter\n# HELP t H\nt_total 5\n# EOF\n",
-        ),
-        (
-            MetricType::StateSet,
-            "# TYPE t stateset\n# HELP t H\n# EOF\n",
-        ),
-        (
-            MetricType::Info,
-            "# TYPE t info\n# HELP t H\nt_info 1\n# EOF\n",
-        ),
-        (
-            MetricType::Histogram,
-            "# TYPE t histogram\n# HELP t H\nt_count 5\nt_sum 0.0\n# EOF\n",
-        ),
-        (
-            MetricType::GaugeHistogram,
-            "# TYPE t gaugehistogram\n# HELP t H\nt_gcount 5\nt_gsum 0.0\n# EOF\n",
-        ),
-        (
-            MetricType::Summary,
-            "# TYPE t summary\n# HELP t H\nt_count 5\nt_sum 0.0\n# EOF\n",
-        ),
-    ] {
-        let metric = five_in(alloc, metric_type, metric_type);
-        expect_document(alloc, "t", None, metric, want)?;
     }
     Ok(())
 }

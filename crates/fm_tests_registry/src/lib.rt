@@ -13,16 +13,10 @@ mod calls;
 #[cfg(test)]
 mod deciding;
 #[cfg(test)]
-mod deep;
-#[cfg(test)]
 mod global_registering;
 #[cfg(test)]
 mod global_support;
 #[cfg(test)]
-mod nested;
-#[cfg(test)]
 mod readers;
 #[cfg(test)]
 mod refusals;
-#[cfg(test)]
-mod trees;
