@@ -1,24 +1,29 @@
 #!/usr/bin/env python3
 """Tries the wrong bodies of the crates, each of which the check must refuse.
 
-    scripts/wrong_bodies.py [--follow LOG | --copies] [CRATE..]        those of all crates, or of these
+    scripts/wrong_bodies.py [--follow LOG | --right] [CRATE..]        those of all crates, or of these
 
 A crate lists its wrong bodies in must-fail/wrong_bodies.md: below a heading of its own, a line `file: src/FILE`, and pairs of lines
 `old: TEXT` and `new: TEXT`. Each old text stands in the file once.
 
-Many wrong bodies are tried together: one check of a copy of the crate, in which they all stand, says of each function what it can't prove.
-A function is proved from its own body and from the contracts of what it calls; only functions that call one another have one proof. So a wrong body is refused where the
-check names something of its own function: a goal that is not proved, or an error in the function's own proof. A second wrong body of a function stands
-in a copy of the function, under a name of its own, with a copy of its proof; where there can be none, as of a trait's method, the two are tried in two
-checks. With --copies such copies are tried with what is right in them: each must be proved, since a copy that isn't shows nothing. One of which a check says only that the function's proof names what is gone shows nothing of the contract: it is NOT SHOWN,
-and fails as one does that is NOT REFUSED. It has to become another body, or one that a test refuses (`scripts/tested_bodies.py`).
+Many wrong bodies are tried together: one check of a copy of the crate, in which they all stand, says of each function what it can't prove. A function
+is proved from its own body and from the contracts of what it calls; only functions that call one another have one proof. So a wrong body is refused
+where the check names something of its own function: a goal that is not proved, or an error in the function's own proof. A second wrong body of a
+function stands in a copy of the function, under a name of its own, with a copy of its proof; where there can be none, as of a trait's method, the two
+are tried in two checks. What else the check would prove again is left out: each other function of that copy calls one that never returns, since its
+contract promises what is false, and the proof of each is gone. With --right all of this is tried with what is right in the place of each wrong body:
+each function must be proved, since one that isn't would show nothing.
+
+One of which a check says only that the function's proof names what is gone shows nothing of the contract: it is NOT SHOWN, and fails as one does that
+is NOT REFUSED. It has to become another body, or one that a test refuses (`scripts/tested_bodies.py`).
 
 The libraries below a crate have to be built, in the crates' out/rlib, as `rt ci` leaves them. With --follow LOG, the output of an `rt ci` that
 still runs, a crate is tried once it is proved there, with all processors but one until the run ends; the libraries are linked into a
-folder as they are proved, since the run's end may put back older ones. What was refused before on this machine isn't tried again (scripts/kept.py). Prints a line for each wrong body, and then 'N refused, M not refused';
-the status is 0 if M is 0.
+folder as they are proved, since the run's end may put back older ones. What was refused before on this machine isn't tried again (scripts/kept.py).
+Prints a line for each wrong body, and then 'N refused, M not refused'; the status is 0 if M is 0.
 """
 import argparse
+import glob
 import os
 import re
 import shutil
@@ -33,10 +38,17 @@ import kept
 TOP = os.path.dirname(os.path.dirname(os.path.realpath(__file__)))
 KIT = os.path.dirname(subprocess.run(["rt", "doc"], stdout=subprocess.PIPE, text=True, check=True).stdout.strip())
 
+ROOTS = ("src/main.rt", "src/lib.rt")
 FUNCTION = re.compile(r" *(?:pub(?:\(crate\))? )?(?:const )?fn (\w+)")
 IMPL = re.compile(r"impl\b(?:<.*?>)? (?:(\w+) for )?(\w+)(?:<.*>)? \{$")
 NAMING = re.compile(r"has no `|has no field|is not in scope|was not admitted")
 BLOCK = re.compile(r"(?:pub(?:\(crate\))? )?(?:impl|trait)\b")
+HEAD = re.compile(r"( *)(?:pub(?:\([^)]*\))? )?fn (\w+)")
+NEVER = """unsafe extern "C" {
+    pub(crate) safe fn never()
+        ensures { ⊥ };
+}
+"""
 
 
 def text_of(path):
@@ -48,6 +60,39 @@ def head_at(lines, at):
     """The head of a block that begins in a line, on one line."""
     end = next(i for i in range(at, len(lines)) if lines[i].endswith("{"))
     return re.sub(r"<\s|,?\s(?=>)", lambda it: it[0].strip(" ,"), " ".join(it.strip() for it in lines[at : end + 1]))
+
+
+def without_bodies(lines, names):
+    """The lines of a file in which each function calls one that never returns, but constant ones and those of these names. Each stays in its lines."""
+    found, at = list(lines), 0
+    while at < len(lines):
+        head, at = HEAD.match(lines[at]), at + 1
+        if not head or head[2] in names or lines[at - 1].endswith(("}", ";")):
+            continue
+        begin = at - 1
+        while lines[begin] != head[1] + "{" and not (lines[begin].endswith(" {") and (begin == at - 1 or lines[begin].startswith(head[1] + ")"))):
+            begin += 1
+            if not lines[begin] or lines[begin].endswith(";"):
+                break
+        else:
+            end = lines.index(head[1] + "}", begin)
+            if end > begin + 1:
+                found[begin + 1 : end] = [f"{head[1]}    crate::never::never(); unreachable!()", *[""] * (end - begin - 2)]
+            at = end
+    return found
+
+
+def leave_out(folder, names):
+    """Leaves out of a copy of a crate all functions but those of these names, and their proofs."""
+    for path in glob.glob(f"{folder}/src/**/*.rt", recursive=True):
+        lines = without_bodies(text_of(path).split("\n"), names)
+        with open(path, "w", encoding="utf-8") as file:
+            file.write("\n".join(lines) + ("mod never;\n" if os.path.relpath(path, folder) in ROOTS else ""))
+    with open(f"{folder}/src/never.rt", "w", encoding="utf-8") as file:
+        file.write(NEVER)
+    for path, _, files in os.walk(f"{folder}/proofs", topdown=False):
+        if os.path.basename(path) not in names and "+" not in path and {"Answers.antt", "Invariants.antt", "Proof.antt"} & set(files):
+            shutil.rmtree(path)
 
 
 class Function:
@@ -208,14 +253,14 @@ class Crate:
     def words(self, crates, run):
         """The words of a check of it, on the libraries of a run."""
         rlib = lambda name: f"{run.rlibs(crates[name])}/{name}.rlib" if name in crates else f"{KIT}/rlibs/{name}.rlib"
-        root = next(it for it in ("src/main.rt", "src/lib.rt") if os.path.isfile(f"{self.folder}/{it}"))
+        root = next(it for it in ROOTS if os.path.isfile(f"{self.folder}/{it}"))
         words = [f"{KIT}/bin/rattle", "check", "--crate-name", self.name, root, "-L", f"dependency={KIT}/rlibs"]
         for name in ["std", *self.libraries]:
             words += ["--extern", f"{name}={rlib(name)}"]
         for crate in self.below(crates):
             words += ["-L", f"dependency={os.path.dirname(rlib(crate.name))}"]
         words += ["--antt-project", f"{KIT}/rattle/logic/antt-project.json", "--logic-built", f"{KIT}/logic_built"]
-        return [*words, "--links", f"{self.name}=", "--jobs", "1"]
+        return [*words, "--links", f"{self.name}=never", "--jobs", "1"]
 
     def checked_with(self, wrongs, crates, run, proved):
         """What a check of the functions of these wrong bodies says of a copy in which they stand, and the functions of each. What is proved is kept for
@@ -228,27 +273,27 @@ class Crate:
                 if not wrong.copy:
                     wrong.stand_in(room)
             functions = [[wrong.stand_beside(room)] if wrong.copy else wrong.functions() for wrong in wrongs]
+            leave_out(room, {it.name for found in functions for it in found})
             paths = {it.path for found in functions for it in found}
             only = [word for path in sorted(paths) for word in ("--only", path)] if "" not in paths else []
             how = {"stdin": subprocess.DEVNULL, "stdout": subprocess.PIPE, "stderr": subprocess.STDOUT, "errors": "replace"}
             return subprocess.run([*self.words(crates, run), "--incremental", proved, *only], cwd=room, **how).stdout, functions
 
-    def unproved_copies(self, crates, run):
-        """The functions that stand in copies, and those of them whose copy isn't proved where it has what is right."""
-        same = {}
-        for wrong in listed(self, "wrong_bodies"):
-            wrong.copy = 1
-            same.setdefault(wrong.functions()[0].path, wrong)
-        copied = {it.functions()[0].path for batch in self.batches() for it in batch if it.copy}
-        wrongs = [it for path, it in same.items() if path in copied]
-        for wrong in wrongs:
-            wrong.pairs = [[old, old] for old, _ in wrong.pairs]
-        if not wrongs:
-            return [], []
-        with tempfile.TemporaryDirectory(prefix="copies-kept-") as proved:
-            said, functions = self.checked_with(wrongs, crates, run, proved)
-        is_proved = lambda it: re.search(rf"^fn \S*\b{it.name}: proved(?:, may wait)?$", said, re.M) is not None
-        return [it for it, in functions], [it for it, in functions if not is_proved(it)]
+    def unproved(self, crates, run):
+        """The functions that its wrong bodies change, and those of them that aren't proved where what is right stands in the place of each."""
+        tried, bad = [], []
+        for batch in self.batches():
+            for wrong in batch:
+                wrong.pairs = [[old, old] for old, _ in wrong.pairs]
+            with tempfile.TemporaryDirectory(prefix="right-kept-") as proved:
+                said, functions = self.checked_with(batch, crates, run, proved)
+            found = [it for several in functions for it in several if it.name]
+            tried += found
+            for it in found:
+                path = f"{it.owner}::{it.name}" if it.owner else it.name
+                if set(re.findall(rf"^fn \S*\b{path}: (.*?)(?:, may wait)?$", said, re.M)) != {"proved"}:
+                    bad.append(it)
+        return tried, bad
 
     def rests_on(self, crates, run):
         """The files that a verdict of a check rests on, beside the crate's sources. The format of a built library has a sum of all its files."""
@@ -340,14 +385,14 @@ def work(left, crates, run, waits, lock, counts):
                 print(f"wrong body of {crate.name}, {wrong.title}: {verdict}", flush=True)
 
 
-def said_of_copies(left, crates):
-    """Prints the copies that aren't proved, and then 'N proved, M not proved'."""
+def said_of_what_is_right(left, crates):
+    """Prints the functions that aren't proved with what is right in them, and then 'N proved, M not proved'."""
     counts = [0, 0]
     for crate in left:
-        copies, bad = crate.unproved_copies(crates, Run(None, None))
+        tried, bad = crate.unproved(crates, Run(None, None))
         for it in bad:
-            print(f"copy of {crate.name}, {it.path}: NOT PROVED", flush=True)
-        counts = [counts[0] + len(copies) - len(bad), counts[1] + len(bad)]
+            print(f"{crate.name}, {it.path}: NOT PROVED", flush=True)
+        counts = [counts[0] + len(tried) - len(bad), counts[1] + len(bad)]
     print(f"{counts[0]} proved, {counts[1]} not proved")
     return 1 if counts[1] else 0
 
@@ -355,14 +400,14 @@ def said_of_copies(left, crates):
 def main():
     words = argparse.ArgumentParser(usage=__doc__)
     words.add_argument("--follow")
-    words.add_argument("--copies", action="store_true")
+    words.add_argument("--right", action="store_true")
     words.add_argument("crates", nargs="*")
     given, crates = words.parse_args(), crates_of()
     left = [it for name, it in crates.items() if (not given.crates or name in given.crates) and it.batches()]
     # Those with the most bodies first, so that no long check is the last.
     left.sort(key=lambda it: -len(listed(it, "wrong_bodies")))
-    if given.copies:
-        return said_of_copies(left, crates)
+    if given.right:
+        return said_of_what_is_right(left, crates)
     lanes, lock, counts = len(os.sched_getaffinity(0)), threading.Lock(), {True: 0, False: 0}
     # On the crates' disk, since the libraries are linked there.
     with tempfile.TemporaryDirectory(prefix="rlibs-", dir=f"{TOP}/.git" if os.path.isdir(f"{TOP}/.git") else None) as room:

@@ -2,19 +2,19 @@
 ghost use Rattle.fm_registry.specs.HasHistory.{HasHistory};
 
 use crate::stopping::Stopping;
+use fastmetrics::encoder::EncodeMetric;
 use fastmetrics::format::text::{EncodeError, encode};
 use fastmetrics::metrics::counter::ConstCounter;
 use fastmetrics::registry::Registry;
-use fm_test_support::support::{expect_text, text_of};
-use fm_test_support::trees::register;
+use fm_test_support::support::{expect_text, registry_of, text_of};
 use std::alloc::Global;
 use std::io::ErrorKind;
 use std::test::Fail;
 
 // Fails where a writer that stops after ten bytes ends the writing with another error, or has other bytes.
-fn expect_ten_bytes(
+fn expect_ten_bytes<M: EncodeMetric>(
     alloc: Global,
-    registry: &Registry,
+    registry: &Registry<M>,
     end: Option<ErrorKind>,
     want: EncodeError,
 ) -> Result<(), Fail>
@@ -30,7 +30,10 @@ fn expect_ten_bytes(
 }
 
 // Fails where encoding after a beginning writes anything but the document after it.
-fn expect_after_beginning(alloc: Global, registry: &Registry) -> Result<(), Fail>
+fn expect_after_beginning<M: EncodeMetric>(
+    alloc: Global,
+    registry: &Registry<M>,
+) -> Result<(), Fail>
     requires { HasHistory registry.now }
 {
     let mut used = b"before\n".to_vec(alloc)?;
@@ -45,9 +48,7 @@ fn expect_after_beginning(alloc: Global, registry: &Registry) -> Result<(), Fail
 #[test]
 fn ten_bytes_and_used_writers(rt: HostRuntime) -> Result<(), Fail> {
     let alloc = rt.alloc();
-    let counter = Box::new(alloc, ConstCounter::new(1u64))?;
-    let mut registry = Registry::default();
-    register(alloc, &mut registry, "c", counter)?;
+    let registry = registry_of(alloc, &[], "c", None, ConstCounter::new(1u64))?;
     for (end, refusal, number) in [
         (Some(ErrorKind::Other), EncodeError::Write, 14),
         (None, EncodeError::WriteZero, 15),

@@ -8,7 +8,6 @@ use fastmetrics::metrics::counter::ConstCounter;
 use fastmetrics::raw::MetricType;
 use fastmetrics::registry::{Registry, RegistryCall};
 use fm_test_support::members::OneMember;
-use fm_test_support::parts::Word;
 use fm_test_support::trees::{labels, register_with, subsystem_at, texts};
 use std::alloc::{AllocError, Global};
 use std::io::{self, ErrorKind, Write};
@@ -218,38 +217,33 @@ fn every_end_of_a_short_document(rt: HostRuntime) -> Result<(), Fail> {
     Ok(())
 }
 
-// The counters of an application.
-#[derive(Clone, Copy)]
-enum Counted {
-    Requests,
-    ByKind,
-    Queries,
-}
-
-// One of these counters: the requests, those of a method and a status, and the queries of the database.
-fn boxed_counter(alloc: Global, counted: Counted) -> Result<Box<dyn EncodeMetric>, AllocError> {
-    let by_kind = OneMember {
+// A counter of this total with these labels.
+fn boxed_counter(
+    alloc: Global,
+    pairs: &[(&str, &str)],
+    total: u64,
+) -> Result<Box<dyn EncodeMetric>, AllocError> {
+    let counter = OneMember {
         metric_type: MetricType::Counter,
         time: None,
-        labels: [(Word("method"), Word("Get")), (Word("status"), Word("200"))],
-        point: ConstCounter::new(1u64),
+        labels: labels(alloc, pairs)?,
+        point: ConstCounter::new(total),
     };
-    Ok(match counted {
-        Counted::Requests => Box::new(alloc, ConstCounter::new(1u64))?,
-        Counted::ByKind => Box::new(alloc, by_kind)?,
-        Counted::Queries => Box::new(alloc, ConstCounter::new(7u64))?,
-    })
+    let counter: Box<dyn EncodeMetric> = Box::new(alloc, counter)?;
+    Ok(counter)
 }
 
-// The call that registers one of them.
-fn counter_call(
+// Adds the call that registers such a counter.
+fn push_counter(
     alloc: Global,
+    calls: &mut Vec<RegistryCall>,
     path: &[&str],
     name: &str,
     help: &str,
-    counted: Counted,
-) -> Result<RegistryCall, AllocError> {
-    metric_call(alloc, path, name, help, boxed_counter(alloc, counted)?)
+    counter: Result<Box<dyn EncodeMetric>, AllocError>,
+) -> Result<(), AllocError> {
+    calls.push(metric_call(alloc, path, name, help, counter?)?)?;
+    Ok(())
 }
 
 // The calls that register all of them, at the root and in a subsystem of a subsystem.
@@ -257,23 +251,34 @@ fn application_calls(alloc: Global) -> Result<Vec<RegistryCall>, AllocError> {
     let mut calls: Vec<RegistryCall> = Vec::new(alloc);
     calls.push(subsystem_at(alloc, &[], "database", &[])?)?;
     calls.push(subsystem_at(alloc, &["database"], "mysql", &[("engine", "innodb")])?)?;
-    for (path, name, help, counted) in [
-        (
-            [].as_slice(),
-            "requests",
-            "Total requests processed",
-            Counted::Requests,
-        ),
-        (&[], "http_requests", "Total HTTP requests", Counted::ByKind),
-        (
-            &["database", "mysql"],
-            "queries",
-            "Total MySQL queries",
-            Counted::Queries,
-        ),
-    ] {
-        calls.push(counter_call(alloc, path, name, help, counted)?)?;
-    }
+    let all = boxed_counter(alloc, &[], 1);
+    push_counter(
+        alloc,
+        &mut calls,
+        &[],
+        "requests",
+        "Total requests processed",
+        all,
+    )?;
+    let found = boxed_counter(alloc, &[("method", "Get"), ("status", "200")], 1);
+    push_counter(
+        alloc,
+        &mut calls,
+        &[],
+        "http_requests",
+        "Total HTTP requests",
+        found,
+    )?;
+    let queries = boxed_counter(alloc, &[], 7);
+    let path = ["database", "mysql"];
+    push_counter(
+        alloc,
+        &mut calls,
+        &path,
+        "queries",
+        "Total MySQL queries",
+        queries,
+    )?;
     Ok(calls)
 }
 

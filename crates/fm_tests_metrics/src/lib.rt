@@ -1,5 +1,5 @@
-//! Tests of numbers, bounds and names, and of counters, gauges, state sets and other metrics: every call at every type of number, clones,
-//! threads, documents, metrics that lie, what `Debug` shows, and laws.
+//! Tests of numbers, bounds and names, of counters, gauges, state sets and other metrics, of families and of tallies: every call at every type
+//! of number, clones, threads, documents, metrics that lie, what `Debug` shows, and laws.
 #![tactic(auto)]
 
 #[cfg(test)]
@@ -9,17 +9,33 @@ mod cases;
 #[cfg(test)]
 mod clones;
 #[cfg(test)]
+mod closing;
+#[cfg(test)]
 mod default_states;
 #[cfg(test)]
 mod exemplar_counters;
 #[cfg(test)]
+mod families;
+#[cfg(test)]
+mod keys;
+#[cfg(test)]
 mod laws;
+#[cfg(test)]
+mod leaving;
 #[cfg(test)]
 mod liars;
 #[cfg(test)]
+mod meeting;
+#[cfg(test)]
+mod members;
+#[cfg(test)]
 mod numbers;
 #[cfg(test)]
+mod pieces;
+#[cfg(test)]
 mod shared;
+#[cfg(test)]
+mod shares;
 #[cfg(test)]
 mod shown;
 #[cfg(test)]
@@ -29,7 +45,11 @@ mod states;
 #[cfg(test)]
 mod steps;
 #[cfg(test)]
+mod sums;
+#[cfg(test)]
 mod support;
+#[cfg(test)]
+mod tallies;
 #[cfg(test)]
 mod threads;
 #[cfg(test)]

@@ -83,28 +83,43 @@ impl GaugeValue for Steps {
 
 const MANY: Steps = Steps { taken: 1000 };
 
+// Whether the calls of a counter take one step each.
+fn takes_steps(hits: &Counter<Steps>) -> bool {
+    let first = [hits.total(), hits.inc()];
+    let is_added = hits.inc_by(MANY) == Ok(number(2)) && hits.set(MANY).is_ok();
+    let then = hits.total();
+    let is_refused = hits.set(number(4)).is_err();
+    first == [number(0), number(1)]
+        && is_added
+        && is_refused
+        && [then, hits.total()] == [number(4), number(6)]
+}
+
 #[test]
 fn each_call_of_a_counter_is_one_step(rt: HostRuntime) -> Result<(), Fail> {
     let hits = Counter::<Steps>::try_default(rt, rt.alloc())?;
-    assert_eq!(rt; hits.total(), number(0));
-    assert_eq!(rt; hits.inc(), number(1));
-    assert_eq!(rt; hits.inc_by(MANY)?, number(2));
-    hits.set(MANY)?;
-    assert_eq!(rt; hits.total(), number(4));
-    assert!(rt; hits.set(number(4)).is_err());
-    assert_eq!(rt; hits.total(), number(6));
+    assert!(rt; takes_steps(&hits));
     Ok(())
+}
+
+// What the calls of a gauge return, but `set`, which is made before the last one.
+fn steps_of(level: &Gauge<Steps>) -> [u64; 6] {
+    let first = [level.get(), level.inc(), level.inc_by(MANY)];
+    let then = [level.dec(), level.dec_by(MANY)];
+    level.set(MANY);
+    [
+        first[0].taken,
+        first[1].taken,
+        first[2].taken,
+        then[0].taken,
+        then[1].taken,
+        level.get().taken,
+    ]
 }
 
 #[test]
 fn each_call_of_a_gauge_is_one_step(rt: HostRuntime) -> Result<(), Fail> {
     let level = Gauge::<Steps>::try_default(rt, rt.alloc())?;
-    assert_eq!(rt; level.get(), number(0));
-    assert_eq!(rt; level.inc(), number(1));
-    assert_eq!(rt; level.inc_by(MANY), number(2));
-    assert_eq!(rt; level.dec(), number(3));
-    assert_eq!(rt; level.dec_by(MANY), number(4));
-    level.set(MANY);
-    assert_eq!(rt; level.get(), number(6));
+    assert!(rt; steps_of(&level) == [0, 1, 2, 3, 4, 6]);
     Ok(())
 }

@@ -7,20 +7,26 @@ use std::alloc::Global;
 use std::sync::Wait;
 use std::test::Fail;
 
-// Whether each call of a gauge returns the value before, or the current one, and leaves what the case says.
-fn is_gauge<N: GaugeValue>(alloc: Global, case: Case<N>) -> Result<bool, MetricError> {
+// Whether each call of a gauge returns the value before, or the current one, and leaves what the case says. The gauge has the case's value.
+fn goes<N: GaugeValue>(gauge: &Gauge<N>, case: Case<N>) -> bool {
     let [value, by, up, down, more, less, _] = case;
-    let gauge = Gauge::<N>::new(alloc, value)?;
-    let is_made = gauge.get() == value;
-    let goes_up = gauge.inc() == value && gauge.get() == up;
+    let raised = [gauge.get(), gauge.inc(), gauge.get()];
     gauge.set(value);
-    let is_set = gauge.get() == value;
-    let goes_down = gauge.dec() == value && gauge.get() == down;
+    let lowered = [gauge.get(), gauge.dec(), gauge.get()];
     gauge.set(value);
-    let adds = gauge.inc_by(by) == value && gauge.get() == more;
+    let added = [gauge.get(), gauge.inc_by(by), gauge.get()];
     gauge.set(value);
-    let takes = gauge.dec_by(by) == value && gauge.get() == less;
-    Ok(is_made && goes_up && is_set && goes_down && adds && takes)
+    let taken = [gauge.get(), gauge.dec_by(by), gauge.get()];
+    raised == [value, value, up]
+        && lowered == [value, value, down]
+        && added == [value, value, more]
+        && taken == [value, value, less]
+}
+
+// The same of a new gauge.
+fn is_gauge<N: GaugeValue>(alloc: Global, case: Case<N>) -> Result<bool, MetricError> {
+    let gauge = Gauge::<N>::new(alloc, case[0])?;
+    Ok(goes(&gauge, case))
 }
 
 #[test]
@@ -65,70 +71,63 @@ fn counter_of<N: CounterValue, H: Wait + Drop>(
     Ok(counter)
 }
 
-// Whether each call of a counter returns the total before, or the current one, and leaves what the case says. Its value and its
-// number are not negative.
-fn is_counter<N: CounterValue, H: Wait + Clone + Drop>(
-    wait: &H,
+// Whether each call of a counter of the case's value returns the total before, or the current one, and leaves what the case says. The value and
+// the number are not negative.
+fn is_counter<N: CounterValue, H: Wait + Copy + Drop>(
+    wait: H,
     alloc: Global,
     case: Case<N>,
 ) -> Result<bool, MetricError> {
     let [value, by, up, _, more, _, greater] = case;
-    let counter = counter_of(wait.clone()?, alloc, value)?;
-    let is_set = counter.total() == value;
-    let goes_up = counter.inc() == value && counter.total() == up;
-    let counter = counter_of(wait.clone()?, alloc, value)?;
-    let adds = counter.inc_by(by)? == value && counter.total() == more;
-    let counter = counter_of(wait.clone()?, alloc, value)?;
-    let is_raised = counter.set(by).is_ok() == (by == greater) && counter.total() == greater;
-    Ok(is_set && goes_up && adds && is_raised)
+    let first = counter_of(wait, alloc, value)?;
+    let raised = [first.total(), first.inc(), first.total()];
+    let second = counter_of(wait, alloc, value)?;
+    let is_added = second.inc_by(by) == Ok(value);
+    let third = counter_of(wait, alloc, value)?;
+    let is_set = third.set(by).is_ok() == (by == greater);
+    let totals = [second.total(), third.total()];
+    Ok(is_added && is_set && raised == [value, value, up] && totals == [more, greater])
 }
 
 #[test]
 fn counters_of_whole_numbers(rt: HostRuntime) -> Result<(), Fail> {
     for case in U32 {
         assert!(rt;
-            is_counter::<u32, HostRuntime>(&rt, rt.alloc(), case)?,
+            is_counter::<u32, HostRuntime>(rt, rt.alloc(), case)?,
             "{case:?}"
         );
     }
     for case in U64 {
         assert!(rt;
-            is_counter::<u64, HostRuntime>(&rt, rt.alloc(), case)?,
+            is_counter::<u64, HostRuntime>(rt, rt.alloc(), case)?,
             "{case:?}"
         );
         assert!(rt;
-            is_counter::<usize, HostRuntime>(&rt, rt.alloc(), usizes(case))?,
+            is_counter::<usize, HostRuntime>(rt, rt.alloc(), usizes(case))?,
             "{case:?}"
         );
     }
     Ok(())
 }
 
+// Whether a counter has this total in millionths, and the other one after so many millionths more.
+fn adds(counter: &Counter<Fixed>, before: i64, by: i64, after: i64) -> bool {
+    counter.inc_by(Fixed::from_millionths(by)) == Ok(Fixed::from_millionths(before))
+        && counter.total() == Fixed::from_millionths(after)
+}
+
+// Whether a counter of five millionths counts on from there, and refuses to count down.
+fn counts_on(five: &Counter<Fixed>) -> bool {
+    let is_raised = five.inc() == Fixed::from_millionths(5) && adds(five, 1000005, 7, 1000012);
+    let refused = five.inc_by(Fixed::from_millionths(-9223372036854775808));
+    is_raised && refused == Err(MetricError::NegativeIncrement) && adds(five, 1000012, 0, 1000012)
+}
+
 #[test]
 fn counters_of_millionths(rt: HostRuntime) -> Result<(), Fail> {
-    let alloc = rt.alloc();
-    let greatest = Fixed::from_millionths(9223372036854775807);
-    let counter = counter_of(rt, alloc, greatest)?;
-    assert_eq!(rt; counter.total(), greatest);
-    assert_eq!(rt; counter.inc_by(Fixed::from_millionths(1))?, greatest);
-    assert_eq!(rt;
-        counter.total(),
-        Fixed::from_millionths(-9223372036854775808)
-    );
-    let counter = counter_of(rt, alloc, Fixed::from_millionths(5))?;
-    assert_eq!(rt; counter.inc(), Fixed::from_millionths(5));
-    assert_eq!(rt;
-        counter.inc_by(Fixed::from_millionths(7))?,
-        Fixed::from_millionths(1000005)
-    );
-    assert_eq!(rt;
-        counter.inc_by(Fixed::from_millionths(-9223372036854775808)),
-        Err(MetricError::NegativeIncrement)
-    );
-    assert_eq!(rt; counter.total(), Fixed::from_millionths(1000012));
-    assert_eq!(rt;
-        counter.inc_by(Fixed::ZERO)?,
-        Fixed::from_millionths(1000012)
-    );
+    let greatest = counter_of(rt, rt.alloc(), Fixed::from_millionths(9223372036854775807))?;
+    assert!(rt; adds(&greatest, 9223372036854775807, 1, -9223372036854775808));
+    let five = counter_of(rt, rt.alloc(), Fixed::from_millionths(5))?;
+    assert!(rt; counts_on(&five));
     Ok(())
 }

@@ -1,4 +1,5 @@
-//! Labels and metrics of a program's own: requests, and how many of them wait in a queue.
+//! Labels and metrics of a program's own: requests, how many of them wait in a queue, a counter and a histogram with an exemplar, a summary,
+//! and a gauge with the timestamp of its value.
 #![tactic(auto)]
 
 ghost use Rattle.std.specs.Prelude.{◌≡◌, [], ◌∷◌, pos, codes, decimal, string_bytes};
@@ -7,8 +8,13 @@ ghost use Rattle.fastmetrics.specs.Points.{GaugePoint};
 ghost use Rattle.fm_grammar.specs.declared.MetricType.TheVariants.{Gauge};
 ghost use Rattle.fastmetrics.specs.OwnLabels.{label};
 
+pub mod counters;
+pub mod histograms;
+pub mod readings;
 pub mod request;
+pub mod summaries;
 
+pub use counters::Returned;
 use fastmetrics::encoder::{
     EncodeError, EncodeLabelSet, EncodeMetric, LabelSetEncoder, LabelValue, MetricEncoder,
     encode_labels,
@@ -16,7 +22,10 @@ use fastmetrics::encoder::{
 use fastmetrics::metrics::gauge::ConstGauge;
 use fastmetrics::metrics::labeled::Labeled;
 use fastmetrics::raw::MetricType;
+pub use histograms::Durations;
+pub use readings::Readings;
 use std::time::Duration;
+pub use summaries::Latencies;
 
 /// Which queue.
 #[derive(Drop)]
