@@ -10,8 +10,9 @@ planted in one copy of the crates, each as another branch of its functions, and 
 function, or that no test refused so, the crates are compiled with it in place of what is right, up to three times. A body with which a test never ends has a line
 `seconds: N`, after which a test has failed. With `requests::N::TEST` the test has failed once it asks for memory the Nth time, and must ask fewer times
 without the body. A test `cases::NAME` of a program is a case of its cases.toml (scripts/cases.py). With `tests: replay NAME..` scripts of bench/replay
-stand for tests, and one of them has to differ from its answer (scripts/replay.sh); they run with each body alone too. Prints a line for each body, and
-then 'N refused, M not refused'; the status is 0 if M is 0.
+stand for tests, and one of them has to differ from its answer (scripts/replay.sh); they run with each body alone, and all scripts with none, so that
+the gate needs no other compilation of their program. Prints a line for each body; 'N agree, M differ', of the scripts that ran with no body; and then
+'N refused, M not refused'. The status is 0 if both M are 0.
 """
 import glob
 import os
@@ -48,6 +49,11 @@ def are_cases(body):
     return " cases::" in body.tests
 
 
+def all_scripts():
+    """The scripts of bench/replay."""
+    return {os.path.basename(it).removesuffix(".script") for it in glob.glob(f"{TOP}/bench/replay/scripts/**/*.script", recursive=True)}
+
+
 def are_scripts(body):
     """Whether scripts of bench/replay have to refuse a body, and no tests."""
     return tests_of(body)[0] == "replay"
@@ -76,18 +82,20 @@ def failing_beside(bodies):
 
 
 def differing_beside(bodies):
-    """For each body that scripts refuse, and that can stand beside the others, the scripts that differ with it."""
+    """For each body that scripts refuse, and that can stand beside the others, the scripts that differ with it; and of all scripts those that differ with
+    none."""
     with tempfile.TemporaryDirectory(prefix="tested-bodies-") as folder:
         copied_to(folder)
         outside, placed = stand_beside(bodies, folder, f"{folder}/results")
-        numbers = {**dict.fromkeys(outside, 0), **{body: number for number, body in placed.items()}}
-        runs = {body: {f"{it}:{number}" for it in tests_of(body)[1]} for body, number in numbers.items()}
-        right = {f"{it}:0" for body in placed.values() for it in tests_of(body)[1]} - {it for body in outside for it in runs[body]}
-        failed, said = differing(right.union(*runs.values()), folder)
-        if right & set(failed or []):
-            print(f"replay: its bodies can't stand beside each other: {sorted(right & set(failed))[:3]} {said.strip()[-300:]}", flush=True)
-            return {}
-        return {body: {it.partition(":")[0] for it in found & set(failed or [])} for body, found in runs.items()}
+        if outside:
+            sys.exit(f"{outside[0].crate.name}, {outside[0].title}: a body that scripts refuse has to lie within functions")
+        runs = {body: {f"{it}:{number}" for it in tests_of(body)[1]} for number, body in placed.items()}
+        failed, said = differing({f"{it}:0" for it in all_scripts()}.union(*runs.values()), folder)
+        if failed is None:
+            print(f"replay: its bodies can't stand beside each other: {said.strip()[-300:]}", flush=True)
+            return {}, all_scripts()
+        with_none = {it.partition(":")[0] for it in failed if it.endswith(":0")}
+        return {body: {it.partition(":")[0] for it in found & set(failed)} - with_none for body, found in runs.items()}, with_none
 
 
 def fit_together(one, other):
@@ -152,14 +160,15 @@ def tried(bodies, turns=3):
 
 
 def tried_beside(bodies):
-    """Each of the bodies that name one crate of tests, or scripts, as `tried` says."""
-    failed = (differing_beside if are_scripts(bodies[0]) else failing_beside)(bodies)
+    """Each of the bodies that name one crate of tests, or scripts, as `tried` says, and the scripts that differ with no body."""
+    failed, with_none = differing_beside(bodies) if are_scripts(bodies[0]) else (failing_beside(bodies), set())
     left = [body for body in bodies if not failed.get(body)]
-    return [(body, sorted(failed[body]), "") for body in bodies if failed.get(body)] + [it for batch in batches(left) for it in tried(batch)]
+    answers = [(body, sorted(failed[body]), "") for body in bodies if failed.get(body)] + [it for batch in batches(left) for it in tried(batch)]
+    return answers, with_none
 
 
 def tried_or_kept(bodies, crates):
-    """The same, or what was refused before on this machine (scripts/kept.py)."""
+    """The same, or what was refused before on this machine (scripts/kept.py), where all scripts agreed with no body."""
     crate = crates[tests_of(bodies[0])[0]]
     scripts = [f"{TOP}/scripts/{name}" for name in ("tested_bodies.py", "branches.py", "planted.c", "wrong_bodies.py", "cases.py", "unproved.py")]
     if are_scripts(bodies[0]):
@@ -169,11 +178,11 @@ def tried_or_kept(bodies, crates):
     key = kept.sum_of([f"{KIT}/KIT-ID", *scripts], sources, bodies)
     found = kept.given(key)
     if found:
-        return [(body, failed, "") for body, failed in zip(bodies, found)]
-    answers = (tried if are_cases(bodies[0]) else tried_beside)(bodies)
-    if all(failed for _, failed, _ in answers):
+        return [(body, failed, "") for body, failed in zip(bodies, found)], set()
+    answers, with_none = (tried(bodies), set()) if are_cases(bodies[0]) else tried_beside(bodies)
+    if all(failed for _, failed, _ in answers) and not with_none:
         kept.keep(key, [failed for _, failed, _ in sorted(answers, key=lambda it: bodies.index(it[0]))])
-    return answers
+    return answers, with_none
 
 
 def main():
@@ -186,14 +195,19 @@ def main():
         beside.setdefault(tests_of(body)[0], []).append(body)
     jobs = sorted(beside.values(), key=len, reverse=True) + batches([it for it in bodies if are_cases(it)])
     with ThreadPoolExecutor(len(os.sched_getaffinity(0))) as pool:
-        counts = {True: 0, False: 0}
-        for answers in pool.map(lambda it: tried_or_kept(it, crates), jobs):
+        counts, differ = {True: 0, False: 0}, set()
+        for answers, with_none in pool.map(lambda it: tried_or_kept(it, crates), jobs):
+            differ |= with_none
             for body, failed, said in answers:
                 counts[bool(failed)] += 1
                 how = f"refused by {tests_of(body)[0]} {' '.join(failed[:3])}" if failed else "NOT REFUSED: " + " / ".join(said.strip().split("\n")[-3:])[:400]
                 print(f"tested body of {body.crate.name}, {body.title}: {how}", flush=True)
+    for script in sorted(differ):
+        print(f"DIFFERS with no body: the script {script} (scripts/replay.sh)")
+    if "replay" in beside:
+        print(f"{len(all_scripts() - differ)} agree, {len(differ)} differ")
     print(f"{counts[True]} refused, {counts[False]} not refused")
-    return 1 if counts[False] else 0
+    return 1 if counts[False] or differ else 0
 
 
 if __name__ == "__main__":

@@ -39,7 +39,7 @@ TOP = os.path.dirname(os.path.dirname(os.path.realpath(__file__)))
 KIT = os.path.dirname(subprocess.run(["rt", "doc"], stdout=subprocess.PIPE, text=True, check=True).stdout.strip())
 
 ROOTS = ("src/main.rt", "src/lib.rt")
-FUNCTION = re.compile(r" *(?:pub(?:\(crate\))? )?(?:const )?fn (\w+)")
+FUNCTION = re.compile(r" *(?:pub(?:\([^)]*\))? )?(?:const )?fn (\w+)")
 IMPL = re.compile(r"impl\b(?:<.*?>)? (?:(\w+) for )?(\w+)(?:<.*>)? \{$")
 NAMING = re.compile(r"has no `|has no field|is not in scope|was not admitted")
 BLOCK = re.compile(r"(?:pub(?:\(crate\))? )?(?:impl|trait)\b")
