@@ -91,11 +91,10 @@ def differing_beside(bodies):
             sys.exit(f"{outside[0].crate.name}, {outside[0].title}: a body that scripts refuse has to lie within functions")
         runs = {body: {f"{it}:{number}" for it in tests_of(body)[1]} for number, body in placed.items()}
         failed, said = differing({f"{it}:0" for it in all_scripts()}.union(*runs.values()), folder)
-        if failed is None:
-            print(f"replay: its bodies can't stand beside each other: {said.strip()[-300:]}", flush=True)
-            return {}, all_scripts()
-        with_none = {it.partition(":")[0] for it in failed if it.endswith(":0")}
-        return {body: {it.partition(":")[0] for it in found & set(failed)} - with_none for body, found in runs.items()}, with_none
+        if not re.search(r"^\d+ agree, \d+ differ$", said, re.M):
+            sys.exit(f"replay: its bodies can't stand beside each other: {said.strip()[-300:]}")
+        with_none = {it.partition(":")[0] for it in failed or [] if it.endswith(":0")}
+        return {body: {it.partition(":")[0] for it in found & set(failed or [])} - with_none for body, found in runs.items()}, with_none
 
 
 def fit_together(one, other):
