@@ -18,8 +18,7 @@ from wrong_bodies import TOP, text_of
 GHOST = re.compile(r"\s*(?:ghost |requires |ensures |#\[tactic)")
 TICKS = os.sysconf("SC_CLK_TCK")
 # The parts, by a word of the command that stands for one of them.
-SCRIPTS = {"tested_bodies.py": "bodies that tests refuse", "wrong_bodies.py": "wrong bodies", "replay.sh": "replay",
-           "refuse_allocations.sh": "refused memory", "cases.py": "cases"}
+SCRIPTS = {"tested_bodies.py": "bodies that tests refuse", "wrong_bodies.py": "wrong bodies", "replay.sh": "replay", "cases.py": "cases"}
 
 
 class Process:

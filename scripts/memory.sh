@@ -1,11 +1,6 @@
 # For the scripts beside it, which read it: counts the requests of a program for memory, by scripts/memory.c.
 #
-#   counter_library FILE             a library that counts them, for `env LD_PRELOAD=FILE PROGRAM`
 #   link_counted OBJECT PROGRAM      links an object with it; LINK_MORE="FLAG.." names more to link, such as what finds faulty addresses
-
-counter_library() {
-    "${CC:-cc}" -shared -fPIC -O1 -DPRELOADED -o "$1" "$(dirname "${BASH_SOURCE[0]}")/memory.c" || { echo "FAILED: scripts/memory.c was not compiled"; return 1; }
-}
 
 link_counted() {
     local here kit

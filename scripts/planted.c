@@ -67,6 +67,9 @@ __attribute__((constructor)) static void try_bodies(int count, char **words) {
     if (count != 2)
         return;
     running = (uint32_t)strtoul(words[1], NULL, 10);
+    for (size_t i = 0; running && i < sizeof trials / sizeof *trials; i++)
+        if (trials[i].body == running)
+            alarm(trials[i].seconds);
     if (running)
         return;
     for (size_t i = 0; i < sizeof trials / sizeof *trials; i++)

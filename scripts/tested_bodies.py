@@ -10,8 +10,8 @@ planted in one copy of the crates, each as another branch of its functions, and 
 function, or that no test refused so, the crates are compiled with it in place of what is right, up to three times. A body with which a test never ends has a line
 `seconds: N`, after which a test has failed. With `requests::N::TEST` the test has failed once it asks for memory the Nth time, and must ask fewer times
 without the body. A test `cases::NAME` of a program is a case of its cases.toml (scripts/cases.py). With `tests: replay NAME..` scripts of bench/replay
-stand for tests, and one of them has to differ from its answer (scripts/replay.sh); they run with each body alone, and all scripts with none, so that
-the gate needs no other compilation of their program. Prints a line for each body; 'N agree, M differ', of the scripts that ran with no body; and then
+stand for tests, and one of them has to differ from its answer (scripts/replay.sh); they run with each body alone, and all scripts with none, those
+for refused memory also with each request refused in turn, so that the gate needs no other compilation of their program. Prints a line for each body; 'N agree, M differ', of the runs of scripts with no body; and then
 'N refused, M not refused'. The status is 0 if both M are 0.
 """
 import glob
@@ -44,14 +44,29 @@ def copied_to(folder):
                 shutil.copytree(f"{TOP}/crates/{crate}/{part}", f"{folder}/crates/{crate}/{part}")
 
 
+def without_other_tests(folder, crate, bodies):
+    """Leaves out of a copy of a crate the tests that no body names: they ran where they were proved."""
+    named = set().union(*(tests_of(body)[1] for body in bodies))
+    if not all(tests_of(body)[1] for body in bodies):
+        return
+    for path in glob.glob(f"{folder}/crates/{crate}/src/**/*.rt", recursive=True):
+        module = os.path.relpath(path, f"{folder}/crates/{crate}/src").removesuffix(".rt").replace("/", "::")
+        kept_or_left = lambda it: it[0] if f"{module}::{it[1]}" in named else ""
+        text = re.sub(r"^#\[test\]\nfn (\w+).*?^}\n", kept_or_left, text_of(path), flags=re.M | re.S)
+        with open(path, "w", encoding="utf-8") as file:
+            file.write(text)
+
+
 def are_cases(body):
     """Whether cases of a program have to refuse a body, and no tests."""
     return " cases::" in body.tests
 
 
-def all_scripts():
-    """The scripts of bench/replay."""
-    return {os.path.basename(it).removesuffix(".script") for it in glob.glob(f"{TOP}/bench/replay/scripts/**/*.script", recursive=True)}
+def runs_with_none():
+    """The runs of all scripts of bench/replay without a body, and of those for refused memory with each request refused in turn."""
+    paths = glob.glob(f"{TOP}/bench/replay/scripts/**/*.script", recursive=True)
+    named = lambda it, word: f"{os.path.basename(it).removesuffix('.script')}:{word}"
+    return {named(it, "0") for it in paths} | {named(it, "refuse") for it in paths if "/refused_memory/" in it}
 
 
 def are_scripts(body):
@@ -66,6 +81,7 @@ def failing_beside(bodies):
         outside, placed = stand_beside(bodies, folder, f"{folder}/results")
         if not outside and not placed:
             return {}
+        without_other_tests(folder, tests_of(bodies[0])[0], bodies)
         said = unproved.run(folder, tests_of(bodies[0])[0], ["--seconds", str(MOST)], tests=True, seconds=2 * MOST)
         always = set(re.findall(r"^test (\S+) \.\.\. (?!ok$)", said, re.M))
         if not re.search(r"^test result: ", said, re.M) or always - {test for body in outside for test in tests_of(body)[1]}:
@@ -82,19 +98,20 @@ def failing_beside(bodies):
 
 
 def differing_beside(bodies):
-    """For each body that scripts refuse, and that can stand beside the others, the scripts that differ with it; and of all scripts those that differ with
-    none."""
+    """For each body that scripts refuse, and that can stand beside the others, the scripts that differ with it; and of the runs with none those that
+    differ."""
     with tempfile.TemporaryDirectory(prefix="tested-bodies-") as folder:
         copied_to(folder)
         outside, placed = stand_beside(bodies, folder, f"{folder}/results")
         if outside:
             sys.exit(f"{outside[0].crate.name}, {outside[0].title}: a body that scripts refuse has to lie within functions")
         runs = {body: {f"{it}:{number}" for it in tests_of(body)[1]} for number, body in placed.items()}
-        failed, said = differing({f"{it}:0" for it in all_scripts()}.union(*runs.values()), folder)
+        failed, said = differing(runs_with_none().union(*runs.values()), folder)
         if not re.search(r"^\d+ agree, \d+ differ$", said, re.M):
             sys.exit(f"replay: its bodies can't stand beside each other: {said.strip()[-300:]}")
-        with_none = {it.partition(":")[0] for it in failed or [] if it.endswith(":0")}
-        return {body: {it.partition(":")[0] for it in found & set(failed or [])} - with_none for body, found in runs.items()}, with_none
+        with_none = runs_with_none() & set(failed or [])
+        wrong = {it.partition(":")[0] for it in with_none}
+        return {body: {it.partition(":")[0] for it in found & set(failed or [])} - wrong for body, found in runs.items()}, with_none
 
 
 def fit_together(one, other):
@@ -138,6 +155,7 @@ def failing_with(bodies):
         if are_cases(bodies[0]):
             failed, said = cases.failing(tests_of(bodies[0])[0], folder)
             return ([f"cases::{it}" for it in failed] if failed else None), said
+        without_other_tests(folder, tests_of(bodies[0])[0], bodies)
         try:
             said = unproved.run(folder, tests_of(bodies[0])[0], ["--seconds", bodies[0].seconds or MOST_RUN], tests=True, seconds=MOST)
         except subprocess.TimeoutExpired:
@@ -159,7 +177,7 @@ def tried(bodies, turns=3):
 
 
 def tried_beside(bodies):
-    """Each of the bodies that name one crate of tests, or scripts, as `tried` says, and the scripts that differ with no body."""
+    """Each of the bodies that name one crate of tests, or scripts, as `tried` says, and the runs of scripts that differ with no body."""
     failed, with_none = differing_beside(bodies) if are_scripts(bodies[0]) else (failing_beside(bodies), set())
     left = [body for body in bodies if not failed.get(body)]
     answers = [(body, sorted(failed[body]), "") for body in bodies if failed.get(body)] + [it for batch in batches(left) for it in tried(batch)]
@@ -204,7 +222,7 @@ def main():
     for script in sorted(differ):
         print(f"DIFFERS with no body: the script {script} (scripts/replay.sh)")
     if "replay" in beside:
-        print(f"{len(all_scripts() - differ)} agree, {len(differ)} differ")
+        print(f"{len(runs_with_none() - differ)} agree, {len(differ)} differ")
     print(f"{counts[True]} refused, {counts[False]} not refused")
     return 1 if counts[False] or differ else 0
 

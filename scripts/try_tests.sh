@@ -27,12 +27,16 @@ one() {
 export -f one
 export said
 
+# The scripts beside the tests.
+if [[ $# == 0 ]]; then
+    scripts/replay.sh >"$said/scripts" &
+fi
 printf '%s\n' "${crates[@]}" | xargs -P "$(nproc)" -I{} bash -c 'one {}' | tee "$said/all"
 failed=$(grep -c ': FAILED$' "$said/all")
 scripts='' status=$((failed != 0))
 if [[ $# == 0 ]]; then
-    scripts/replay.sh | tee "$said/scripts"
-    [[ ${PIPESTATUS[0]} == 0 ]] || status=1
+    wait $! || status=1
+    cat "$said/scripts"
     scripts="; scripts: $(tail -n 1 "$said/scripts")"
 fi
 echo "$((${#crates[@]} - failed)) crates passed, $failed failed$scripts"

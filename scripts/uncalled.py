@@ -68,7 +68,7 @@ def public_calls():
 def calls_made(by_libraries):
     """The names that the libraries call, or all other crates and the program that replays scripts."""
     made, inside = set(), set(libraries())
-    for path in [*TOP.glob("crates/*/src/**/*.rt"), *TOP.glob("bench/replay/src/*.rt.in")]:
+    for path in [*TOP.glob("crates/*/src/**/*.rt"), *TOP.glob("bench/replay/src/**/*.rt.in")]:
         if (path.relative_to(TOP).parts[1] in inside) != by_libraries:
             continue
         for found in CALLED.finditer(re.sub(r"\bfn \w+", "", without_comments(path.read_text()))):

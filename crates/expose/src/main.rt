@@ -1,23 +1,18 @@
 //! `expose SCENE` prints the document of a scene.
 #![tactic(auto)]
 
-mod histogram;
-mod states;
-mod tally;
-mod tree;
-
 ghost use Rattle.fastmetrics.specs.HasHistory.{HasHistory};
 
+use expose_io::histogram::numbers;
 use expose_io::output::{Fault, finish};
 use expose_io::scene::{Scene, scene_of_words};
+use expose_io::states::running_task;
+use expose_io::tally::jobs;
+use expose_io::tree::{application_metrics, fill};
 use fastmetrics::encoder::EncodeMetric;
 use fastmetrics::registry::{Registry, add};
-use histogram::numbers;
-use states::running_task;
 use std::alloc::Global;
 use std::process::ExitCode;
-use tally::jobs;
-use tree::{application_metrics, fill};
 
 fn main(rt: HostRuntime) -> ExitCode {
     let alloc = rt.alloc();

@@ -15,7 +15,8 @@ use Rattle.fm_encoder.specs.Points.{Point, Member, Setting, Context, PointValid,
 use Rattle.fm_encoder.specs.inside.Samples.{member_samples}
 use Rattle.fm_encoder.specs.Gathered.{GatheredPoints, GatheredMembers}
 use Rattle.fm_labels.specs.Refusals.{OwnRefusal, own_refusal, result_of}
-use Rattle.fm_encoder.specs.Emits.{EmitsPoints, EmitsMembers, PointsValid, PointsFault, points_samples, MembersOf, members_of, Joined, OffersOf}
+use Rattle.fm_encoder.specs.Emits.{EmitsPoints, EmitsMembers, PointsValid, PointsFault, points_samples, MembersOf, members_of, OffersOf}
+use Rattle.fm_encoder.specs.inside.Joined.{Joined}
 use Rattle.fm_encoder.specs.inside.Steps.{BeginsMember, EndsPoints}
 use Rattle.fm_labels.specs.Refusals.{Takes}
 use Rattle.fm_encoder.specs.Takes.{TakesPoints, TakesMembers}

@@ -82,7 +82,3 @@ abbrev pub OffersOf : {S M : Type 0} → (S → List EmittedLabel) → (M → Li
 OffersOf labels Points [] members = members ≡ []
 OffersOf labels Points (pair ∷ pairs) members =
     (own : List Member) × (rest : List Member) × MembersOf (labels pair.0) (Points pair.1) own × OffersOf labels Points pairs rest × (members ≡ own ++ rest)
-
--- members of one list, and then of another
-abbrev pub Joined : (List Member → Type 0) → (List Member → Type 0) → List Member → Type 0
-Joined First Second members = (xs : List Member) × (ys : List Member) × First xs × Second ys × (members ≡ xs ++ ys)

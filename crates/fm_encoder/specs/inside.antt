@@ -2,4 +2,5 @@
 pub mod Steps
 pub mod Gathering
 pub mod BucketSteps
+pub mod Joined
 pub mod Samples

@@ -85,8 +85,7 @@ impl<S: Sign, H: Wait + Drop> HistogramOf<S, H> {
         ensures created { IfOk result (λ h. histogram_created h ≡ None) }
         ensures only_memory { IfErr result (λ e. e ≡ Memory) }
     {
-        let snapshot = SnapshotOf::new(alloc, bounds)?;
-        HistogramOf::from_snapshot(wait, alloc, snapshot, None)
+        HistogramOf::from_snapshot(wait, alloc, SnapshotOf::new(alloc, bounds)?, None)
     }
 }
 

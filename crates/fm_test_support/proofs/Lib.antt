@@ -1,3 +1,2 @@
-pub mod IgnoredLemmas
 pub mod PointsLemmas
 pub mod ReplyLemmas

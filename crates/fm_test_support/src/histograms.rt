@@ -1,7 +1,6 @@
-//! What tests of histograms share: values, and whether a snapshot has counted what it was given.
+//! What tests of histograms share: values, counts and sums.
 
 use crate::support::expect_text;
-use fm_histogram::{GaugeHistogramSnapshot, HistogramSnapshot};
 use fm_raw::bucket::Bucket;
 use fm_raw::{Fixed, FixedSum};
 use std::alloc::Global;
@@ -19,50 +18,6 @@ pub fn have_counts(buckets: &[Bucket], counts: &[u64]) -> bool {
             .iter()
             .zip(counts)
             .all(|(bucket, count)| bucket.count() == *count)
-}
-
-// Fails if these are not the buckets' own counts, or two pairs of a count and a sum are not equal.
-fn expect_totals(
-    buckets: &[Bucket],
-    counts: &[u64],
-    totals: (u64, FixedSum),
-    want: (u64, FixedSum),
-) -> Result<(), Fail> {
-    if have_counts(buckets, counts) && totals == want {
-        Ok(())
-    } else {
-        Err(Fail::new(format_args!("it has {totals:?} in {buckets:?}")))
-    }
-}
-
-/// Fails if these are not the counts of a histogram's buckets, and its count and its sum.
-pub fn expect_observed(
-    all: &HistogramSnapshot,
-    counts: &[u64],
-    count: u64,
-    sum: FixedSum,
-) -> Result<(), Fail> {
-    expect_totals(
-        all.buckets(),
-        counts,
-        (all.count(), all.sum()),
-        (count, sum),
-    )
-}
-
-/// Fails if these are not the counts of a gauge histogram's buckets, and its count and its sum.
-pub fn expect_observed_gauge(
-    all: &GaugeHistogramSnapshot,
-    counts: &[u64],
-    count: u64,
-    sum: FixedSum,
-) -> Result<(), Fail> {
-    expect_totals(
-        all.buckets(),
-        counts,
-        (all.gcount(), all.gsum()),
-        (count, sum),
-    )
 }
 
 /// Fails if a sum is not written so.

@@ -1,36 +1,14 @@
-//! What the tests share: patience with refused memory, and documents of registries.
+//! What the tests share: documents of registries.
 ghost use Rattle.std.specs.Prelude.{IfOk};
 ghost use Rattle.fm_registry.specs.HasHistory.{HasHistory};
 
 use crate::trees::labels;
 use fm_core::encoder::EncodeMetric;
-use fm_core::format::text::{EncodeError, collect, encode, encode_exposition};
+use fm_core::format::text::{collect, encode, encode_exposition};
 use fm_core::registry::Registry;
 use fm_raw::Unit;
 use std::alloc::Global;
 use std::test::Fail;
-
-/// How many refusals of memory a story still tolerates.
-#[derive(Drop)]
-pub struct Patience {
-    refusals: u32,
-}
-
-impl Patience {
-    /// Tolerates this number of refusals.
-    pub fn new(refusals: u32) -> Patience {
-        Patience { refusals }
-    }
-
-    /// Tolerates a refusal.
-    pub fn bear(&mut self) -> Result<(), Fail> {
-        if self.refusals == 0 {
-            return Err(Fail::new("refused"));
-        }
-        self.refusals -= 1;
-        Ok(())
-    }
-}
 
 /// The text that these bytes are.
 pub fn text_of(bytes: Vec<u8>) -> Result<String, Fail> {
@@ -40,34 +18,18 @@ pub fn text_of(bytes: Vec<u8>) -> Result<String, Fail> {
     }
 }
 
-// What encoding returns, and what a writer with this line then holds: straight, and by collecting first. Both are the same.
-fn encoded_both_ways<M: EncodeMetric>(
-    alloc: Global,
-    before: &str,
-    registry: &Registry<M>,
-) -> Result<(Result<(), EncodeError>, String), Fail>
-    requires { HasHistory registry.now }
-{
-    let mut bytes = before.as_bytes().to_vec(alloc)?;
-    let answer = encode(alloc, &mut bytes, registry);
-    let mut collected = before.as_bytes().to_vec(alloc)?;
-    let other = match collect(alloc, registry) {
-        Ok(exposition) => encode_exposition(alloc, &mut collected, &exposition),
-        Err(error) => Err(error),
-    };
-    if answer != other || bytes != collected {
-        return Err(Fail::new("collecting first writes another document"));
-    }
-    Ok((answer, text_of(bytes)?))
-}
-
-/// The document of a registry.
+/// The document of a registry. It is the same if the registry is collected first.
 pub fn document_of<M: EncodeMetric>(alloc: Global, registry: &Registry<M>) -> Result<String, Fail>
     requires { HasHistory registry.now }
 {
-    let (answer, document) = encoded_both_ways(alloc, "", registry)?;
-    answer?;
-    Ok(document)
+    let mut bytes = Vec::new(alloc);
+    encode(alloc, &mut bytes, registry)?;
+    let mut collected = Vec::new(alloc);
+    encode_exposition(alloc, &mut collected, &collect(alloc, registry)?)?;
+    if bytes != collected {
+        return Err(Fail::new("collecting first writes another document"));
+    }
+    text_of(bytes)
 }
 
 /// Fails if a text is not the wanted one.
@@ -132,52 +94,4 @@ pub fn expect_document<M: EncodeMetric + Drop>(
 ) -> Result<(), Fail> {
     let document = document_alone(alloc, name, unit, metric)?;
     expect_text(document.as_str(), want)
-}
-
-// Why a registry is refused. A refusal leaves what its writer held.
-fn refusal_of<M: EncodeMetric>(alloc: Global, registry: &Registry<M>) -> Result<EncodeError, Fail>
-    requires { HasHistory registry.now }
-{
-    match encoded_both_ways(alloc, "before\n", registry)? {
-        (Err(error), held) if held.as_str() == "before\n" => Ok(error),
-        (Err(_), _) => Err(Fail::new("a refusal wrote something")),
-        (Ok(()), _) => Err(Fail::new("nothing was refused")),
-    }
-}
-
-// Fails if a registry is not refused by this error, or if a refusal wrote something.
-fn expect_refusal_of<M: EncodeMetric>(
-    alloc: Global,
-    registry: &Registry<M>,
-    want: EncodeError,
-) -> Result<(), Fail>
-    requires { HasHistory registry.now }
-{
-    let error = refusal_of(alloc, registry)?;
-    if error == want {
-        Ok(())
-    } else {
-        Err(Fail::new(format_args!("the refusal is {error}, and not {want}")))
-    }
-}
-
-/// Fails if a metric alone, under the name `t` and these constant labels, is not refused by this error, or if a refusal wrote
-/// something.
-pub fn expect_refusal_under<M: EncodeMetric + Drop>(
-    alloc: Global,
-    constants: &[(&str, &str)],
-    metric: M,
-    want: EncodeError,
-) -> Result<(), Fail> {
-    let registry = registry_of(alloc, constants, "t", None, metric)?;
-    expect_refusal_of(alloc, &registry, want)
-}
-
-/// Fails if a metric alone, under the name `t`, is not refused by this error, or if a refusal wrote something.
-pub fn expect_refusal<M: EncodeMetric + Drop>(
-    alloc: Global,
-    metric: M,
-    want: EncodeError,
-) -> Result<(), Fail> {
-    expect_refusal_under(alloc, &[], metric, want)
 }

@@ -28,54 +28,6 @@ pub fn labels(alloc: Global, pairs: &[(&str, &str)]) -> Result<Vec<(String, Stri
     Ok(labels)
 }
 
-// The number of the refusal in a result, and 0 for `Ok`.
-fn number_of(answer: &Result<(), RegistryError>) -> u8 {
-    match answer {
-        Ok(()) => 0,
-        Err(error) => error.number(),
-    }
-}
-
-// The text that a refusal names.
-fn text_in(error: &RegistryError) -> &str {
-    match error {
-        RegistryError::InvalidNameFormat { name }
-        | RegistryError::MustHaveAnEmptyUnitString { name }
-        | RegistryError::AlreadyExists { name }
-        | RegistryError::InvalidSubsystemName { name }
-        | RegistryError::InvalidLabelName { name }
-        | RegistryError::DuplicateLabel { name }
-        | RegistryError::NoSuchSubsystem { name }
-        | RegistryError::TooDeep { name }
-        | RegistryError::NameTaken { name } => name.as_str(),
-        RegistryError::OtherUnitFormatMustBeLowercase { unit } => unit.as_str(),
-        RegistryError::InvalidNamespace { namespace } => namespace.as_str(),
-        RegistryError::Memory => "",
-    }
-}
-
-/// Whether these are the numbers of the refusals in the results, with 0 for `Ok`.
-pub fn have_numbers(answers: &[Result<(), RegistryError>], numbers: &[u8]) -> bool {
-    answers.len() == numbers.len()
-        && answers
-            .iter()
-            .zip(numbers)
-            .all(|(answer, number)| number_of(answer) == *number)
-}
-
-/// Whether the result at this index is the refusal with this number, which names this text.
-pub fn refuses(
-    answers: &[Result<(), RegistryError>],
-    index: usize,
-    number: u8,
-    text: &str,
-) -> bool {
-    match answers.get(index) {
-        Some(Err(error)) => error.number() == number && text_in(error) == text,
-        _ => false,
-    }
-}
-
 /// The call that registers a metric with the help `H` at the end of a path.
 pub fn metric_at<M: Drop>(
     alloc: Global,
@@ -104,24 +56,6 @@ pub fn subsystem_at<M: Drop>(
         name: String::from_str(alloc, name)?,
         labels: labels(alloc, pairs)?,
     })
-}
-
-/// Six calls: a metric in a subsystem that does not exist yet, the subsystem, a metric there, the subsystem with an invalid label and with
-/// a valid one, and a metric of the same name.
-pub fn six_calls<M: Drop>(
-    alloc: Global,
-    below_nothing: M,
-    first: M,
-    again: M,
-) -> Result<Vec<RegistryCall<M>>, AllocError> {
-    let mut calls = Vec::new(alloc);
-    calls.push(metric_at(alloc, &["db"], "up", below_nothing)?)?;
-    calls.push(subsystem_at(alloc, &[], "db", &[])?)?;
-    calls.push(metric_at(alloc, &["db"], "up", first)?)?;
-    calls.push(subsystem_at(alloc, &[], "db", &[("1x", "v")])?)?;
-    calls.push(subsystem_at(alloc, &[], "db", &[("k", "v")])?)?;
-    calls.push(metric_at(alloc, &["db"], "up", again)?)?;
-    Ok(calls)
 }
 
 /// A gauge with this value.

@@ -1,5 +1,5 @@
-//! Tests of documents: writers that end at any place, documents that are read, trees and lists of calls of great size, roots, the metrics of a
-//! process and of two examples, and labels in all the types that have them.
+//! Tests of documents: roots and boxes, constants, the metrics of a process, documents, trees, lists of calls and texts of great size, how often
+//! documents that are written and read ask for memory, and what `expose` says of faults.
 #![tactic(auto)]
 
 #[cfg(test)]
@@ -7,13 +7,7 @@ mod boxed;
 #[cfg(test)]
 mod constants;
 #[cfg(test)]
-mod containers;
-#[cfg(test)]
-mod documents;
-#[cfg(test)]
-mod expositions;
-#[cfg(test)]
-mod label_numbers;
+mod expose;
 #[cfg(test)]
 mod large;
 #[cfg(test)]
@@ -21,32 +15,12 @@ mod lines;
 #[cfg(test)]
 mod own;
 #[cfg(test)]
-mod own_labels;
-#[cfg(test)]
-mod parts;
-#[cfg(test)]
-mod paths;
-#[cfg(test)]
 mod process;
 #[cfg(test)]
 mod reading;
 #[cfg(test)]
-mod refusals;
-#[cfg(test)]
-mod refused;
-#[cfg(test)]
-mod refused_paths;
-#[cfg(test)]
 mod sizes;
 #[cfg(test)]
-mod stopping;
-#[cfg(test)]
-mod stops;
-#[cfg(test)]
 mod support;
-#[cfg(test)]
-mod wrappers;
-#[cfg(test)]
-mod writers;
 #[cfg(test)]
 mod writing;

@@ -3,8 +3,8 @@
 //! The first piece of each line has more than 64 bytes, so that the blocks of the document's text are filled up in steps that don't end
 //! where a block does (fm_text's list of bodies that tests refuse).
 
+use fastmetrics::encoder::LabelStr;
 use fm_test_support::members::OneMember;
-use fm_test_support::parts::Word;
 use fm_test_support::points::Repeated;
 use fm_test_support::support::document_alone;
 use std::test::Fail;
@@ -21,7 +21,7 @@ const LINE: &str =
 #[test]
 fn a_hundred_thousand_lines(rt: HostRuntime) -> Result<(), Fail> {
     let alloc = rt.alloc();
-    let gauge = OneMember::gauge([(Word("k"), Word("v"))], Repeated(100_000));
+    let gauge = OneMember::gauge([(LabelStr("k"), LabelStr("v"))], Repeated(100_000));
     let document = document_alone(alloc, NAME, None, gauge)?;
     assert!(rt; document.as_str().starts_with(HEAD));
     assert!(rt; document.as_str().ends_with("{k=\"v\"} 5\n# EOF\n"));

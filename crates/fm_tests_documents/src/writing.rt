@@ -1,24 +1,17 @@
+//! How often writing an exposition asks for memory.
 ghost use Rattle.std.specs.Prelude.{◌≡◌, ◌++◌, [], ◌∷◌, IfOk, OnOk};
 ghost use Rattle.std.specs.List.{AllByRecursion};
 ghost use Rattle.fm_grammar.specs.WellFormed.{AreLabels, IsSample};
 ghost use Rattle.fm_grammar.specs.declared.MetricType.TheVariants.{Counter};
 
-use crate::stopping::Stopping;
 use fm_encode_error::EncodeError;
 use fm_exposition::{Exposition, SampleStore, Value, make};
 use fm_grammar::{LabelList, MetricType, SampleKind};
-use fm_raw::fixed::Fixed;
 use fm_writer::encode_exposition;
 use std::alloc::{AllocError, Global};
-use std::io::{self, ErrorKind, Write};
+use std::io::{self, Write};
 use std::sync::Arc;
 use std::test::Fail;
-
-const DOCUMENT: &[u8] = b"# TYPE c counter
-# HELP c a \\\"b\\\" \\\\ \\n.
-c_total{a=\"x\\\"\\\\\\ny\",b=\"\"} 42 1.005 # {} 0.7 2.000
-# EOF
-";
 
 // A list of one label.
 fn one_label(alloc: Global, name: &str, value: &str) -> Result<LabelList, AllocError>
@@ -29,23 +22,6 @@ fn one_label(alloc: Global, name: &str, value: &str) -> Result<LabelList, AllocE
     Ok(labels)
 }
 
-// A sample with these labels, a timestamp and an exemplar without labels.
-fn total(alloc: Global, common: LabelList, own: LabelList) -> Result<SampleStore, EncodeError>
-    requires { AreLabels (common ++ own) }
-    ensures { IfOk result (λ store. AllByRecursion (IsSample Counter) store.samples) }
-{
-    let exemplar = make::exemplar(Vec::new(alloc), Fixed::from_millionths(700_000), Some(2000));
-    let mut store = SampleStore::new(alloc, Arc::new(alloc, common)?);
-    store.push(
-        SampleKind::Total,
-        own,
-        Value::Whole(42),
-        Some(1005),
-        Some(exemplar),
-    )?;
-    Ok(store)
-}
-
 fn family(alloc: Global, samples: SampleStore) -> Result<Exposition, EncodeError>
     requires { AllByRecursion (IsSample Counter) samples.samples }
 {
@@ -53,66 +29,6 @@ fn family(alloc: Global, samples: SampleStore) -> Result<Exposition, EncodeError
     let help = String::from_str(alloc, "a \"b\" \\ \n.")?;
     let family = make::family(name, MetricType::Counter, help, None, samples);
     Ok(make::exposition(vec![in alloc; family]?))
-}
-
-// One sample, whose two labels are common ones.
-fn counter(alloc: Global) -> Result<Exposition, EncodeError> {
-    let mut common = one_label(alloc, "a", "x\"\\\ny")?;
-    common.push("b", "")?;
-    family(alloc, total(alloc, common, LabelList::new(alloc))?)
-}
-
-// The same, but the second label is the sample's own.
-fn counter_with_own(alloc: Global) -> Result<Exposition, EncodeError> {
-    let common = one_label(alloc, "a", "x\"\\\ny")?;
-    let own = one_label(alloc, "b", "")?;
-    family(alloc, total(alloc, common, own)?)
-}
-
-// Whether an exposition is written as these bytes.
-fn is_written(alloc: Global, exposition: Exposition, want: &[u8]) -> Result<bool, EncodeError> {
-    let mut bytes: Vec<u8> = Vec::new(alloc);
-    encode_exposition(alloc, &mut bytes, &exposition)?;
-    Ok(bytes.as_slice() == want)
-}
-
-#[test]
-fn writes_documents(rt: HostRuntime) -> Result<(), Fail> {
-    let alloc = rt.alloc();
-    assert!(rt;
-        is_written(
-            alloc,
-            make::exposition(Vec::new(alloc)),
-            b"# EOF\n".as_slice()
-        )?
-    );
-    assert!(rt; is_written(alloc, counter(alloc)?, DOCUMENT)?);
-    assert!(rt; is_written(alloc, counter_with_own(alloc)?, DOCUMENT)?);
-    Ok(())
-}
-
-// Whether a writer that stops after ten bytes, of which it takes at most seven a call, ends the writing there by this refusal.
-fn is_stopped(
-    alloc: Global,
-    exposition: Exposition,
-    end: Option<ErrorKind>,
-    refusal: EncodeError,
-) -> bool {
-    let mut writer = Stopping::new(alloc, 10, 7, end);
-    encode_exposition(alloc, &mut writer, &exposition) == Err(refusal)
-        && writer.bytes.as_slice() == b"# TYPE c c".as_slice()
-}
-
-#[test]
-fn stops_at_the_writers_end(rt: HostRuntime) -> Result<(), Fail> {
-    let alloc = rt.alloc();
-    for (end, refusal) in [
-        (Some(ErrorKind::Other), EncodeError::Write),
-        (None, EncodeError::WriteZero),
-    ] {
-        assert!(rt; is_stopped(alloc, counter(alloc)?, end, refusal));
-    }
-    Ok(())
 }
 
 // Counts the bytes and the lines that it takes, and keeps none.

@@ -131,12 +131,17 @@ fn has_text(bound: Bound, text: &str) -> bool {
 }
 
 #[test]
-fn bounds(rt: HostRuntime) {
+fn the_default_bounds(rt: HostRuntime) {
     let [first, .., last] = DEFAULT_BUCKETS;
-    assert!(rt; default_buckets() == DEFAULT_BUCKETS && BUCKET_LABEL == "le");
+    assert!(rt; default_buckets() == DEFAULT_BUCKETS);
     assert!(rt; has_text(Bound::Finite(first), "0.005"));
     assert!(rt; has_text(Bound::Finite(last), "10.0"));
-    assert!(rt; has_text(Bound::Inf, "+Inf"));
+}
+
+#[test]
+fn bounds(rt: HostRuntime) {
+    let [first, .., last] = DEFAULT_BUCKETS;
+    assert!(rt; BUCKET_LABEL == "le" && has_text(Bound::Inf, "+Inf"));
     assert!(rt; Bound::Finite(fixed(i64::MAX)) < Bound::Inf);
     assert!(rt; Bound::Finite(first).is_below(last) && !Bound::Finite(last).is_below(last));
 }

@@ -1,6 +1,6 @@
 //! Clones, other threads, and the times of metrics.
 
-use crate::support::{Job, Silent, Stamped};
+use crate::support::{Job, Stamped};
 use fm_core::encoder::StaticStr;
 use fm_family::{DefaultFactory, Family};
 use fm_histogram::{GaugeHistogram, GaugeHistogramSnapshot, Histogram, HistogramSnapshot};
@@ -25,18 +25,6 @@ fn a_state_set_by_another_thread(rt: HostRuntime) -> Result<(), Fail> {
     let (is_set, _) = thread::join(&rt, || clone.set(Job::Running).is_ok(), || ());
     assert!(rt; is_set && *job.get() == Job::Running);
     expect_document(alloc, "s", None, job, SECOND_STATE)
-}
-
-#[test]
-fn a_metric_without_points(rt: HostRuntime) -> Result<(), Fail> {
-    let alloc = rt.alloc();
-    expect_document(
-        alloc,
-        "s",
-        None,
-        Silent,
-        "# TYPE s gauge\n# HELP s H\n# EOF\n",
-    )
 }
 
 // The type of a metric's family, and whether its samples carry a timestamp.

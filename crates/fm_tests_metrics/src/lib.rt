@@ -1,7 +1,9 @@
-//! Tests of numbers, bounds and names, of counters, gauges, state sets and other metrics, of families and of tallies: every call at every type
-//! of number, clones, threads, documents, metrics that lie, what `Debug` shows, and laws.
+//! Tests of numbers, bounds and errors, of counters, gauges, histograms, state sets and other metrics, of families, of tallies and of the registry
+//! that a program shares: every call at every type of number, clones, threads, what `Debug` shows, and laws.
 #![tactic(auto)]
 
+#[cfg(test)]
+mod asking;
 #[cfg(test)]
 mod buckets;
 #[cfg(test)]
@@ -13,9 +15,15 @@ mod closing;
 #[cfg(test)]
 mod default_states;
 #[cfg(test)]
+mod errors;
+#[cfg(test)]
 mod exemplar_counters;
 #[cfg(test)]
 mod families;
+#[cfg(test)]
+mod full;
+#[cfg(test)]
+mod histograms;
 #[cfg(test)]
 mod keys;
 #[cfg(test)]
@@ -23,7 +31,9 @@ mod laws;
 #[cfg(test)]
 mod leaving;
 #[cfg(test)]
-mod liars;
+mod locked;
+#[cfg(test)]
+mod many_buckets;
 #[cfg(test)]
 mod meeting;
 #[cfg(test)]
@@ -32,6 +42,10 @@ mod members;
 mod numbers;
 #[cfg(test)]
 mod pieces;
+#[cfg(test)]
+mod readers;
+#[cfg(test)]
+mod search;
 #[cfg(test)]
 mod shared;
 #[cfg(test)]
@@ -52,6 +66,8 @@ mod support;
 mod tallies;
 #[cfg(test)]
 mod threads;
+#[cfg(test)]
+mod timers;
 #[cfg(test)]
 mod told;
 #[cfg(test)]

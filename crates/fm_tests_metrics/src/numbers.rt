@@ -3,8 +3,8 @@ ghost use Rattle.fm_grammar.specs.declared.MetricType.TheVariants.{Gauge};
 
 use fm_grammar::SampleKind;
 use fm_raw::{
-    Fixed, FixedBuffer, FixedSum, Metadata, MetricError, MetricType, Number, TypedMetric, Unit,
-    is_label_name, is_snake_case, is_unit_text,
+    Fixed, FixedBuffer, FixedSum, Metadata, MetricType, Number, TypedMetric, Unit, is_label_name,
+    is_snake_case, is_unit_text,
 };
 use std::alloc::{AllocError, Global};
 use std::hash::{DefaultHasher, Hash, Hasher};
@@ -98,50 +98,33 @@ fn whole_sums(rt: HostRuntime) {
 }
 
 #[test]
-fn names_in_snake_case(rt: HostRuntime) {
-    for (name, is_one) in [
-        ("http_requests_total", true),
-        ("a", true),
-        ("a1_2b", true),
-        ("", false),
-        ("_a", false),
-        ("a_", false),
-        ("a__b", false),
-        ("1a", false),
-        ("aB", false),
-        ("a-b", false),
-        ("a:b", false),
+fn which_texts_are_names(rt: HostRuntime) {
+    for (text, is_metric, is_label, is_unit) in [
+        ("a_b", true, true, false),
+        ("Ab", false, true, false),
+        ("_a", false, true, false),
+        ("a", true, true, true),
+        ("1a", false, false, true),
+        ("a-b", false, false, false),
+        ("", false, false, false),
+        ("http_requests_total", true, true, false),
+        ("a1_2b", true, true, false),
+        ("a_", false, true, false),
+        ("a__b", false, true, false),
+        ("aB", false, true, false),
+        ("a:b", false, false, false),
+        ("seconds2", true, true, true),
+        ("Seconds", false, true, false),
+        ("m/s", false, false, false),
+        ("_", false, true, false),
+        ("A9", false, true, false),
+        ("le", true, true, true),
+        ("9a", false, false, true),
+        ("a.b", false, false, false),
     ] {
-        assert!(rt; is_snake_case(name) == is_one, "{name}");
-    }
-}
-
-#[test]
-fn texts_for_units(rt: HostRuntime) {
-    for (text, is_one) in [
-        ("seconds2", true),
-        ("", false),
-        ("a_b", false),
-        ("Seconds", false),
-        ("m/s", false),
-    ] {
-        assert!(rt; is_unit_text(text) == is_one, "{text}");
-    }
-}
-
-#[test]
-fn names_of_labels(rt: HostRuntime) {
-    for (name, is_one) in [
-        ("_", true),
-        ("A9", true),
-        ("le", true),
-        ("a__b", true),
-        ("", false),
-        ("9a", false),
-        ("a-b", false),
-        ("a.b", false),
-    ] {
-        assert!(rt; is_label_name(name) == is_one, "{name}");
+        assert!(rt; is_snake_case(text) == is_metric, "{text}");
+        assert!(rt; is_label_name(text) == is_label, "{text}");
+        assert!(rt; is_unit_text(text) == is_unit, "{text}");
     }
 }
 
@@ -190,35 +173,6 @@ fn texts_of_units(rt: HostRuntime) {
     ] {
         assert!(rt; unit.as_str() == text, "{text}");
     }
-}
-
-// Whether an error has this number and this text.
-fn has_number_and_text(
-    alloc: Global,
-    error: MetricError,
-    number: u8,
-    text: &str,
-) -> Result<bool, AllocError> {
-    Ok(error.number() == number && error.to_string(alloc)?.as_str() == text)
-}
-
-#[test]
-fn texts_of_errors(rt: HostRuntime) -> Result<(), Fail> {
-    for (error, number, text) in [
-        (MetricError::Memory, 1, "Memory"),
-        (MetricError::CountFull, 2, "CountFull"),
-        (MetricError::UnequalBounds, 3, "UnequalBounds"),
-        (MetricError::UnknownState, 4, "UnknownState"),
-        (MetricError::TooManyStates, 5, "TooManyStates"),
-        (MetricError::NegativeIncrement, 6, "NegativeIncrement"),
-        (MetricError::LessThanBefore, 7, "LessThanBefore"),
-    ] {
-        assert!(rt;
-            has_number_and_text(rt.alloc(), error, number, text)?,
-            "{text}"
-        );
-    }
-    Ok(())
 }
 
 fn zero_and_one<N: Number>() -> (N, N) {

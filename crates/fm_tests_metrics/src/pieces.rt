@@ -1,9 +1,8 @@
-//! Observations cut among workers.
+//! The gates of observations that are cut among workers.
 
 use fm_histogram::{GaugeHistogramSnapshot, HistogramSnapshot};
 use fm_raw::Fixed;
-use fm_raw::bucket::{Bound, Bucket};
-use fm_tally::{Gate, OpenGate, TallyError, observe_all, observe_all_gauge};
+use fm_tally::{Gate, TallyError, observe_all, observe_all_gauge};
 use fm_test_support::histograms::{expect_sum, have_counts, whole};
 use std::alloc::{AllocError, Global};
 use std::sync::atomic::{AtomicU64, Ordering};
@@ -44,73 +43,6 @@ fn expect_gauge_counted(
         return Err(Fail::new("other counts"));
     }
     expect_sum(alloc, all.gsum(), sum)
-}
-
-#[test]
-fn two_hundred_values(rt: HostRuntime) -> Result<(), Fail> {
-    let alloc = rt.alloc();
-    let bounds = [whole(1), whole(2), whole(5)];
-    let pieces = [up_to(alloc, 100)?, up_to(alloc, 100)?, Vec::new(alloc)];
-    for cut in [2, 3] {
-        let all = observe_all(&rt, alloc, &bounds, &pieces[..cut], &OpenGate)?;
-        expect_counted(alloc, &all, &[2, 2, 6, 190], 200, "10100.0")?;
-    }
-    Ok(())
-}
-
-// Whether a histogram has the bounds 1, 2 and 5, and nothing in it.
-fn is_empty(all: &HistogramSnapshot) -> bool {
-    let empty = [
-        Bucket::new(Bound::Finite(whole(1)), 0),
-        Bucket::new(Bound::Finite(whole(2)), 0),
-        Bucket::new(Bound::Finite(whole(5)), 0),
-        Bucket::new(Bound::Inf, 0),
-    ];
-    all.buckets() == empty.as_slice() && all.count() == 0 && all.sum().millionths() == 0
-}
-
-#[test]
-fn no_pieces(rt: HostRuntime) -> Result<(), Fail> {
-    let bounds = [whole(1), whole(2), whole(5)];
-    let all = observe_all(&rt, rt.alloc(), &bounds, &[], &OpenGate)?;
-    assert!(rt; is_empty(&all));
-    Ok(())
-}
-
-// Bounds of temperatures.
-fn bounds() -> [Fixed; 6] {
-    let zero = Fixed::from_millionths(-273_150_000);
-    [
-        zero,
-        whole(-200),
-        whole(-100),
-        whole(0),
-        whole(100),
-        whole(200),
-    ]
-}
-
-// Temperatures, cut in two.
-fn temperatures(alloc: Global) -> Result<[Vec<Fixed>; 2], AllocError> {
-    let first = vec![in alloc; whole(-250), whole(0)]?;
-    let second = vec![in alloc; whole(100), whole(1000)]?;
-    Ok([first, second])
-}
-
-#[test]
-fn temperatures_in_a_gauge_histogram(rt: HostRuntime) -> Result<(), Fail> {
-    let alloc = rt.alloc();
-    let pieces = temperatures(alloc)?;
-    let all = observe_all_gauge(&rt, alloc, &bounds(), &pieces, &OpenGate)?;
-    expect_gauge_counted(alloc, &all, &[0, 1, 0, 1, 1, 0, 1], 4, "850.0")
-}
-
-#[test]
-fn temperatures_in_a_histogram(rt: HostRuntime) -> Result<(), Fail> {
-    let alloc = rt.alloc();
-    let pieces = temperatures(alloc)?;
-    let all = observe_all(&rt, alloc, &bounds(), &pieces, &OpenGate)?;
-    expect_counted(alloc, &all, &[1, 1, 0, 1], 3, "1100.0")
 }
 
 // Refuses all pieces from one on.
@@ -223,30 +155,4 @@ fn the_gate_of_a_gauge_histogram_is_asked_once_a_piece(rt: HostRuntime) -> Resul
     let all = observe_all_gauge(&rt, alloc, &[whole(1)], &pieces, &gate)?;
     assert!(rt; asked_once(&gate));
     expect_gauge_counted(alloc, &all, &[2, 2], 4, "7.0")
-}
-
-#[test]
-fn one_piece(rt: HostRuntime) -> Result<(), Fail> {
-    let alloc = rt.alloc();
-    let bounds = [whole(1), whole(2), whole(5)];
-    let pieces = [up_to(alloc, 100)?];
-    let all = observe_all(&rt, alloc, &bounds, &pieces, &OpenGate)?;
-    expect_counted(alloc, &all, &[1, 1, 3, 95], 100, "5050.0")
-}
-
-// So many pieces of the values 1 and 2.
-fn pairs(alloc: Global, count: u16) -> Result<Vec<Vec<Fixed>>, AllocError> {
-    let mut pieces = Vec::new(alloc);
-    for _ in 0..count {
-        pieces.push(up_to(alloc, 2)?)?;
-    }
-    Ok(pieces)
-}
-
-#[test]
-fn three_hundred_pieces(rt: HostRuntime) -> Result<(), Fail> {
-    let alloc = rt.alloc();
-    let pieces = pairs(alloc, 300)?;
-    let all = observe_all(&rt, alloc, &[whole(1)], pieces.as_slice(), &OpenGate)?;
-    expect_counted(alloc, &all, &[300, 300], 600, "900.0")
 }

@@ -4,10 +4,8 @@ ghost use Rattle.fm_grammar.specs.declared.MetricType.TheVariants.{Gauge};
 ghost use Rattle.fm_tests_metrics.specs.declared.support.Job.TheVariants.{Pending, Running};
 ghost use Rattle.fm_tests_metrics.specs.declared.support.Light.TheVariants.{Red, Yellow, Green, Blue};
 
-use fm_core::encoder::{EncodeError, EncodeMetric, MetricEncoder};
 use fm_metrics::state_set::StateSetValue;
 use fm_raw::{MetricType, TypedMetric};
-use std::time::Duration;
 
 /// How far a job is.
 #[derive(Clone, Copy, PartialEq, Eq, Debug)]
@@ -75,27 +73,6 @@ impl Default for Light {
 
     fn default() -> Light {
         Light::Yellow
-    }
-}
-
-/// A gauge that emits no point, though it is not empty.
-#[derive(Drop)]
-pub struct Silent;
-
-impl EncodeMetric for Silent {
-    ghost offers = { λ _ _ ms. ms ≡ [] };
-
-    fn encode(&self, encoder: &mut MetricEncoder) -> Result<(), EncodeError> {
-        let _encoder = encoder;
-        Ok(())
-    }
-
-    fn metric_type(&self) -> MetricType {
-        MetricType::Gauge
-    }
-
-    fn timestamp(&self) -> Option<Duration> {
-        None
     }
 }
 

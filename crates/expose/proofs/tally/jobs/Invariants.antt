@@ -1,4 +1,0 @@
-use Rattle.expose.proofs.tally.jobs.Given as goal
-
-abbrev pub ghosts-counted_jobs : goal.ghosts-counted_jobs
-ghosts-counted_jobs g a = record { name = a.blank.name; parts = a.blank.parts }

@@ -1,2 +1,0 @@
-pub mod PointsLemmas
-pub mod TwoLemmas
