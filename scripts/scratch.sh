@@ -10,7 +10,7 @@ lay_out() {
     # The crates, and the bench's own, whose files get their true endings. What was built there before stays.
     for crate in "$top"/crates/*/ "$bench"/*/; do
         name=$(basename "$crate")
-        case $name in fm_tests_* | fm_test_support | expose | expose_io | first_use | global_use | worker_pool | peers) continue ;; esac
+        case $name in fm_tests_* | expose | expose_io | first_use | global_use | worker_pool | peers) continue ;; esac
         mkdir -p "$folder/crates/$name"
         find "$folder/crates/$name" -mindepth 1 -maxdepth 1 ! -name out -exec rm -rf {} +
         (cd "$crate" && tar -c --exclude=./out .) | tar -x -C "$folder/crates/$name"

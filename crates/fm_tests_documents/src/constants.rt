@@ -1,14 +1,11 @@
-//! Constant metrics in a root, and a clone of one.
+//! Constant metrics in a root.
 
 use crate::support::expect_root;
 use fastmetrics::metrics::counter::ConstCounter;
 use fastmetrics::metrics::gauge::ConstGauge;
-use fastmetrics::metrics::state_set::ConstStateSet;
 use fastmetrics::metrics::unknown::Unknown;
 use fastmetrics::raw::Fixed;
 use fastmetrics::registry::{Metric, Registry, Root, Unit};
-use fm_test_support::jobs::Job;
-use fm_test_support::support::expect_document;
 use std::test::Fail;
 
 const CONSTANTS: &str = "# TYPE a counter\n\
@@ -31,18 +28,4 @@ fn in_a_root(rt: HostRuntime) -> Result<(), Fail> {
     root.register("b", "H", Some(Unit::Volts), Metric::from(half))?;
     root.register("c", "H", None, Metric::from(Unknown::<i64>::new(-4)))?;
     expect_root(rt.alloc(), &root, CONSTANTS)
-}
-
-#[test]
-fn a_clone_of_a_state_set(rt: HostRuntime) -> Result<(), Fail> {
-    let job = ConstStateSet::new(rt.alloc(), Job::Running)?.clone()?;
-    assert!(rt; *job.get() == Job::Running);
-    expect_document(
-        rt.alloc(),
-        "s",
-        None,
-        job,
-        "# TYPE s stateset\n# HELP s H\ns{s=\"pending\"} 0\ns{s=\"running\"} 1\n\
-         s{s=\"completed\"} 0\ns{s=\"failed\"} 0\n# EOF\n",
-    )
 }

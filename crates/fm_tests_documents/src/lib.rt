@@ -3,8 +3,6 @@
 #![tactic(auto)]
 
 #[cfg(test)]
-mod boxed;
-#[cfg(test)]
 mod constants;
 #[cfg(test)]
 mod expose;
@@ -13,13 +11,21 @@ mod large;
 #[cfg(test)]
 mod lines;
 #[cfg(test)]
+mod locked;
+#[cfg(test)]
+mod many_buckets;
+#[cfg(test)]
 mod own;
+#[cfg(test)]
+mod pairs;
 #[cfg(test)]
 mod process;
 #[cfg(test)]
 mod reading;
 #[cfg(test)]
 mod sizes;
+#[cfg(test)]
+mod sources;
 #[cfg(test)]
 mod support;
 #[cfg(test)]

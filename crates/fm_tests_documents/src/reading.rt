@@ -1,4 +1,4 @@
-//! Documents that are read and written again: how often that asks for memory, and texts of great size, for which there is memory.
+//! Documents that are read and written again: how often that asks for memory, and documents of great size, for which there is memory.
 use fm_core::format::text::{CONTENT_TYPE, encode_exposition, read};
 use std::alloc::Global;
 use std::test::Fail;
@@ -46,16 +46,6 @@ fn seventy_thousand_families(rt: HostRuntime) -> Result<(), Fail> {
     expect_written_again(rt.alloc(), text.as_str())
 }
 
-// The document of a gauge whose label has ten times so many bytes.
-fn document_with_a_long_label(alloc: Global, tens: u32) -> Result<String, Fail> {
-    let mut text = String::from_str(alloc, "# TYPE g gauge\n# HELP g H\ng{v=\"")?;
-    for _ in 0..tens {
-        text.push_str("0123456789")?;
-    }
-    text.push_str("\"} 1\n# EOF\n")?;
-    Ok(text)
-}
-
 // The document of a gauge with so many labels.
 fn document_with_labels(alloc: Global, count: u32) -> Result<String, Fail> {
     let mut text = String::from_str(alloc, "# TYPE g gauge\n# HELP g H\ng{first=\"\"")?;
@@ -70,12 +60,6 @@ fn document_with_labels(alloc: Global, count: u32) -> Result<String, Fail> {
 #[test]
 fn seventy_thousand_labels(rt: HostRuntime) -> Result<(), Fail> {
     let text = document_with_labels(rt.alloc(), 70_000)?;
-    expect_written_again(rt.alloc(), text.as_str())
-}
-
-#[test]
-fn a_hundred_thousand_bytes_in_a_label(rt: HostRuntime) -> Result<(), Fail> {
-    let text = document_with_a_long_label(rt.alloc(), 10_000)?;
     expect_written_again(rt.alloc(), text.as_str())
 }
 

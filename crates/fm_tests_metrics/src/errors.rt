@@ -1,10 +1,10 @@
 //! The numbers and texts of all errors but those of bounds.
 
+use crate::support::expect_text;
 use fm_core::format::text::{EncodeError, ReadError};
 use fm_core::registry::{RegistryError, SetRegistryError};
 use fm_raw::MetricError;
 use fm_tally::TallyError;
-use fm_test_support::support::expect_text;
 use std::alloc::{AllocError, Global};
 use std::fmt::Display;
 use std::test::Fail;

@@ -1,8 +1,8 @@
 //! Snapshots that count 2^64 - 1 values.
 
+use crate::support::{expect_sum, whole};
 use fm_histogram::{GaugeHistogramSnapshot, HistogramSnapshot};
 use fm_raw::{Fixed, MetricError};
-use fm_test_support::histograms::{expect_sum, whole};
 use std::alloc::Global;
 use std::test::Fail;
 

@@ -1,15 +1,29 @@
 //! Label sets as the keys of families: with random hashers, of borrowed texts, and of texts of the program.
 ghost use Rattle.std.specs.Prelude.{[], ◌∷◌, codes};
+ghost use Rattle.std.specs.String.{string_bytes};
 ghost use Rattle.fm_labels.specs.Labels.{NamePiece, ValuePiece};
 
 use fm_core::encoder::{EncodeError, EncodeLabelSet, LabelSetEncoder, LabelStr};
 use fm_family::{DefaultFactory, Family, FamilyCore};
 use fm_metrics::Counter;
-use fm_test_support::replies::Path;
 use std::hash::{BuildHasherDefault, FoldHasher, RandomState};
 use std::test::Fail;
 
 type Hasher = BuildHasherDefault<FoldHasher>;
+
+// Which path was requested.
+#[derive(Clone, PartialEq, Eq, Hash, Drop)]
+struct Path {
+    path: String,
+}
+
+impl EncodeLabelSet for Path {
+    ghost labels = { λ path. (NamePiece (codes "path") ∷ ValuePiece (string_bytes path.path) ∷ []) ∷ [] };
+
+    fn encode(&self, encoder: &mut LabelSetEncoder) -> Result<(), EncodeError> {
+        encoder.encode(&(LabelStr("path"), &self.path))
+    }
+}
 
 // Counters by a text that others can choose.
 type Counters<S> = Family<Path, Counter, DefaultFactory<Counter, HostRuntime>, S, HostRuntime>;

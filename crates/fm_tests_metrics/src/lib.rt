@@ -9,17 +9,11 @@ mod buckets;
 #[cfg(test)]
 mod cases;
 #[cfg(test)]
-mod clones;
-#[cfg(test)]
 mod closing;
 #[cfg(test)]
 mod default_states;
 #[cfg(test)]
 mod errors;
-#[cfg(test)]
-mod exemplar_counters;
-#[cfg(test)]
-mod families;
 #[cfg(test)]
 mod full;
 #[cfg(test)]
@@ -28,12 +22,6 @@ mod histograms;
 mod keys;
 #[cfg(test)]
 mod laws;
-#[cfg(test)]
-mod leaving;
-#[cfg(test)]
-mod locked;
-#[cfg(test)]
-mod many_buckets;
 #[cfg(test)]
 mod meeting;
 #[cfg(test)]
@@ -47,13 +35,9 @@ mod readers;
 #[cfg(test)]
 mod search;
 #[cfg(test)]
-mod shared;
-#[cfg(test)]
 mod shares;
 #[cfg(test)]
 mod shown;
-#[cfg(test)]
-mod sources;
 #[cfg(test)]
 mod states;
 #[cfg(test)]
@@ -70,6 +54,8 @@ mod threads;
 mod timers;
 #[cfg(test)]
 mod told;
+#[cfg(test)]
+mod types;
 #[cfg(test)]
 mod values;
 #[cfg(test)]

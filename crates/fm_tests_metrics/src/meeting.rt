@@ -1,9 +1,9 @@
 //! Threads that are in one family at the same time.
 
+use crate::support::Status;
 use fm_family::{DefaultFactory, Family};
 use fm_metrics::Counter;
 use fm_raw::TryDefault;
-use fm_test_support::replies::Outcome;
 use std::hash::{BuildHasherDefault, FoldHasher};
 use std::sync::Wait;
 use std::sync::atomic::{AtomicU64, Ordering};
@@ -11,14 +11,14 @@ use std::test::Fail;
 use std::thread;
 
 type Counters<H> = Family<
-    Outcome,
+    Status,
     Counter,
     DefaultFactory<Counter, H>,
     BuildHasherDefault<FoldHasher>,
     H,
 >;
 
-const KNOWN: Outcome = Outcome { error: Some(false) };
+const FOUND: Status = Status(200);
 
 // Whether a second thread comes here while this one waits, which gives up after many turns.
 fn meets(come: &AtomicU64) -> bool {
@@ -34,18 +34,18 @@ fn meets(come: &AtomicU64) -> bool {
 
 // The same within a member that may have to be made.
 fn meets_by_with_or_new<H: Wait + Clone + Drop>(outcomes: &Counters<H>, come: &AtomicU64) -> bool {
-    outcomes.with_or_new(&KNOWN, |_| meets(come)) == Ok(true)
+    outcomes.with_or_new(&FOUND, |_| meets(come)) == Ok(true)
 }
 
 // The same within a member that is there.
 fn meets_by_with<H: Wait + Clone + Drop>(outcomes: &Counters<H>, come: &AtomicU64) -> bool {
-    outcomes.with(&KNOWN, |_| meets(come)) == Some(true)
+    outcomes.with(&FOUND, |_| meets(come)) == Some(true)
 }
 
 #[test]
 fn two_threads_are_at_one_member(rt: HostRuntime) -> Result<(), Fail> {
     let outcomes = Counters::try_default(rt, rt.alloc())?;
-    outcomes.with_or_new(&KNOWN, |count| count.inc())?;
+    outcomes.with_or_new(&FOUND, |count| count.inc())?;
     let come = AtomicU64::new(0);
     let both = thread::join(
         &rt,

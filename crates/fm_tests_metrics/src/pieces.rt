@@ -1,9 +1,9 @@
 //! The gates of observations that are cut among workers.
 
+use crate::support::{expect_sum, have_counts, whole};
 use fm_histogram::{GaugeHistogramSnapshot, HistogramSnapshot};
 use fm_raw::Fixed;
 use fm_tally::{Gate, TallyError, observe_all, observe_all_gauge};
-use fm_test_support::histograms::{expect_sum, have_counts, whole};
 use std::alloc::{AllocError, Global};
 use std::sync::atomic::{AtomicU64, Ordering};
 use std::test::Fail;

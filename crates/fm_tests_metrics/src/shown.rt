@@ -1,14 +1,12 @@
 //! What `Debug` shows of metrics that threads share, and of registries.
 
-use crate::support::Job;
+use crate::support::{Job, Status};
 use fm_core::registry::Registry;
 use fm_family::{DefaultFactory, Family};
 use fm_histogram::Histogram;
 use fm_metrics::state_set::{ConstStateSet, StateSet};
 use fm_metrics::{Counter, Gauge};
 use fm_raw::{Fixed, TryDefault};
-use fm_test_support::replies::Outcome;
-use fm_test_support::trees::labels;
 use std::alloc::Global;
 use std::fmt::Debug;
 use std::hash::{BuildHasherDefault, FoldHasher};
@@ -16,7 +14,7 @@ use std::test::Fail;
 use std::time::Duration;
 
 type Counters = Family<
-    Outcome,
+    Status,
     Counter,
     DefaultFactory<Counter, HostRuntime>,
     BuildHasherDefault<FoldHasher>,
@@ -62,11 +60,14 @@ fn locked_metrics_show_what_stands_beside_the_lock(rt: HostRuntime) -> Result<()
 #[test]
 fn registries_show_their_namespace_and_labels(rt: HostRuntime) -> Result<(), Fail> {
     let alloc = rt.alloc();
-    let labels = labels(alloc, &[("env", "prod")])?;
+    let (name, value) = (
+        String::from_str(alloc, "env")?,
+        String::from_str(alloc, "prod")?,
+    );
     let namespace = String::from_str(alloc, "app")?;
     let registry: Registry = Registry::builder()
         .with_namespace(namespace)?
-        .with_const_labels(labels)?
+        .with_const_labels(vec![in alloc; (name, value)]?)?
         .build()?;
     assert!(rt;
         is_shown(

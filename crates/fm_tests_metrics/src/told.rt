@@ -1,4 +1,5 @@
-//! What two threads are told of one counter or gauge: each number before a step once, and nothing that was never set.
+//! What two threads are told of one counter or gauge: each number before a step once, no lesser total after a greater one, and nothing that was
+//! never set.
 
 use fm_metrics::{Counter, Gauge};
 use fm_raw::TryDefault;
@@ -93,5 +94,27 @@ fn a_gauge_that_is_set_is_nothing_else_between(rt: HostRuntime) -> Result<(), Fa
         || is_always_seven(&clone, &come),
     );
     assert!(rt; is_seven);
+    Ok(())
+}
+
+// Raises a counter to every second value from the first one on, and returns how often the total was below a value that it
+// had been raised to.
+fn falls(hits: &Counter<u64>, first: u8) -> u32 {
+    let mut falls = 0u32;
+    for i in 0..1000000u64 {
+        let v = u64::from(first) + 2 * i;
+        if hits.set(v).is_ok() && hits.total() < v {
+            falls = falls.saturating_add(1);
+        }
+    }
+    falls
+}
+
+#[test]
+fn totals_of_two_threads_never_fall(rt: HostRuntime) -> Result<(), Fail> {
+    let hits = Counter::<u64>::try_default(rt, rt.alloc())?;
+    let clone = hits.clone()?;
+    let (even, odd) = thread::join(&rt, || falls(&hits, 0), || falls(&clone, 1));
+    assert!(rt; even == 0 && odd == 0 && hits.total() == 1999999);
     Ok(())
 }

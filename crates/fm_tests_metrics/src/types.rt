@@ -1,4 +1,4 @@
-//! Clones, other threads, and the times of metrics.
+//! The types of metrics, and whether their samples carry a timestamp.
 
 use crate::support::{Job, Stamped};
 use fm_core::encoder::StaticStr;
@@ -9,23 +9,7 @@ use fm_metrics::state_set::{ConstStateSet, StateSet};
 use fm_metrics::unknown::Unknown;
 use fm_metrics::{ConstCounter, ConstGauge, Counter, Gauge};
 use fm_raw::{MetricType, TypedMetric};
-use fm_test_support::support::expect_document;
 use std::hash::{BuildHasherDefault, FoldHasher};
-use std::test::Fail;
-use std::thread;
-
-static SECOND_STATE: &str =
-    "# TYPE s stateset\n# HELP s H\ns{s=\"pending\"} 0\ns{s=\"running\"} 1\n# EOF\n";
-
-#[test]
-fn a_state_set_by_another_thread(rt: HostRuntime) -> Result<(), Fail> {
-    let alloc = rt.alloc();
-    let job = StateSet::new(alloc, Job::Pending)?;
-    let clone = job.clone()?;
-    let (is_set, _) = thread::join(&rt, || clone.set(Job::Running).is_ok(), || ());
-    assert!(rt; is_set && *job.get() == Job::Running);
-    expect_document(alloc, "s", None, job, SECOND_STATE)
-}
 
 // The type of a metric's family, and whether its samples carry a timestamp.
 fn type_and_timestamp<M: TypedMetric>() -> (MetricType, bool) {

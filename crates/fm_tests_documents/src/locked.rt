@@ -4,10 +4,10 @@ ghost use Rattle.fm_grammar.specs.Exposition.{Whole};
 ghost use Rattle.fm_encoder.specs.Points.{GaugePoint};
 ghost use Rattle.fm_encoder.specs.Emits.{MembersOf};
 
+use crate::support::expect_document;
 use fm_core::encoder::{EncodeError, EncodeMetric, MetricEncoder};
 use fm_metrics::ConstGauge;
 use fm_raw::MetricType;
-use fm_test_support::support::expect_document;
 use std::sync::{Mutex, Wait};
 use std::test::Fail;
 use std::time::Duration;
@@ -49,7 +49,6 @@ fn values_behind_locks(rt: HostRuntime) -> Result<(), Fail> {
     expect_document(
         alloc,
         "t",
-        None,
         metric,
         "# TYPE t gauge\n# HELP t H\nt -5\n# EOF\n",
     )

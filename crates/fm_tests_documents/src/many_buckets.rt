@@ -1,8 +1,8 @@
 //! A histogram of great size, for which there is memory.
 
+use crate::support::document_alone;
 use fm_histogram::HistogramSnapshot;
 use fm_raw::Fixed;
-use fm_test_support::support::document_alone;
 use std::alloc::Global;
 use std::test::Fail;
 
@@ -23,7 +23,7 @@ fn seventy_thousand_buckets(rt: HostRuntime) -> Result<(), Fail> {
         snapshot.observe(Fixed::from_millionths(i))?;
     }
     assert!(rt; snapshot.buckets().len() == 70_001 && snapshot.count() == 4);
-    let document = document_alone(alloc, "t", None, snapshot)?;
+    let document = document_alone(alloc, "t", snapshot)?;
     assert!(rt;
         document.as_str().contains("\nt_bucket{le=\"0.069998\"} 1\nt_bucket{le=\"0.069999\"} 2\n")
     );

@@ -1,10 +1,7 @@
 //! Gauges and counters that ask a source for their number.
 
-use fm_core::registry::Registry;
+use crate::support::{expect_document, expect_document_of, registry_of};
 use fm_metrics::source::{NumberSource, SourceCounter, SourceGauge};
-use fm_raw::Fixed;
-use fm_test_support::support::{expect_document, expect_document_of};
-use fm_test_support::trees::register;
 use std::alloc::Global;
 use std::sync::Arc;
 use std::sync::atomic::Ordering::SeqCst;
@@ -34,8 +31,7 @@ fn a_gauge_asks_at_each_document(rt: HostRuntime) -> Result<(), Fail> {
         queue: queue.clone()?,
         asked: asked.clone()?,
     });
-    let mut registry = Registry::default();
-    register(alloc, &mut registry, "queue", Box::new(alloc, gauge)?)?;
+    let registry = registry_of(alloc, "queue", gauge)?;
     expect_document_of(
         alloc,
         &registry,
@@ -67,15 +63,5 @@ fn a_counter_asks_for_its_total(rt: HostRuntime) -> Result<(), Fail> {
     let alloc = rt.alloc();
     let document = "# TYPE hits counter\n# HELP hits H\nhits_total 41\n# EOF\n";
     let counter = SourceCounter::new(Hits);
-    expect_document(alloc, "hits", None, counter, document)
-}
-
-// A half.
-#[derive(Drop)]
-struct Half;
-
-impl NumberSource<Fixed> for Half {
-    fn read(&self) -> Fixed {
-        Fixed::from_millionths(500_000)
-    }
+    expect_document(alloc, "hits", counter, document)
 }

@@ -1,2 +1,1 @@
 pub mod PointsLemmas
-pub mod ReplyLemmas
