@@ -27,7 +27,8 @@ struct seen {
     atomic_ulong requests; // so far
     atomic_ulong again;    // how many lines were done again
     unsigned long tried, bad;
-    unsigned long left[MOST_LEFT], left_count; // the numbers of the requests beside other threads
+    atomic_ulong left_count; // how many requests were made beside other threads, perhaps by two at once
+    unsigned long left[MOST_LEFT]; // their numbers
 };
 
 static struct seen *seen;
@@ -107,9 +108,10 @@ static int has_threads(void) {
 // Whether this request is refused: in the process that goes on with it, which has what was printed so far.
 static int forks_here(unsigned long request) {
     if (has_threads()) {
-        if (seen->left_count == MOST_LEFT)
+        unsigned long place = atomic_fetch_add(&seen->left_count, 1);
+        if (place >= MOST_LEFT)
             _exit(3);
-        seen->left[seen->left_count++] = request;
+        seen->left[place] = request;
         return 0;
     }
     unsigned long requests = seen->requests;
