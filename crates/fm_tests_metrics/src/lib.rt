@@ -11,8 +11,6 @@ mod cases;
 #[cfg(test)]
 mod closing;
 #[cfg(test)]
-mod default_states;
-#[cfg(test)]
 mod errors;
 #[cfg(test)]
 mod full;

@@ -1,6 +1,6 @@
 //! What `Debug` shows of metrics that threads share, and of registries.
 
-use crate::support::{Job, Status};
+use crate::support::{Light, Status};
 use fm_core::registry::Registry;
 use fm_family::{DefaultFactory, Family};
 use fm_histogram::Histogram;
@@ -40,10 +40,10 @@ fn metrics_show_their_values(rt: HostRuntime) -> Result<(), Fail> {
 #[test]
 fn state_sets_show_their_states(rt: HostRuntime) -> Result<(), Fail> {
     let alloc = rt.alloc();
-    let job = StateSet::new(alloc, Job::Running)?;
-    assert!(rt; is_shown(alloc, &job, "StateSet { state: \"running\" }")?);
-    let job = ConstStateSet::new(alloc, Job::Pending)?;
-    assert!(rt; is_shown(alloc, &job, "ConstStateSet { state: \"pending\" }")?);
+    let light = StateSet::new(alloc, Light::Green)?;
+    assert!(rt; is_shown(alloc, &light, "StateSet { state: \"green\" }")?);
+    let light = ConstStateSet::new(alloc, Light::Red)?;
+    assert!(rt; is_shown(alloc, &light, "ConstStateSet { state: \"red\" }")?);
     Ok(())
 }
 

@@ -2,7 +2,6 @@
 ghost use Rattle.std.specs.Prelude.{◌≡◌, [], ◌∷◌, codes, decimal, replicate};
 ghost use Rattle.fm_grammar.specs.declared.MetricType.TheVariants.{Gauge};
 ghost use Rattle.fm_labels.specs.Labels.{NamePiece, ValuePiece};
-ghost use Rattle.fm_tests_metrics.specs.declared.support.Job.TheVariants.{Pending, Running};
 ghost use Rattle.fm_tests_metrics.specs.declared.support.Light.TheVariants.{Red, Yellow, Green, Blue};
 
 use fm_core::encoder::{EncodeError, EncodeLabelSet, LabelSetEncoder, LabelStr};
@@ -11,32 +10,6 @@ use fm_raw::bucket::Bucket;
 use fm_raw::{Fixed, FixedSum, MetricType, TypedMetric};
 use std::alloc::Global;
 use std::test::Fail;
-
-/// How far a job is.
-#[derive(Clone, Copy, PartialEq, Eq, Debug)]
-pub enum Job {
-    Pending,
-    Running,
-}
-
-static JOBS: [Job; 2] = [Job::Pending, Job::Running];
-
-impl StateSetValue for Job {
-    ghost all = { Pending ∷ Running ∷ [] };
-
-    ghost text = { elim [ Pending ↦ codes "pending" | Running ↦ codes "running" ] };
-
-    fn variants() -> &'static [Job] {
-        &JOBS
-    }
-
-    fn as_str(&self) -> &str {
-        match self {
-            Job::Pending => "pending",
-            Job::Running => "running",
-        }
-    }
-}
 
 /// The colour of a light. Of these, `Blue` is no state.
 #[derive(Clone, Copy, PartialEq, Eq, Debug)]

@@ -1,27 +1,7 @@
-//! Tallies: events and their replies.
+//! A book of many events, for which there is memory.
 
-use fm_tally::{Book, Event, Reply, TallyError};
+use fm_tally::{Book, Event, Reply};
 use std::test::Fail;
-
-// Whether a book that holds the greatest sum refuses to add these, and keeps its sum.
-fn refuses_more(book: &mut Book) -> bool {
-    for more in [1, u64::MAX] {
-        if book.add(1, more) != Err(TallyError::Full) || book.read() != u64::MAX {
-            return false;
-        }
-    }
-    true
-}
-
-#[test]
-fn full_book(rt: HostRuntime) -> Result<(), Fail> {
-    let mut book = Book::new();
-    assert!(rt; book.read() == 0 && Book::default().read() == 0);
-    book.add(0, u64::MAX)?;
-    assert!(rt; refuses_more(&mut book));
-    book.add(1, 0)?;
-    Ok(())
-}
 
 #[test]
 fn seventy_thousand_events(rt: HostRuntime) -> Result<(), Fail> {

@@ -1,6 +1,6 @@
 //! The types of metrics, and whether their samples carry a timestamp.
 
-use crate::support::{Job, Stamped};
+use crate::support::{Light, Stamped};
 use fm_core::encoder::StaticStr;
 use fm_family::{DefaultFactory, Family};
 use fm_histogram::{GaugeHistogram, GaugeHistogramSnapshot, Histogram, HistogramSnapshot};
@@ -32,8 +32,8 @@ fn types_and_timestamps(rt: HostRuntime) {
         type_and_timestamp::<ConstCounter>(),
         type_and_timestamp::<Gauge>(),
         type_and_timestamp::<ConstGauge>(),
-        type_and_timestamp::<StateSet<Job>>(),
-        type_and_timestamp::<ConstStateSet<Job>>(),
+        type_and_timestamp::<StateSet<Light>>(),
+        type_and_timestamp::<ConstStateSet<Light>>(),
         type_and_timestamp::<Info<()>>(),
         type_and_timestamp::<Unknown<i64>>(),
         type_and_timestamp::<Histogram<HostRuntime>>(),
