@@ -161,7 +161,7 @@ def imports_of_source(text):
 
 
 def starts():
-    source = TOP / "crates/fm_scrape/src/scrape.rt"
+    source = TOP / "crates/fm_core/src/scrape.rt"
     imports = imports_of_source(source.read_text())
     words = set(words_of(clauses_of(source, "encode").split("\n")))
     # What the clauses see of a registry, and what a metric declares.

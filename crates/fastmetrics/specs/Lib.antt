@@ -56,9 +56,9 @@ pub use Rattle.fm_tally.specs.Events
 pub use Rattle.fm_tally.specs.Shares
 pub use Rattle.fm_registry.specs.Named
 pub use Rattle.fm_core.specs.Locked
-pub use Rattle.fm_scrape.specs.Admits
-pub use Rattle.fm_scrape.specs.Families
-pub use Rattle.fm_scrape.specs.Encoded
+pub use Rattle.fm_core.specs.Admits
+pub use Rattle.fm_core.specs.Families
+pub use Rattle.fm_core.specs.Encoded
 pub use Rattle.fm_encoder.specs.States
 pub use Rattle.fm_metrics.specs.Counters
 pub use Rattle.fm_metrics.specs.NumberOrder
@@ -73,5 +73,5 @@ pub use Rattle.fm_histogram.specs.Shared
 pub use Rattle.fm_tally.specs.Pieces
 pub use Rattle.fm_family.specs.Members
 pub use Rattle.fm_family.specs.MemberLends
-pub use Rattle.fm_registry_at.specs.Paths
-pub use Rattle.fm_registry_at.specs.Roots
+pub use Rattle.fm_root.specs.Paths
+pub use Rattle.fm_root.specs.Roots

@@ -82,7 +82,5 @@ pub mod registry {
         add, add_with_unit, register, register_global, register_metric, register_with_unit,
         set_global_registry, with_global_registry, with_global_registry_mut,
     };
-    pub use fm_metric_kinds::{ByTexts, Constant, Metric, Number, OneOf};
-    pub use fm_registry_at::{add_at, add_subsystem_at};
-    pub use fm_root::Root;
+    pub use fm_root::{ByTexts, Constant, Metric, Number, OneOf, Root, add_at, add_subsystem_at};
 }

@@ -1,15 +1,15 @@
 //! Families by texts that a root makes and registers, a line each.
 ghost use Rattle.std.specs.Prelude.{◌≡◌, None, Some};
 ghost use Rattle.fm_registry.specs.Named.{named_metric};
-ghost use Rattle.fm_registry_at.specs.Roots.{Makes};
-ghost use Rattle.fm_metric_kinds.specs.declared.by_texts.ByTexts.TheVariants.{Counters, FixedCounters, Gauges, FixedGauges, Histograms, GaugeHistograms};
-ghost use Rattle.fm_metric_kinds.specs.declared.Metric.TheVariants.{ByTexts};
+ghost use Rattle.fm_root.specs.Roots.{Makes};
+ghost use Rattle.fm_root.specs.declared.kinds.by_texts.ByTexts.TheVariants.{Counters, FixedCounters, Gauges, FixedGauges, Histograms, GaugeHistograms};
+ghost use Rattle.fm_root.specs.declared.kinds.Metric.TheVariants.{ByTexts};
 
 use super::Root;
+use crate::kinds::Metric;
 use fm_encoder::EncodeMetric;
 use fm_family::TextFamily;
 use fm_histogram::{GaugeHistogram, Histogram};
-use fm_metric_kinds::Metric;
 use fm_metrics::counter::Counter;
 use fm_metrics::gauge::Gauge;
 use fm_raw::{Fixed, TryDefault, Unit};

@@ -1,14 +1,14 @@
 //! Metrics that a root makes and registers, a line each.
 ghost use Rattle.std.specs.Prelude.{◌≡◌, None, Some};
 ghost use Rattle.fm_registry.specs.Named.{named_metric};
-ghost use Rattle.fm_registry_at.specs.Roots.{Makes};
-ghost use Rattle.fm_metric_kinds.specs.declared.number.Number.TheVariants as number;
-ghost use Rattle.fm_metric_kinds.specs.declared.Metric.TheVariants.{Number, Histogram, GaugeHistogram};
+ghost use Rattle.fm_root.specs.Roots.{Makes};
+ghost use Rattle.fm_root.specs.declared.kinds.number.Number.TheVariants as number;
+ghost use Rattle.fm_root.specs.declared.kinds.Metric.TheVariants.{Number, Histogram, GaugeHistogram};
 
 use super::Root;
+use crate::kinds::Metric;
 use fm_encoder::EncodeMetric;
 use fm_histogram::{GaugeHistogram, Histogram};
-use fm_metric_kinds::Metric;
 use fm_metrics::counter::Counter;
 use fm_metrics::gauge::Gauge;
 use fm_raw::{Fixed, TryDefault, Unit};

@@ -1,5 +1,5 @@
 use Rattle.std.proofs.Common.{inr, refl}
-use Rattle.fm_metric_kinds.specs.declared.Metric.TheVariants.{Own}
+use Rattle.fm_root.specs.declared.kinds.Metric.TheVariants.{Own}
 use Rattle.fm_root.proofs.root.Root.add_own.Goals as goal
 
 pub returns : goal.returns

@@ -1,0 +1,219 @@
+-- One metric more in a collection.
+use Rattle.std.proofs.Common.{◌≡◌, ◌≢◌, ℕ, ◌<◌, ◌≤◌, ◌+◌, zero, suc, List, [], ◌∷◌, ◌++◌, map, Option, None, Some, Result, Ok, Err, MatchResult, IfOk, IfErr, ◌⊎◌, Bor, length, get_or, slice_get, take, inl, inr, refl, sym, ap, subst, ◌∙◌, append_assoc, append-nil, arith, true≢false, is_some}
+use Rattle.std.specs.List.{AllByRecursion}
+use Rattle.std.specs.Option.{option_map}
+use Rattle.std.proofs.lemmas.List.{take_more, map-append}
+use Rattle.std.proofs.lemmas.Grind.{flat_map-append}
+use Rattle.std.proofs.lemmas.Option.{get_or_from_slice_get, slice_get_within, slice_get_cases}
+use Rattle.fm_grammar.specs.Names.{AllDifferent}
+use Rattle.fm_grammar.specs.Exposition.{Text, Exposition}
+use Rattle.fm_grammar.specs.Reading.{IsNewName}
+use Rattle.fm_grammar.proofs.Runs.{all_append}
+use Rattle.fm_encode_error.specs.declared.EncodeError.{EncodeError}
+use Rattle.fm_encode_error.specs.declared.EncodeError.TheVariants.{Memory}
+use Rattle.fm_exposition.specs.Written.{IsWritersFault}
+use Rattle.fm_registry_model.specs.History.{History}
+use Rattle.fm_registry_model.specs.Registration.{Registration}
+use Rattle.fm_registry_model.specs.Tree.{Facts, Tree, Reads}
+use Rattle.fm_registry_model.specs.Listing.{Listed, listed_name, listed_with, own_metrics, IsListable, order}
+use Rattle.fm_registry_model.proofs.NameLemmas.{printed_names-different}
+use Rattle.fm_encoder.specs.Points.{Member}
+use Rattle.fm_labels.specs.Refusals.{result_of}
+use Rattle.fm_encoder.proofs.FaultLemmas.{MetricHasFault-not_writing}
+use Rattle.fm_registry.specs.Seen.{listed_in}
+use Rattle.fm_registry.proofs.ListingLemmas.{listed_in-push}
+use Rattle.fm_core.specs.Families.{Heading, FaultUnder}
+use Rattle.fm_core.specs.Admits.{Admits, AdmitsNext, FaultOf, Fault}
+use Rattle.fm_core.specs.inside.Documents.{AddsFamilies}
+
+all_left : {A : Type 0} (P : A → Type 0) (xs ys : List A) → AllByRecursion P (xs ++ ys) → AllByRecursion P xs
+all_left P [] ys h = tt
+all_left P (x ∷ xs) ys h = (h.0, all_left P xs ys h.1)
+
+all_right : {A : Type 0} (P : A → Type 0) (xs ys : List A) → AllByRecursion P (xs ++ ys) → AllByRecursion P ys
+all_right P [] ys h = h
+all_right P (x ∷ xs) ys h = all_right P xs ys h.1
+
+-- names that all differ, without the last ones
+differ_left : (xs ys : List Text) → AllDifferent (xs ++ ys) → AllDifferent xs
+differ_left [] ys h = tt
+differ_left (x ∷ xs) ys h = (all_left _ xs ys h.0, differ_left xs ys h.1)
+
+-- if all names differ, each is new to those before it
+before_next : (names : List Text) (n : Text) (rest : List Text) → AllDifferent (names ++ n ∷ rest) → AllByRecursion (λ m. m ≢ n) names
+before_next [] n rest h = tt
+before_next (m ∷ names) n rest h = ((λ same. at names h.0 (sym same)), before_next names n rest h.1)
+  where
+    at : (ms : List Text) → AllByRecursion (λ other. other ≢ m) (ms ++ n ∷ rest) → n ≢ m
+    at [] k = k.0
+    at (x ∷ ms) k = at ms k.1
+
+-- the list before an element, and after it
+split_at : {A : Type 0} (xs : List A) (i : ℕ) (x : A) → i < length xs → x ≡ get_or xs i x → (rest : List A) × (xs ≡ take i xs ++ x ∷ rest)
+split_at [] i x within is = absurd (omega arith)
+split_at (y ∷ xs) zero x within is = (xs, ap (λ z. z ∷ xs) (sym is))
+split_at (y ∷ xs) (suc i) x within is = let split = split_at xs i x (omega arith) is in (split.0, ap (λ zs. y ∷ zs) split.1)
+
+-- what holds of all elements holds of one
+pub all_at : {A : Type 0} (P : A → Type 0) (xs : List A) (i : ℕ) (x : A) → slice_get xs i ≡ Some x → AllByRecursion P xs → P x
+all_at P xs i x at all =
+    let split = split_at xs i x (slice_get_within xs i x at) (sym (get_or_from_slice_get xs i x x at)) in
+    (all_right P (take i xs) (x ∷ split.0) (subst (AllByRecursion P) split.1 all)).0
+
+-- one element more
+pub take_at : {A : Type 0} (xs : List A) (i : ℕ) (x : A) → slice_get xs i ≡ Some x → take (i + 1) xs ≡ take i xs ++ x ∷ []
+take_at xs i x at = take_more xs i x (slice_get_within xs i x at) ∙ ap (λ y. take i xs ++ y ∷ []) (get_or_from_slice_get xs i x x at)
+
+-- a list has no element at an index past its end
+pub none_past : {A B : Type 0} (f : A → B) (xs : List B) (i : ℕ) (o : Option A) → option_map f o ≡ slice_get xs i → ((x : A) → o ≢ Some x) → length xs ≤ i
+none_past f xs i None is none = elim (slice_get_cases xs i).1 [
+  | inl (x, within, some, same) ↦ absurd (true≢false (sym (ap is_some (is ∙ some))))
+  | inr (past, empty) ↦ past
+]
+none_past f xs i (Some x) is none = absurd (none x refl)
+
+module _ {M : Type 0} (Offers : M → Option ℕ → List Member → Type 0) (Stamps : M → Option ℕ → Type 0) (Empty : M → Type 0) where
+  pub Admits-++ : (ls ms : List (Listed M)) (d e : Exposition) → Admits Offers Stamps Empty ls d → Admits Offers Stamps Empty ms e → Admits Offers Stamps Empty (ls ++ ms) (d ++ e)
+  Admits-++ [] ms d e h more = subst (λ (fs : Exposition). Admits Offers Stamps Empty ms (fs ++ e)) (sym h) more
+  Admits-++ (x ∷ ls) ms d e (inl h) more = inl (h.0, Admits-++ ls ms d e h.1 more)
+  Admits-++ (x ∷ ls) ms d e (inr (f, rest, is, own, h)) more = inr (f, rest ++ e, ap (λ (fs : Exposition). fs ++ e) is, own, Admits-++ ls ms rest e h more)
+
+  AddsFamilies-one : (l : Listed M) (old new : Exposition) → AdmitsNext Offers Stamps Empty l old new → AddsFamilies Offers Stamps Empty (l ∷ []) old new
+  AddsFamilies-one l old new (inl (empty, same)) = ([], inl (empty, refl), same ∙ sym (append-nil old))
+  AddsFamilies-one l old new (inr (f, longer, own)) = (f ∷ [], inr (f, [], refl, own, refl), longer)
+
+  pub AddsFamilies-++ : (ls ms : List (Listed M)) (a b c : Exposition) → AddsFamilies Offers Stamps Empty ls a b → AddsFamilies Offers Stamps Empty ms b c → AddsFamilies Offers Stamps Empty (ls ++ ms) a c
+  AddsFamilies-++ ls ms a b c (d, first, is) (e, second, longer) =
+      (d ++ e, Admits-++ ls ms d e first second, longer ∙ ap (λ (fs : Exposition). fs ++ e) is ∙ append_assoc a d e)
+
+  -- the next metric of a list
+  pub AddsFamilies-next : (ls : List (Listed M)) (i : ℕ) (l : Listed M) (a b c : Exposition) → slice_get ls i ≡ Some l → AddsFamilies Offers Stamps Empty (take i ls) a b → AdmitsNext Offers Stamps Empty l b c → AddsFamilies Offers Stamps Empty (take (i + 1) ls) a c
+  AddsFamilies-next ls i l a b c at before next =
+      subst (λ ms. AddsFamilies Offers Stamps Empty ms a c) (sym (take_at ls i l at)) (AddsFamilies-++ (take i ls) (l ∷ []) a b c before (AddsFamilies-one l b c next))
+
+  -- what holds of each listed name holds of each family's
+  collected_all : (P : Text → Type 0) (ls : List (Listed M)) (e : Exposition) → AllByRecursion P (map listed_name ls) → Admits Offers Stamps Empty ls e → AllByRecursion P (map (λ family. family.name) e)
+  collected_all P [] e h admits = subst (λ (fs : Exposition). AllByRecursion P (map (λ family. family.name) fs)) (sym admits) tt
+  collected_all P (l ∷ ls) e h (inl left_out) = collected_all P ls e h.1 left_out.1
+  collected_all P (l ∷ ls) e h (inr (f, rest, is, own, admits)) = subst (λ (fs : Exposition). AllByRecursion P (map (λ family. family.name) fs)) (sym is) (subst P (sym own.0) h.0, collected_all P ls rest h.1 admits)
+
+  -- if all listed names differ, and differ from further ones, so do those of the families
+  pub families_differ : (ls : List (Listed M)) (e : Exposition) (further : List Text) → Admits Offers Stamps Empty ls e → AllDifferent (map listed_name ls ++ further) → AllDifferent (map (λ family. family.name) e ++ further)
+  families_differ [] e further admits differ = subst (λ (fs : Exposition). AllDifferent (map (λ family. family.name) fs ++ further)) (sym admits) differ
+  families_differ (l ∷ ls) e further (inl left_out) differ = families_differ ls e further left_out.1 differ.1
+  families_differ (l ∷ ls) e further (inr (f, rest, is, own, admits)) differ =
+      let Other : Text → Type 0 = λ other. other ≢ listed_name l in
+      let others : AllByRecursion Other (map (λ family. family.name) rest ++ further) =
+      all_append Other (map (λ family. family.name) rest) further (collected_all Other ls rest (all_left Other (map listed_name ls) further differ.0) admits) (all_right Other (map listed_name ls) further differ.0) in
+      subst (λ (fs : Exposition). AllDifferent (map (λ family. family.name) fs ++ further)) (sym is)
+      (subst (λ (n : Text). AllByRecursion (λ other. other ≢ n) (map (λ family. family.name) rest ++ further)) (sym own.0) others, families_differ ls rest further admits differ.1)
+
+  -- a name that no family has
+  is_new : (n : Text) (e : Exposition) → AllByRecursion (λ m. m ≢ n) (map (λ family. family.name) e) → IsNewName n e
+  is_new n [] h = tt
+  is_new n (f ∷ e) h = (h.0, is_new n e h.1)
+
+  -- if all names differ, the next one is that of no family so far
+  pub next_new : (ls : List (Listed M)) (i : ℕ) (l : Listed M) (old e : Exposition) → slice_get ls i ≡ Some l → AllDifferent (map (λ family. family.name) old ++ map listed_name ls) → AddsFamilies Offers Stamps Empty (take i ls) old e
+      → IsNewName (listed_name l) e
+  next_new ls i l old e at differ (added, admits, is) =
+      let split = split_at ls i l (slice_get_within ls i l at) (sym (get_or_from_slice_get ls i l l at)) in
+      let olds = map (λ family. family.name) old in
+      let befores = map listed_name (take i ls) in
+      let rest = map listed_name split.0 in
+      let Other : Text → Type 0 = λ m. m ≢ listed_name l in
+      let parts : olds ++ map listed_name ls ≡ (olds ++ befores) ++ listed_name l ∷ rest =
+      ap (λ (ms : List Text). olds ++ ms) (ap (map listed_name) split.1 ∙ map-append listed_name (take i ls) (l ∷ split.0)) ∙ sym (append_assoc olds befores (listed_name l ∷ rest)) in
+      let new : AllByRecursion Other (olds ++ befores) = before_next (olds ++ befores) (listed_name l) rest (subst AllDifferent parts differ) in
+      let all : AllByRecursion Other (olds ++ map (λ family. family.name) added) =
+      all_append Other olds (map (λ family. family.name) added) (all_left Other olds befores new) (collected_all Other (take i ls) added (all_right Other olds befores new) admits) in
+      is_new (listed_name l) e (subst (AllByRecursion Other) (sym (ap (map (λ family. family.name)) is ∙ map-append (λ family. family.name) old added)) all)
+
+module _ {M : Type 0} where
+  -- the metrics of the registries before one, its own, and the rest
+  registry_at : (registries : List (Bor (Tree M))) (i : ℕ) (r : Bor (Tree M)) → i < length registries → r ≡ get_or registries i r → (rest : List (Listed M)) × (listed_in registries ≡ listed_in (take i registries) ++ (own_metrics r.now.facts ++ rest))
+  registry_at registries i r within is =
+      let split = split_at registries i r within is in
+      (listed_in split.0, ap (λ (rs : List (Bor (Tree M))). listed_in rs) split.1 ∙ flat_map-append (λ (x : Bor (Tree M)). own_metrics x.now.facts) (take i registries) (r ∷ split.0))
+
+  all_labels : (facts : Facts M) (registrations : List (Registration M)) → AllByRecursion (λ (l : Listed M). l.labels ≡ facts.labels) (listed_with facts.namespace facts.labels registrations)
+  all_labels facts [] = tt
+  all_labels facts (r ∷ rs) = (refl, all_labels facts rs)
+
+  -- a registry's own metrics have its labels
+  pub labels_at : (facts : Facts M) (i : ℕ) (l : Listed M) → slice_get (own_metrics facts) i ≡ Some l → l.labels ≡ facts.labels
+  labels_at facts i l at = all_at (λ (m : Listed M). m.labels ≡ facts.labels) (own_metrics facts) i l at (all_labels facts facts.metrics)
+
+  -- one registry more
+  pub listed_in-next : (registries : List (Bor (Tree M))) (i : ℕ) (r : Bor (Tree M)) → i < length registries → r ≡ get_or registries i r → listed_in (take (i + 1) registries) ≡ listed_in (take i registries) ++ own_metrics r.now.facts
+  listed_in-next registries i r within is =
+      let more : take (i + 1) registries ≡ take i registries ++ r ∷ [] = take_more registries i r within ∙ ap (λ (y : Bor (Tree M)). take i registries ++ y ∷ []) (sym is) in
+      ap (λ (rs : List (Bor (Tree M))). listed_in rs) more ∙ listed_in-push (take i registries) r
+
+  -- the metrics of one registry are listable if all are
+  pub IsListable-in : (registries : List (Bor (Tree M))) (i : ℕ) (r : Bor (Tree M)) → i < length registries → r ≡ get_or registries i r → AllByRecursion IsListable (listed_in registries) → AllByRecursion IsListable (own_metrics r.now.facts)
+  IsListable-in registries i r within is all =
+      let split = registry_at registries i r within is in
+      all_left IsListable (own_metrics r.now.facts) split.0 (all_right IsListable (listed_in (take i registries)) (own_metrics r.now.facts ++ split.0) (subst (AllByRecursion IsListable) split.1 all))
+
+  -- the names of the next registry's metrics differ, and no family so far has one of them
+  pub next_names : (Offers : M → Option ℕ → List Member → Type 0) (Stamps : M → Option ℕ → Type 0) (Empty : M → Type 0) (registries : List (Bor (Tree M))) (i : ℕ) (r : Bor (Tree M)) (e : Exposition) → i < length registries → r ≡ get_or registries i r
+      → AllDifferent (map listed_name (listed_in registries)) → Admits Offers Stamps Empty (listed_in (take i registries)) e → AllDifferent (map (λ family. family.name) e ++ map listed_name (own_metrics r.now.facts))
+  next_names Offers Stamps Empty registries i r e within is differ admits =
+      let split = registry_at registries i r within is in
+      let befores = map listed_name (listed_in (take i registries)) in
+      let own = map listed_name (own_metrics r.now.facts) in
+      let rest = map listed_name split.0 in
+      let parts : map listed_name (listed_in registries) ≡ (befores ++ own) ++ rest =
+      ap (map listed_name) split.1 ∙ map-append listed_name (listed_in (take i registries)) (own_metrics r.now.facts ++ split.0)
+      ∙ ap (λ (ms : List Text). befores ++ ms) (map-append listed_name (own_metrics r.now.facts) split.0) ∙ sym (append_assoc befores own rest) in
+      families_differ Offers Stamps Empty (listed_in (take i registries)) e own admits (differ_left (befores ++ own) rest (subst AllDifferent parts differ))
+
+module _ {M : Type 0} (k : EncodeError) (Offers : M → Option ℕ → List Member → Type 0) (Stamps : M → Option ℕ → Type 0) (MayFault : M → Type 0) where
+  Fault-left : (ls ms : List (Listed M)) → Fault k Offers Stamps MayFault ls → Fault k Offers Stamps MayFault (ls ++ ms)
+  Fault-left [] ms never = absurd never
+  Fault-left (l ∷ ls) ms (inl fault) = inl fault
+  Fault-left (l ∷ ls) ms (inr fault) = inr (Fault-left ls ms fault)
+
+  Fault-right : (ls ms : List (Listed M)) → Fault k Offers Stamps MayFault ms → Fault k Offers Stamps MayFault (ls ++ ms)
+  Fault-right [] ms fault = fault
+  Fault-right (l ∷ ls) ms fault = inr (Fault-right ls ms fault)
+
+  -- a fault in one metric of a list
+  pub Fault-at : (ls : List (Listed M)) (i : ℕ) (l : Listed M) → slice_get ls i ≡ Some l → FaultOf k Offers Stamps MayFault l → Fault k Offers Stamps MayFault ls
+  Fault-at ls i l at fault =
+      let split = split_at ls i l (slice_get_within ls i l at) (sym (get_or_from_slice_get ls i l l at)) in
+      subst (λ ms. Fault k Offers Stamps MayFault ms) (sym split.1) (Fault-right (take i ls) (l ∷ split.0) (inl fault))
+
+  -- a fault in a metric of one registry
+  pub Fault-in : (registries : List (Bor (Tree M))) (i : ℕ) (r : Bor (Tree M)) → i < length registries → r ≡ get_or registries i r → Fault k Offers Stamps MayFault (own_metrics r.now.facts) → Fault k Offers Stamps MayFault (listed_in registries)
+  Fault-in registries i r within is fault =
+      let split = registry_at registries i r within is in
+      subst (λ ms. Fault k Offers Stamps MayFault ms) (sym split.1) (Fault-right (listed_in (take i registries)) (own_metrics r.now.facts ++ split.0) (Fault-left (own_metrics r.now.facts) split.0 fault))
+
+-- the names that a tree with a history lists differ
+pub names_differ : {M : Type 0} (t : Tree M) (b : History M) (ls : List (Listed M)) → Reads t b → ls ≡ order b → AllDifferent (map listed_name ls)
+names_differ t b ls reads is = subst (λ (ms : List (Listed _)). AllDifferent (map listed_name ms)) (sym is) (printed_names-different b reads.history)
+
+-- what holds of the kept refusal holds of the one that is returned
+refused_answer : (r : Result (Unit {0}) EncodeError) (refused : Option EncodeError) (P : EncodeError → Type 0) → r ≡ result_of refused → ((k : EncodeError) → refused ≡ Some k → P k) → IfErr r P
+refused_answer r None P is h = subst (λ s. IfErr s P) (sym is) tt
+refused_answer r (Some k) P is h = subst (λ s. IfErr s P) (sym is) (h k refl)
+
+pub refused_under : (Offers : Option ℕ → List Member → Type 0) (Stamps : Option ℕ → Type 0) (MayFault : Type 0) (above heading : Heading) (r : Result (Unit {0}) EncodeError) (refused : Option EncodeError) → above ≡ heading → r ≡ result_of refused
+    → ((k : EncodeError) → refused ≡ Some k → (k ≡ Memory) ⊎ FaultUnder Offers Stamps k MayFault above) → IfErr r (λ k. (k ≡ Memory) ⊎ FaultUnder Offers Stamps k MayFault heading)
+refused_under Offers Stamps MayFault above heading r refused same is faults =
+    refused_answer r refused (λ k. (k ≡ Memory) ⊎ FaultUnder Offers Stamps k MayFault heading) is (λ k e. subst (λ d. (k ≡ Memory) ⊎ FaultUnder Offers Stamps k MayFault d) same (faults k e))
+
+-- no refusal in collecting is the writer's
+pub refusal-not_writing : {M : Type 0} (k : EncodeError) (Offers : M → Option ℕ → List Member → Type 0) (Stamps : M → Option ℕ → Type 0) (MayFault : M → Type 0) (ls : List (Listed M)) → (k ≡ Memory) ⊎ Fault k Offers Stamps MayFault ls → ¬ (IsWritersFault k)
+refusal-not_writing k Offers Stamps MayFault ls (inl memory) writing = subst IsWritersFault memory writing
+refusal-not_writing k Offers Stamps MayFault [] (inr never) writing = absurd never
+refusal-not_writing k Offers Stamps MayFault (l ∷ ls) (inr (inl fault)) writing =
+    MetricHasFault-not_writing k (Offers l.registration.metric) (Stamps l.registration.metric) (MayFault l.registration.metric) (listed_name l) l.registration.metric_type l.labels fault writing
+refusal-not_writing k Offers Stamps MayFault (l ∷ ls) (inr (inr faults)) writing = refusal-not_writing k Offers Stamps MayFault ls (inr faults) writing
+
+-- what holds of the families holds of what a collection ends in
+pub if_ended : {A : Type 0} (r : Result A EncodeError) (families : A) (refused : Option EncodeError) (P : A → Type 0) → MatchResult r (λ e. (refused ≡ None) × (e ≡ families)) (λ k. refused ≡ Some k) → P families → IfOk r P
+if_ended (Ok e) families refused P h holds = subst P (sym h.1) holds
+if_ended (Err k) families refused P h holds = tt

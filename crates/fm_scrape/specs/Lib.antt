@@ -1,4 +1,0 @@
-pub mod Admits
-pub mod Encoded
-pub mod Families
-pub mod inside

@@ -1,4 +1,0 @@
--- What public contracts don't cite: views, stored forms, laws, and the words of private functions.
-pub mod Collecting
-pub mod Documents
-pub mod Offered
