@@ -8,11 +8,13 @@ A case has a name, the program's words (`args`) and its input (`stdin`), and wha
 makes, whose words, input and output are the files `args`, `stdin`, `stdout` and `status` beside cases.toml, is a case too, named `beside`. Then, in
 each case with status 0, each request for memory is refused, one a run, by scripts/memory.c, which is loaded before the C library: each time the
 program ends with status 1, writes nothing to standard output, and one line to standard error, which is one of the lines that `no_memory` at the
-file's head matches.
+file's head matches. Where that is left out, the program goes on, and no request is refused. With `scripts = [FOLDER..]` each NAME.script of these
+folders is a case too: the input, beside what is then written, NAME.printed.
 
 It runs the programs as they were proved and built (`rt ci` and `rt run` leave crates/NAME/out/NAME); PROGRAMS=FOLDER takes FOLDER/NAME instead. Prints
 a line for each program and for each failure, and last 'N cases passed, M failed'; the status is 0 if M is 0.
 """
+import glob
 import os
 import re
 import subprocess
@@ -58,16 +60,29 @@ def beside(crate):
     told = {}
     for name in ("args", "stdin", "stdout", "status"):
         if os.path.isfile(f"{TOP}/crates/{crate}/{name}"):
-            with open(f"{TOP}/crates/{crate}/{name}", encoding="utf-8", newline="") as file:
-                told[name] = file.read()
+            told[name] = text_at(f"{TOP}/crates/{crate}/{name}")
     return Case("beside", {**told, "args": told.get("args", "").splitlines(), "status": int(told.get("status", "0"))})
 
 
+def text_at(path):
+    with open(path, encoding="utf-8", newline="") as file:
+        return file.read()
+
+
+def scripts_in(folder):
+    """The scripts of a folder as cases."""
+    for path in sorted(glob.glob(f"{TOP}/{folder}/*.script")):
+        front = path.removesuffix(".script")
+        yield Case(os.path.basename(front), {"stdin": text_at(path), "stdout": text_at(f"{front}.printed")})
+
+
 def cases_of(crate):
-    """A crate's cases, and what a want of memory writes to standard error."""
+    """A crate's cases, and what a want of memory writes to standard error, if it ends the program."""
     with open(f"{TOP}/crates/{crate}/cases.toml", "rb") as file:
         told = tomllib.load(file)
-    return [beside(crate), *(Case(name, it) for name, it in told.items() if name != "no_memory")], re.compile(told["no_memory"].encode())
+    no_memory, folders = told.pop("no_memory", None), told.pop("scripts", [])
+    cases = [beside(crate), *(Case(name, it) for name, it in told.items()), *(it for folder in folders for it in scripts_in(folder))]
+    return cases, no_memory and re.compile(no_memory.encode())
 
 
 def crates_with_cases():
@@ -115,14 +130,15 @@ def tried(crate, counter, scratch, pool):
         if answer != (case.status, case.stdout, case.stderr):
             print(f"FAILED: {crate}, {case.name}: {answer}", flush=True)
             wrong.add(case.name)
-    for case in (it for it in cases if it.status == 0 and it.name not in wrong):
+    for case in (it for it in cases if no_memory and it.status == 0 and it.name not in wrong):
         count = requests_of(program, case, counter, scratch)
         said = [it for it in pool.map(lambda request: refused(program, case, no_memory, counter, request), range(1, count + 1)) if it]
         if said or not count:
             print("\n".join(said) or f"FAILED: {crate}, {case.name} asks for no memory", flush=True)
             wrong.add(case.name)
         requests += count
-    print(f"{crate}: {len(cases)} cases, and {requests} requests for memory refused in turn{', FAILED' if wrong else ''}", flush=True)
+    refusals = f", and {requests} requests for memory refused in turn" if no_memory else ""
+    print(f"{crate}: {len(cases)} cases{refusals}{', FAILED' if wrong else ''}", flush=True)
     return len(cases), len(wrong)
 
 

@@ -13,7 +13,7 @@
 set -u
 
 top=$(cd "$(dirname "$0")/.." && pwd) || exit 2
-crates=$top folders=("$top/bench/replay/scripts" "$top/bench/replay/scripts/ours" "$top/bench/replay/scripts/refused_memory")
+crates=$top folders=("$top/bench/replay/scripts" "$top"/bench/replay/scripts/{ours,wide,refused_memory})
 while [[ ${1:-} == --* ]]; do
     case $1 in
         --crates) crates=$(cd "$2" && pwd) || exit 2 ;;

@@ -1,5 +1,5 @@
 # For the scripts beside it, which read it: lays the crates and those of bench/ in a scratch folder, so that the gate doesn't prove the latter
-# each time.
+# each time. Files of bench/ lie over those of a crate with the same name.
 #
 #   lay_out TOP FOLDER [BENCH]        BENCH is the folder bench/ of TOP, or another
 
@@ -7,17 +7,18 @@ lay_out() {
     local top=$1 folder=$2 bench=${3:-$1/bench} crate name file
     mkdir -p "$folder/crates"
     cp "$top/HANDLES" "$folder/"
-    # The crates, and the bench's own, whose files get their true endings. What was built there before stays.
+    # What was built there before stays.
+    find "$folder/crates" -mindepth 2 -maxdepth 2 ! -name out -exec rm -rf {} +
+    # The crates, and the bench's own, whose files get their true endings.
     for crate in "$top"/crates/*/ "$bench"/*/; do
         name=$(basename "$crate")
         case $name in fm_tests_* | expose | expose_io | first_use | global_use | worker_pool | peers) continue ;; esac
         mkdir -p "$folder/crates/$name"
-        find "$folder/crates/$name" -mindepth 1 -maxdepth 1 ! -name out -exec rm -rf {} +
         (cd "$crate" && tar -c --exclude=./out .) | tar -x -C "$folder/crates/$name"
     done
     find "$folder/crates" -path '*/out' -prune -o -name '*.in' -print | while read -r file; do
         mv "$file" "${file%.in}"
     done
-    grep -vE '^(fm_test|expose|first_use|global_use|worker_pool)' "$top/crates.txt" | cat - "$bench/crates.in" >"$folder/crates.txt"
+    grep -vE '^(fm_test|expose|first_use|global_use|worker_pool|replay)' "$top/crates.txt" | cat - "$bench/crates.in" >"$folder/crates.txt"
     [[ -d $folder/.git ]] || git -C "$folder" init -q
 }

@@ -3,9 +3,8 @@ ghost use Rattle.std.specs.Prelude.{[], ◌∷◌, true, false, codes, decimal, 
 ghost use Rattle.std.specs.Fmt.{signed_decimal};
 ghost use Rattle.fastmetrics.specs.Numbers.{fixed_text};
 ghost use Rattle.fastmetrics.specs.Labels.{ValuePiece};
-ghost use Rattle.replay.specs.declared.label.Value.TheVariants.{Text, Truth, Whole, Signed, Decimal, Typed, Absent, Nested};
+ghost use Rattle.replay.specs.declared.label.Value.TheVariants.{Text, Truth, Whole, Signed, Decimal, Absent, Nested};
 
-use crate::integer::{Integer, integer_of};
 use crate::number::{fixed, whole};
 use crate::stop::Stop;
 use fastmetrics::encoder::{EncodeError, EncodeLabelValue, LabelEncoder};
@@ -25,8 +24,6 @@ pub enum Value {
     Signed(i64),
     /// A number with a fraction.
     Decimal(Fixed),
-    /// A whole number of a type that is named.
-    Typed(Integer),
     /// No value.
     Absent,
     /// A value that has no value in it.
@@ -40,7 +37,6 @@ impl EncodeLabelValue for Value {
       | Whole number ↦ ValuePiece (decimal number) ∷ []
       | Signed number ↦ ValuePiece (signed_decimal number) ∷ []
       | Decimal number ↦ ValuePiece (fixed_text number) ∷ []
-      | Typed integer ↦ ⟦<Integer as EncodeLabelValue>⟧.pieces integer
       | Absent ↦ []
       | Nested ↦ []
     ] };
@@ -51,7 +47,6 @@ impl EncodeLabelValue for Value {
       | Whole number ↦ false
       | Signed number ↦ false
       | Decimal number ↦ false
-      | Typed integer ↦ false
       | Absent ↦ true
       | Nested ↦ true
     ] };
@@ -63,7 +58,6 @@ impl EncodeLabelValue for Value {
             Value::Whole(number) => number.encode(encoder),
             Value::Signed(number) => number.encode(encoder),
             Value::Decimal(number) => number.encode(encoder),
-            Value::Typed(integer) => integer.encode(encoder),
             Value::Absent => None::<bool>.encode(encoder),
             Value::Nested => Some(None::<bool>).encode(encoder),
         }
@@ -83,22 +77,14 @@ pub type Labels = Vec<(String, Value)>;
 
 /// The value that stands bare behind a label's `=`.
 pub fn bare_value(bare: &str) -> Result<Value, Stop> {
-    if bare == "true" {
-        Ok(Value::Truth(true))
-    } else if bare == "false" {
-        Ok(Value::Truth(false))
-    } else if bare == "none" {
-        Ok(Value::Absent)
-    } else if bare == "somenone" {
-        Ok(Value::Nested)
-    } else if let Some((kind, digits)) = bare.split_once(':') {
-        Ok(Value::Typed(integer_of(kind, digits)?))
-    } else if bare.contains('.') {
-        Ok(Value::Decimal(fixed(bare)?))
-    } else if bare.starts_with('-') {
-        Ok(Value::Signed(whole(bare)?))
-    } else {
-        Ok(Value::Whole(whole(bare)?))
+    match bare {
+        "true" => Ok(Value::Truth(true)),
+        "false" => Ok(Value::Truth(false)),
+        "none" => Ok(Value::Absent),
+        "somenone" => Ok(Value::Nested),
+        _ if bare.contains('.') => fixed(bare).map(Value::Decimal),
+        _ if bare.starts_with('-') => whole(bare).map(Value::Signed),
+        _ => whole(bare).map(Value::Whole),
     }
 }
 

@@ -66,6 +66,7 @@ impl EncodeMetric for Many {
 
     ghost may_fault = { λ _. ⊤ };
 
+    #[tactic(auto, using(crate::proofs::AnyMembers::any_members))]
     fn encode(&self, encoder: &mut MetricEncoder) -> Result<(), EncodeError> {
         for member in &self.members {
             encoder.encode(&member.0, &ConstGauge::new(member.1))?;
@@ -109,6 +110,7 @@ impl EncodeMetric for Point {
 
     ghost may_fault = { λ _. ⊤ };
 
+    #[tactic(auto, using(crate::proofs::AnyMembers::any_members))]
     fn encode(&self, encoder: &mut MetricEncoder) -> Result<(), EncodeError> {
         match &self.shape {
             Shape::Gauge(value) => encoder.encode_gauge(value),

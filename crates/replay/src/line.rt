@@ -31,33 +31,6 @@ impl Line {
         Ok(line)
     }
 
-    /// Takes the first word away.
-    pub fn drop_first(&mut self, alloc: Global) -> Result<(), Stop> {
-        let given = std::mem::replace(&mut self.words, Vec::new(alloc));
-        for word in given.into_iter().skip(1) {
-            self.words.push(word)?;
-        }
-        Ok(())
-    }
-
-    /// Makes the line of one metric, without its name and help, one that registers it as `t` with the help `H`.
-    pub fn name_it(&mut self, alloc: Global) -> Result<(), Stop> {
-        let given = std::mem::replace(&mut self.words, Vec::new(alloc));
-        let mut place: usize = 0;
-        for word in given {
-            if place != 0 {
-                self.words.push(word)?;
-            }
-            if place == 1 {
-                for text in ["t", "root", "t", "H", "-"] {
-                    self.words.push(Word::of(alloc, text)?)?;
-                }
-            }
-            place = place.saturating_add(1);
-        }
-        Ok(())
-    }
-
     // Takes a word: a label or an option has a `=`.
     fn take(&mut self, alloc: Global, word: Word) -> Result<(), Stop> {
         match word.bare.as_str().split_once('=') {
@@ -101,12 +74,7 @@ impl Line {
 
     /// Whether it registers a family.
     pub fn is_family(&self) -> bool {
-        self.word(0) == "family" || self.is_by_texts()
-    }
-
-    /// Whether it registers a family by texts.
-    pub fn is_by_texts(&self) -> bool {
-        self.word(0) == "texts"
+        self.word(0) == "family"
     }
 
     /// The kind of the metric that it registers.

@@ -10,7 +10,8 @@ use fastmetrics::metrics::counter::ConstCounter;
 use fastmetrics::metrics::gauge::ConstGauge;
 use fastmetrics::metrics::info::Info;
 use fastmetrics::metrics::unknown::Unknown;
-use fastmetrics::raw::{Fixed, MetricType};
+use fastmetrics::raw::{Fixed, MetricType, UnknownValue};
+use std::str::FromStr;
 use std::time::Duration;
 
 /// A metric that never changes.
@@ -33,68 +34,69 @@ pub enum Constant {
     Info(Info<Labels>),
 }
 
-// A counter with this total, and with a time of creation where there is one.
-fn counter<N>(total: N, created: Option<Duration>) -> ConstCounter<N> {
-    match created {
-        Some(created) => ConstCounter::with_created(total, created),
-        None => ConstCounter::new(total),
+// The counter of a line, with a time of creation where there is one.
+fn counter<N: FromStr + Drop>(line: &Line) -> Result<ConstCounter<N>, Stop>
+where
+    N::Err: Drop,
+{
+    let total = whole(line.argument(0)?)?;
+    counter_of(line, total)
+}
+
+// The counter with this total, and with a time of creation where a line has one.
+fn counter_of<N: Drop>(line: &Line, total: N) -> Result<ConstCounter<N>, Stop> {
+    match line.time("created")? {
+        Some(created) => Ok(ConstCounter::with_created(total, created)),
+        None => Ok(ConstCounter::new(total)),
     }
 }
 
-/// The counter of a line's kind; None for other kinds.
-pub fn counter_of(line: &Line) -> Result<Option<Constant>, Stop> {
-    let kind = line.kind();
-    let value = line.argument(0)?;
-    let created = line.time("created")?;
-    Ok(Some(if kind == "const_counter" {
-        Constant::Counter(counter(whole::<u64>(value)?, created))
-    } else if kind == "const_counter_f64" {
-        Constant::FixedCounter(counter(fixed(value)?, created))
-    } else if kind == "const_counter_u32" {
-        Constant::CounterU32(counter(whole::<u32>(value)?, created))
-    } else if kind == "const_counter_usize" {
-        Constant::CounterUsize(counter(whole::<usize>(value)?, created))
-    } else {
-        return Ok(None);
-    }))
+// The gauge of a line.
+fn gauge<N: FromStr>(line: &Line) -> Result<ConstGauge<N>, Stop>
+where
+    N::Err: Drop,
+{
+    Ok(ConstGauge::new(whole(line.argument(0)?)?))
 }
 
-/// The gauge of a line's kind; None for other kinds.
-pub fn gauge_of(line: &Line) -> Result<Option<Constant>, Stop> {
-    let kind = line.kind();
-    let value = line.argument(0)?;
-    Ok(Some(if kind == "const_gauge" {
-        Constant::Gauge(ConstGauge::new(whole::<i64>(value)?))
-    } else if kind == "const_gauge_f64" {
-        Constant::FixedGauge(ConstGauge::new(fixed(value)?))
-    } else if kind == "const_gauge_i32" {
-        Constant::GaugeI32(ConstGauge::new(whole::<i32>(value)?))
-    } else if kind == "const_gauge_isize" {
-        Constant::GaugeIsize(ConstGauge::new(whole::<isize>(value)?))
-    } else if kind == "const_gauge_u32" {
-        Constant::GaugeU32(ConstGauge::new(whole::<u32>(value)?))
-    } else if kind == "const_gauge_u64" {
-        Constant::GaugeU64(ConstGauge::new(whole::<u64>(value)?))
-    } else {
-        return Ok(None);
-    }))
+// The metric of no known type of a line.
+fn unknown<N: FromStr + UnknownValue>(line: &Line) -> Result<Unknown<N>, Stop>
+where
+    N::Err: Drop,
+{
+    Ok(Unknown::new(whole(line.argument(0)?)?))
 }
 
-/// The metric of no known type of a line's kind; None for other kinds.
-pub fn unknown_of(line: &Line) -> Result<Option<Constant>, Stop> {
-    let kind = line.kind();
-    let value = line.argument(0)?;
-    Ok(Some(if kind == "unknown" {
-        Constant::Unknown(Unknown::new(whole::<i64>(value)?))
-    } else if kind == "unknown_f64" {
-        Constant::FixedUnknown(Unknown::new(fixed(value)?))
-    } else if kind == "unknown_i32" {
-        Constant::UnknownI32(Unknown::new(whole::<i32>(value)?))
-    } else if kind == "unknown_u32" {
-        Constant::UnknownU32(Unknown::new(whole::<u32>(value)?))
-    } else {
-        return Ok(None);
-    }))
+// The number with a fraction of a line.
+fn fixed_of(line: &Line) -> Result<Fixed, Stop> {
+    fixed(line.argument(0)?)
+}
+
+/// Whether a line's kind is one of those here.
+pub fn is_constant(kind: &str) -> bool {
+    kind == "info" || kind.starts_with("const_") || kind.starts_with("unknown")
+}
+
+/// The metric of a line's kind.
+pub fn constant_of(line: &Line) -> Result<Constant, Stop> {
+    match line.kind() {
+        "info" => Ok(Constant::Info(Info::new(line.labels.clone()?))),
+        "const_counter" => counter(line).map(Constant::Counter),
+        "const_counter_f64" => counter_of(line, fixed_of(line)?).map(Constant::FixedCounter),
+        "const_counter_u32" => counter(line).map(Constant::CounterU32),
+        "const_counter_usize" => counter(line).map(Constant::CounterUsize),
+        "const_gauge" => gauge(line).map(Constant::Gauge),
+        "const_gauge_f64" => Ok(Constant::FixedGauge(ConstGauge::new(fixed_of(line)?))),
+        "const_gauge_i32" => gauge(line).map(Constant::GaugeI32),
+        "const_gauge_isize" => gauge(line).map(Constant::GaugeIsize),
+        "const_gauge_u32" => gauge(line).map(Constant::GaugeU32),
+        "const_gauge_u64" => gauge(line).map(Constant::GaugeU64),
+        "unknown" => unknown(line).map(Constant::Unknown),
+        "unknown_f64" => Ok(Constant::FixedUnknown(Unknown::new(fixed_of(line)?))),
+        "unknown_i32" => unknown(line).map(Constant::UnknownI32),
+        "unknown_u32" => unknown(line).map(Constant::UnknownU32),
+        _ => Err(Stop::Mistake("no such kind")),
+    }
 }
 
 impl EncodeMetric for Constant {
@@ -104,6 +106,7 @@ impl EncodeMetric for Constant {
 
     ghost may_fault = { λ _. ⊤ };
 
+    #[tactic(auto, using(crate::proofs::AnyMembers::any_members))]
     fn encode(&self, encoder: &mut MetricEncoder) -> Result<(), EncodeError> {
         match self {
             Constant::Counter(metric) => metric.encode(encoder),

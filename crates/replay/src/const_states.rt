@@ -2,11 +2,12 @@
 ghost use Rattle.std.specs.Prelude.{⊤};
 
 use crate::line::Line;
+use crate::state_sets::{StatesKind, states_kind_of};
 use crate::states::{Named, OnOff, Progress, UpDown};
 use crate::stop::Stop;
 use fastmetrics::encoder::{EncodeError, EncodeMetric, MetricEncoder};
-use fastmetrics::metrics::state_set::ConstStateSet;
-use fastmetrics::raw::MetricType;
+use fastmetrics::metrics::state_set::{ConstStateSet, StateSetValue};
+use fastmetrics::raw::{MetricError, MetricType};
 use std::alloc::Global;
 use std::time::Duration;
 
@@ -27,19 +28,26 @@ impl Drop for ConstStates {
     }
 }
 
+// The state set with this state.
+fn states<T: StateSetValue + Named + 'static>(
+    alloc: Global,
+    state: &str,
+) -> Result<ConstStateSet<T>, MetricError> {
+    ConstStateSet::new(alloc, T::named(state))
+}
+
 /// The state set of a line; None if no type has its states.
 pub fn const_states_of(alloc: Global, line: &Line) -> Result<Option<ConstStates>, Stop> {
-    let list = line.argument(0)?;
     let state = line.argument(1)?;
-    Ok(Some(if list == OnOff::LIST {
-        ConstStates::OnOff(ConstStateSet::new(alloc, OnOff::named(state))?)
-    } else if list == UpDown::LIST {
-        ConstStates::UpDown(ConstStateSet::new(alloc, UpDown::named(state))?)
-    } else if list == Progress::LIST {
-        ConstStates::Progress(ConstStateSet::new(alloc, Progress::named(state))?)
-    } else {
+    let Some(kind) = states_kind_of(line.argument(0)?) else {
         return Ok(None);
-    }))
+    };
+    let made = match kind {
+        StatesKind::OnOff => states(alloc, state).map(ConstStates::OnOff),
+        StatesKind::UpDown => states(alloc, state).map(ConstStates::UpDown),
+        StatesKind::Progress => states(alloc, state).map(ConstStates::Progress),
+    };
+    Ok(Some(made?))
 }
 
 impl EncodeMetric for ConstStates {
@@ -49,6 +57,7 @@ impl EncodeMetric for ConstStates {
 
     ghost may_fault = { λ _. ⊤ };
 
+    #[tactic(auto, using(crate::proofs::AnyMembers::any_members))]
     fn encode(&self, encoder: &mut MetricEncoder) -> Result<(), EncodeError> {
         match self {
             ConstStates::OnOff(metric) => metric.encode(encoder),

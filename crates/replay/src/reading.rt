@@ -14,24 +14,24 @@ fn joined(alloc: Global, line: &Line) -> Result<String, Stop> {
     Ok(text)
 }
 
-/// Reads a document, and writes it again, which must give the same. Returns the number of its families.
-pub fn read_again(alloc: Global, line: &Line) -> Result<usize, Stop> {
+/// Reads a document, and writes it again, which must give the same. Returns the number of its families, as a text.
+pub fn read_again(alloc: Global, line: &Line) -> Result<String, Stop> {
     let text = joined(alloc, line)?;
     match read(alloc, text.as_str()) {
         Ok(exposition) => {
             rewrite(alloc, text.as_str(), &exposition)?;
-            Ok(exposition.families().len())
+            let count = exposition.families().len();
+            Ok(format!(in alloc; "{count}")?)
         }
         Err(error) => Err(Stop::Read(error)),
     }
 }
 
-/// Reads each beginning of a document, which must be refused at the line where it ends. Returns the number of its bytes.
-pub fn read_beginnings(alloc: Global, line: &Line) -> Result<usize, Stop> {
-    let text = joined(alloc, line)?;
+// Reads each beginning of a document, which must be refused at the line where it ends.
+fn refuse_beginnings(alloc: Global, text: &str) -> Result<(), Stop> {
     let mut number: usize = 1;
-    for (place, byte) in text.as_str().bytes().enumerate() {
-        if let Some(front) = text.as_str().get(..place) {
+    for (place, byte) in text.bytes().enumerate() {
+        if let Some(front) = text.get(..place) {
             match read(alloc, front) {
                 Err(ReadError::NotADocument { line }) if line == number => {}
                 Err(ReadError::Memory) => return Err(Stop::Memory),
@@ -42,5 +42,13 @@ pub fn read_beginnings(alloc: Global, line: &Line) -> Result<usize, Stop> {
             number = number.saturating_add(1);
         }
     }
-    Ok(text.len())
+    Ok(())
+}
+
+/// Reads each beginning of a document, which must be refused at the line where it ends. Returns the number of its bytes, as a text.
+pub fn read_beginnings(alloc: Global, line: &Line) -> Result<String, Stop> {
+    let text = joined(alloc, line)?;
+    refuse_beginnings(alloc, text.as_str())?;
+    let bytes = text.len();
+    Ok(format!(in alloc; "{bytes}")?)
 }

@@ -1,7 +1,7 @@
 //! Where the registries of a script are.
+use crate::held::Held;
 use crate::label::constant_labels;
 use crate::line::Line;
-use crate::live::Live;
 use crate::stop::Stop;
 use fastmetrics::encoder::EncodeMetric;
 use fastmetrics::registry::{Registry, RegistryBuilder, Root};
@@ -73,7 +73,7 @@ pub fn go<H: Wait + Copy + Send + Sync + Drop, X: EncodeMetric>(
 }
 
 /// The metric with this id.
-pub fn find<'a, H: Wait>(metrics: &'a [(String, Live<H>)], id: &str) -> Result<&'a Live<H>, Stop> {
+pub fn find<'a, H: Wait>(metrics: &'a [(String, Held<H>)], id: &str) -> Result<&'a Held<H>, Stop> {
     for (name, metric) in metrics {
         if name.as_str() == id {
             return Ok(metric);

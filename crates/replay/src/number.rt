@@ -91,7 +91,7 @@ pub fn fixed_list(alloc: Global, text: &str) -> Result<Vec<Fixed>, Stop> {
 fn nanos_of(digits: &str) -> Result<u32, Stop> {
     let number = whole::<u32>(digits)?;
     match digits.len() {
-        3 => Ok(number * 1_000_000),
+        3 => Ok(number.saturating_mul(1_000_000)),
         9 => Ok(number),
         _ => Err(Stop::Mistake("a time is SECONDS.MMM")),
     }
@@ -99,10 +99,14 @@ fn nanos_of(digits: &str) -> Result<u32, Stop> {
 
 /// A time `SECONDS.MMM`, or one with nine digits after the point.
 pub fn time(text: &str) -> Result<Duration, Stop> {
-    match text.split_once('.') {
-        Some((seconds, digits)) => Ok(Duration::new(whole(seconds)?, nanos_of(digits)?)),
-        None => Err(Stop::Mistake("a time is SECONDS.MMM")),
+    let Some((seconds, digits)) = text.split_once('.') else {
+        return Err(Stop::Mistake("a time is SECONDS.MMM"));
+    };
+    let (seconds, nanos) = (whole(seconds)?, nanos_of(digits)?);
+    if nanos >= 1_000_000_000 {
+        return Err(Stop::Mistake("a time is SECONDS.MMM"));
     }
+    Ok(Duration::new(seconds, nanos))
 }
 
 /// A number of a metric of a script.

@@ -4,15 +4,22 @@ use crate::stop::Stop;
 use fastmetrics::metrics::summary::Quantile;
 use fastmetrics::raw::Fixed;
 use fastmetrics::raw::bucket::{
-    Bound, Bucket, ExponentialBuckets, LinearBuckets, default_buckets, exponential_buckets,
+    Bound, Bucket, ExponentialBuckets, default_buckets, exponential_buckets,
     exponential_buckets_range, linear_buckets,
 };
 use std::alloc::Global;
 
+// Three words between commas.
+fn three(list: &str) -> Option<(&str, &str, &str)> {
+    let (first, rest) = list.split_once(',')?;
+    let (second, third) = rest.split_once(',')?;
+    Some((first, second, third))
+}
+
 // Bounds at equal distances.
-fn linear(alloc: Global, bounds: LinearBuckets) -> Result<Vec<Fixed>, Stop> {
+fn linear(alloc: Global, start: Fixed, width: Fixed, count: usize) -> Result<Vec<Fixed>, Stop> {
     let mut all = Vec::new(alloc);
-    for bound in bounds {
+    for bound in linear_buckets(start, width, count)? {
         all.push(bound)?;
     }
     Ok(all)
@@ -29,33 +36,30 @@ fn exponential(alloc: Global, bounds: ExponentialBuckets) -> Result<Vec<Fixed>, 
 
 // Bounds that are made from three numbers. A factor and a number of bounds are whole.
 fn made(alloc: Global, kind: &str, list: &str) -> Result<Vec<Fixed>, Stop> {
-    let mistake = Stop::Mistake("three numbers");
-    let Some((first, rest)) = list.split_once(',') else {
-        return Err(mistake);
+    let Some((first, second, third)) = three(list) else {
+        return Err(Stop::Mistake("three numbers"));
     };
-    let Some((second, third)) = rest.split_once(',') else {
-        return Err(mistake);
-    };
-    let (first, count) = (fixed(first)?, whole::<usize>(third)?);
+    let (first, count) = (fixed(first)?, whole(third)?);
     match kind {
-        "linear" => linear(alloc, linear_buckets(first, fixed(second)?, count)?),
+        "linear" => linear(alloc, first, fixed(second)?, count),
         "exp" => exponential(alloc, exponential_buckets(first, whole(second)?, count)?),
-        "range" => exponential(alloc, exponential_buckets_range(first, fixed(second)?, count)?),
+        "range" => exponential(
+            alloc,
+            exponential_buckets_range(first, fixed(second)?, count)?,
+        ),
         _ => Err(Stop::Mistake("no such bounds")),
     }
 }
 
 /// The bounds of a histogram.
 pub fn bounds_of(alloc: Global, text: &str) -> Result<Vec<Fixed>, Stop> {
-    if text == "default" {
-        return Ok(Vec::from_array(alloc, default_buckets())?);
-    }
-    if text == "none" {
-        return Ok(Vec::new(alloc));
-    }
-    match text.split_once(':') {
-        Some((kind, list)) => made(alloc, kind, list),
-        None => fixed_list(alloc, text),
+    match text {
+        "default" => Ok(Vec::from_array(alloc, default_buckets())?),
+        "none" => Ok(Vec::new(alloc)),
+        _ => match text.split_once(':') {
+            Some((kind, list)) => made(alloc, kind, list),
+            None => fixed_list(alloc, text),
+        },
     }
 }
 
@@ -64,10 +68,9 @@ fn bucket_of(pair: &str) -> Result<Bucket, Stop> {
     let Some((bound, count)) = pair.split_once(':') else {
         return Err(Stop::Mistake("a bucket is BOUND:COUNT"));
     };
-    let bound = if bound == "+Inf" {
-        Bound::Inf
-    } else {
-        Bound::Finite(fixed(bound)?)
+    let bound = match bound {
+        "+Inf" => Bound::Inf,
+        _ => Bound::Finite(fixed(bound)?),
     };
     Ok(Bucket::new(bound, whole(count)?))
 }
@@ -76,8 +79,7 @@ fn bucket_of(pair: &str) -> Result<Bucket, Stop> {
 pub fn buckets_of(alloc: Global, text: &str) -> Result<Vec<Bucket>, Stop> {
     let mut all = Vec::new(alloc);
     for pair in text.split(',') {
-        let bucket = bucket_of(pair)?;
-        all.push(bucket)?;
+        all.push(bucket_of(pair)?)?;
     }
     Ok(all)
 }
@@ -97,8 +99,7 @@ pub fn quantiles_of(alloc: Global, text: &str) -> Result<Vec<Quantile>, Stop> {
         return Ok(all);
     }
     for pair in text.split(',') {
-        let quantile = quantile_of(pair)?;
-        all.push(quantile)?;
+        all.push(quantile_of(pair)?)?;
     }
     Ok(all)
 }
@@ -110,8 +111,7 @@ pub fn states_of(alloc: Global, text: &str) -> Result<Vec<(String, bool)>, Stop>
         let Some((state, is_on)) = pair.rsplit_once(':') else {
             return Err(Stop::Mistake("a state is STATE:0 or STATE:1"));
         };
-        let state = String::from_str(alloc, state)?;
-        all.push((state, is_on == "1"))?;
+        all.push((String::from_str(alloc, state)?, is_on == "1"))?;
     }
     Ok(all)
 }

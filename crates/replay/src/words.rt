@@ -22,14 +22,6 @@ impl Word {
         }
     }
 
-    /// A word without a quoted text.
-    pub fn of(alloc: Global, text: &str) -> Result<Word, Stop> {
-        Ok(Word {
-            bare: String::from_str(alloc, text)?,
-            quoted: None,
-        })
-    }
-
     /// The quoted text, or the bare one.
     pub fn text(&self) -> &str {
         match &self.quoted {

@@ -1,9 +1,8 @@
 //! Why a line of a script has no effect.
 use fastmetrics::format::text::{EncodeError, ReadError};
-use fastmetrics::metrics::tally::TallyError;
 use fastmetrics::raw::MetricError;
 use fastmetrics::raw::bucket::BucketError;
-use fastmetrics::registry::{RegistryError, SetRegistryError};
+use fastmetrics::registry::RegistryError;
 use std::alloc::{AllocError, AllocFailed, Global};
 
 /// What stopped a line.
@@ -15,10 +14,6 @@ pub enum Stop {
     Metric(MetricError),
     /// Bounds were refused.
     Bucket(BucketError),
-    /// A registry that the program shares is set, or was used.
-    IsSet(SetRegistryError),
-    /// Workers or shares were refused.
-    Tally(TallyError),
     /// The document was refused.
     Encode(EncodeError),
     /// A text was refused that is no document.
@@ -36,19 +31,6 @@ pub enum Stop {
 }
 
 impl Stop {
-    /// Whether there was no memory, or no thread could be started.
-    pub fn is_memory(&self) -> bool {
-        match self {
-            Stop::Registry(error) => *error == RegistryError::Memory,
-            Stop::Metric(error) => *error == MetricError::Memory,
-            Stop::Encode(error) => *error == EncodeError::Memory,
-            Stop::Read(error) => *error == ReadError::Memory,
-            Stop::Tally(error) => matches!(error, TallyError::Memory | TallyError::SpawnFailed),
-            Stop::Memory => true,
-            _ => false,
-        }
-    }
-
     /// The kind of the refusal, and its text where it has one.
     pub fn text(&self, alloc: Global) -> Result<String, AllocError> {
         match self {
@@ -62,8 +44,6 @@ impl Stop {
             Stop::Metric(error) => format!(in alloc; "{error}"),
             Stop::Bucket(error) => format!(in alloc; "{error}"),
             Stop::Encode(error) => format!(in alloc; "{error}"),
-            Stop::IsSet(error) => format!(in alloc; "{error}"),
-            Stop::Tally(error) => format!(in alloc; "{error}"),
             Stop::Read(ReadError::NotADocument { line }) => {
                 format!(in alloc; "NotADocument: {line}")
             }
@@ -124,12 +104,6 @@ impl From<MetricError> for Stop {
 impl From<BucketError> for Stop {
     fn from(error: BucketError) -> Stop {
         Stop::Bucket(error)
-    }
-}
-
-impl From<TallyError> for Stop {
-    fn from(error: TallyError) -> Stop {
-        Stop::Tally(error)
     }
 }
 

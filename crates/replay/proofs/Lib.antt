@@ -1,0 +1,2 @@
+mod AnyMembers
+mod SameLabels
