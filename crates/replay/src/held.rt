@@ -1,6 +1,6 @@
 //! Metrics that calls change, and families of them.
 use crate::bounds::bounds_of;
-use crate::kind::{Kind, Script};
+use crate::kind::{Kind, Registered};
 use crate::label::Labels;
 use crate::line::Line;
 use crate::live::{Factory, Live, LiveKind};
@@ -170,7 +170,7 @@ fn call_states_member<H: Wait + Copy + Drop>(
 
 impl<H: Wait + Clone> Held<H> {
     /// Another handle, as a metric of a registry.
-    pub fn metric(&self) -> Result<Script<H>, AllocError> {
+    pub fn metric(&self) -> Result<Registered<H>, AllocError> {
         match self {
             Held::One(metric) => Ok(OneOf::First(Kind::Live(metric.clone()?))),
             Held::Many(metric_type, family) => {

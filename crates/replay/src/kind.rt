@@ -31,8 +31,8 @@ pub enum Kind<H: Wait> {
     Point(Point),
 }
 
-/// A metric of any kind.
-pub type Script<H> = OneOf<Kind<H>, OneOf<States, StatesMembers<H>>>;
+/// A metric of any kind, as a root keeps it.
+pub type Registered<H> = OneOf<Kind<H>, OneOf<States, StatesMembers<H>>>;
 
 impl<H: Wait + Drop> Drop for Kind<H> {
     fn drop(self) {

@@ -83,7 +83,7 @@ mod units;
 mod words;
 mod world;
 
-use kind::Script;
+use kind::Registered;
 use line::Line;
 use std::alloc::{AllocError, Global};
 use std::io;
@@ -93,13 +93,16 @@ use stop::Stop;
 use world::World;
 
 // A world with an empty registry.
-fn new_world<H: Wait + Copy + Send + Sync + Drop>(wait: H, alloc: Global) -> World<H, Script<H>> {
+fn new_world<H: Wait + Copy + Send + Sync + Drop>(
+    wait: H,
+    alloc: Global,
+) -> World<H, Registered<H>> {
     World::new(wait, alloc)
 }
 
 // Does what a line says, and returns what it prints.
 fn step<H: Wait + Copy + Send + Sync + Drop>(
-    world: &mut World<H, Script<H>>,
+    world: &mut World<H, Registered<H>>,
     number: usize,
     text: &str,
 ) -> Result<Option<String>, Stop> {
@@ -109,7 +112,7 @@ fn step<H: Wait + Copy + Send + Sync + Drop>(
 
 // Does what a line says, and returns what it prints, which may be that it is refused. A mistake in the script is an error.
 fn answer<H: Wait + Copy + Send + Sync + Drop>(
-    world: &mut World<H, Script<H>>,
+    world: &mut World<H, Registered<H>>,
     number: usize,
     text: &str,
 ) -> Result<String, &'static str> {
@@ -117,17 +120,23 @@ fn answer<H: Wait + Copy + Send + Sync + Drop>(
         return Ok(String::new(world.alloc));
     }
     match step(world, number, text) {
-        Ok(said) => Ok(said.unwrap_or(String::new(world.alloc))),
+        Ok(Some(said)) => Ok(said),
+        Ok(None) => Ok(String::new(world.alloc)),
         Err(Stop::Mistake(why)) => Err(why),
-        Err(stop) => match refusal(world.alloc, number, &stop) {
-            Ok(text) => Ok(text),
-            Err(_) => Err("there is no memory to say so"),
-        },
+        Err(stop) => refusal(world.alloc, number, &stop),
     }
 }
 
 // What a line prints that has no effect.
-fn refusal(alloc: Global, number: usize, stop: &Stop) -> Result<String, AllocError> {
+fn refusal(alloc: Global, number: usize, stop: &Stop) -> Result<String, &'static str> {
+    match refusal_text(alloc, number, stop) {
+        Ok(text) => Ok(text),
+        Err(_) => Err("there is no memory to say what is refused"),
+    }
+}
+
+// The same, if there is memory for it.
+fn refusal_text(alloc: Global, number: usize, stop: &Stop) -> Result<String, AllocError> {
     let text = stop.text(alloc)?;
     format!(in alloc; "!{number} {text}\n")
 }

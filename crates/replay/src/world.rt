@@ -1,7 +1,7 @@
 //! What a script has made so far, and what its lines do.
 use crate::document::document;
 use crate::held::{Held, held_of};
-use crate::kind::{Script, kind_of};
+use crate::kind::{Registered, kind_of};
 use crate::label::borrowed_labels;
 use crate::line::Line;
 use crate::operation::{Operation, operation_of};
@@ -35,7 +35,7 @@ impl<H: Wait + Drop, X: Drop> Drop for World<H, X> {
     }
 }
 
-impl<H: Wait + Copy + Send + Sync + Drop, X: EncodeMetric + From<Script<H>>> World<H, X> {
+impl<H: Wait + Copy + Send + Sync + Drop, X: EncodeMetric + From<Registered<H>>> World<H, X> {
     /// A world with an empty registry.
     pub fn new(wait: H, alloc: Global) -> World<H, X> {
         World {
