@@ -1,10 +1,10 @@
 #!/usr/bin/env python3
 """Tries the wrong bodies of the crates, each of which the check must refuse.
 
-    scripts/wrong_bodies.py [--follow LOG | --right] [CRATE..]        those of all crates, or of these
+    scripts/wrong_bodies.py [--follow LOG | --right | --full] [CRATE..]        those of all crates, or of these
 
 A crate lists its wrong bodies in must-fail/wrong_bodies.md: below a heading of its own, a line `file: src/FILE`, and pairs of lines
-`old: TEXT` and `new: TEXT`. Each old text stands in the file once.
+`old: TEXT` and `new: TEXT`. Each old text stands in the file once. A line `search: full` is explained below.
 
 Many wrong bodies are tried together: one check of a copy of the crate, in which they all stand, says of each function what it can't prove. A function
 is proved from its own body and from the contracts of what it calls; only functions that call one another have one proof. So a wrong body is refused
@@ -13,6 +13,10 @@ function stands in a copy of the function, under a name of its own, with a copy 
 are tried in two checks. What else the check would prove again is left out: each other function of that copy calls one that never returns, since its
 contract promises what is false, and the proof of each is gone. With --right all of this is tried with what is right in the place of each wrong body:
 each function must be proved, since one that isn't would show nothing.
+
+Most of what a wrong body costs is a search that fails, and that ends at its counts. So a search gets half of the counts that it has elsewhere, also
+with --right. It gets all in a check with a body that has a line `search: full`, since what is right in that body's place isn't proved at half; and
+with --full, which whoever adds a body tries once.
 
 One of which a check says only that the function's proof names what is gone shows nothing of the contract: it is NOT SHOWN, and fails as one does that
 is NOT REFUSED. It has to become another body, or one that a test refuses (`scripts/tested_bodies.py`).
@@ -62,12 +66,12 @@ def head_at(lines, at):
     return re.sub(r"<\s|,?\s(?=>)", lambda it: it[0].strip(" ,"), " ".join(it.strip() for it in lines[at : end + 1]))
 
 
-def without_bodies(lines, names):
-    """The lines of a file in which each function calls one that never returns, but constant ones and those of these names. Each stays in its lines."""
+def without_bodies(lines, kept):
+    """The lines of a file in which each function calls one that never returns, but constant ones and these. Each stays in its lines."""
     found, at = list(lines), 0
     while at < len(lines):
         head, at = HEAD.match(lines[at]), at + 1
-        if not head or head[2] in names or lines[at - 1].endswith(("}", ";")):
+        if not head or any(it.first < at <= it.last + 1 for it in kept) or lines[at - 1].endswith(("}", ";")):
             continue
         begin = at - 1
         while lines[begin] != head[1] + "{" and not (lines[begin].endswith(" {") and (begin == at - 1 or lines[begin].startswith(head[1] + ")"))):
@@ -82,16 +86,17 @@ def without_bodies(lines, names):
     return found
 
 
-def leave_out(folder, names):
-    """Leaves out of a copy of a crate all functions but those of these names, and their proofs."""
+def leave_out(folder, kept):
+    """Leaves out of a copy of a crate all functions but these, and their proofs."""
     for path in glob.glob(f"{folder}/src/**/*.rt", recursive=True):
-        lines = without_bodies(text_of(path).split("\n"), names)
+        lines = without_bodies(text_of(path).split("\n"), [it for it in kept if it.file == os.path.relpath(path, folder)])
         with open(path, "w", encoding="utf-8") as file:
             file.write("\n".join(lines) + ("mod never;\n" if os.path.relpath(path, folder) in ROOTS else ""))
     with open(f"{folder}/src/never.rt", "w", encoding="utf-8") as file:
         file.write(NEVER)
     for path, _, files in os.walk(f"{folder}/proofs", topdown=False):
-        if os.path.basename(path) not in names and "+" not in path and {"Answers.antt", "Invariants.antt", "Proof.antt"} & set(files):
+        is_kept = any(it.may_have(path) for it in kept)
+        if not is_kept and "+" not in path and {"Answers.antt", "Invariants.antt", "Proof.antt"} & set(files):
             shutil.rmtree(path)
 
 
@@ -122,6 +127,11 @@ class Function:
         path = [self.owner, self.name] if head else [*module, self.name] if is_within and not indent else module
         self.path = "::".join(path)
 
+    def may_have(self, proof):
+        """Whether a folder may have its proof: below that of its type, or of its module."""
+        above = {self.owner} if self.owner else {*self.module[-1:], "proofs"} if self.may_be_copied else set()
+        return os.path.basename(proof) == self.name and (not above or os.path.basename(os.path.dirname(proof)) in above)
+
     def may_be(self, other):
         """Whether a check may name the other function as it names this one. What stands outside functions it names by its line."""
         if not self.name or not other.name:
@@ -145,7 +155,7 @@ class WrongBody:
     """A mistake in functions of a file: pairs of an old and a new text, one line each."""
 
     def __init__(self, crate, title):
-        self.crate, self.title, self.tests, self.seconds, self.file, self.pairs = crate, title, "", "", "", []
+        self.crate, self.title, self.tests, self.seconds, self.search, self.file, self.pairs = crate, title, "", "", "", "", []
         # The number of the copy that it stands in, or 0 in place of what is right.
         self.copy = 0
 
@@ -203,6 +213,8 @@ def listed(crate, name):
             found[-1].tests = text
         elif word == "seconds:":
             found[-1].seconds = text
+        elif word == "search:":
+            found[-1].search = text
         elif word == "file:":
             found[-1].file = text
         elif word == "old:":
@@ -273,11 +285,12 @@ class Crate:
                 if not wrong.copy:
                     wrong.stand_in(room)
             functions = [[wrong.stand_beside(room)] if wrong.copy else wrong.functions() for wrong in wrongs]
-            leave_out(room, {it.name for found in functions for it in found})
+            leave_out(room, [it for found in functions for it in found])
             paths = {it.path for found in functions for it in found}
             only = [word for path in sorted(paths) for word in ("--only", path)] if "" not in paths else []
             how = {"stdin": subprocess.DEVNULL, "stdout": subprocess.PIPE, "stderr": subprocess.STDOUT, "errors": "replace"}
-            return subprocess.run([*self.words(crates, run), "--incremental", proved, *only], cwd=room, **how).stdout, functions
+            half = [] if run.is_full or any(it.search == "full" for it in wrongs) else ["--margin"]
+            return subprocess.run([*self.words(crates, run), "--incremental", proved, *half, *only], cwd=room, **how).stdout, functions
 
     def unproved(self, crates, run):
         """The functions that its wrong bodies change, and those of them that aren't proved where what is right stands in the place of each."""
@@ -306,7 +319,7 @@ class Crate:
         with tempfile.TemporaryDirectory(prefix="wrong-bodies-kept-") as proved:
             for batch in self.batches():
                 key = kept.sum_of(self.rests_on(crates, run), kept.files_in([f"{self.folder}/src"]), batch)
-                found = kept.given(key) or self.refusals_of(batch, crates, run, proved)
+                found = not run.is_full and kept.given(key) or self.refusals_of(batch, crates, run, proved)
                 if all(it and it[0] < 2 for it in found):
                     kept.keep(key, found)
                 answers += zip(batch, found)
@@ -337,10 +350,11 @@ def crates_of():
 
 
 class Run:
-    """The `rt ci` that proves the crates: one that may still run, by its output, or one that has ended before."""
+    """The `rt ci` that proves the crates: one that may still run, by its output, or one that has ended before; and whether a search of the wrong bodies
+    gets all of its counts."""
 
-    def __init__(self, log, room):
-        self.log, self.room, self.proved, self.has_ended = log, room, set(), False
+    def __init__(self, log, room, is_full=False):
+        self.log, self.room, self.proved, self.has_ended, self.is_full = log, room, set(), False, is_full
 
     def is_over(self):
         return not self.log or re.search(r"^\d+ passed, \d+ failed", text_of(self.log), re.M) is not None
@@ -401,6 +415,7 @@ def main():
     words = argparse.ArgumentParser(usage=__doc__)
     words.add_argument("--follow")
     words.add_argument("--right", action="store_true")
+    words.add_argument("--full", action="store_true")
     words.add_argument("crates", nargs="*")
     given, crates = words.parse_args(), crates_of()
     left = [it for name, it in crates.items() if (not given.crates or name in given.crates) and it.batches()]
@@ -411,7 +426,7 @@ def main():
     lanes, lock, counts = len(os.sched_getaffinity(0)), threading.Lock(), {True: 0, False: 0}
     # On the crates' disk, since the libraries are linked there.
     with tempfile.TemporaryDirectory(prefix="rlibs-", dir=f"{TOP}/.git" if os.path.isdir(f"{TOP}/.git") else None) as room:
-        run = Run(given.follow, room)
+        run = Run(given.follow, room, given.full)
         threads = [threading.Thread(target=run.watch, args=(crates,))]
         for number in range(lanes):
             threads.append(threading.Thread(target=work, args=(left, crates, run, number >= max(lanes - 1, 1), lock, counts)))
