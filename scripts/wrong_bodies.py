@@ -15,8 +15,8 @@ contract promises what is false, and the proof of each is gone. With --right all
 each function must be proved, since one that isn't would show nothing.
 
 Most of what a wrong body costs is a search that fails, and that ends at its counts. So a search gets half of the counts that it has elsewhere, also
-with --right. It gets all in a check with a body that has a line `search: full`, since what is right in that body's place isn't proved at half; and
-with --full, which whoever adds a body tries once.
+with --right. It gets all for bodies with a line `search: full`, which are tried apart from the others, since what is right isn't proved at half of the
+counts there; and with --full, which whoever adds a body tries once.
 
 One of which a check says only that the function's proof names what is gone shows nothing of the contract: it is NOT SHOWN, and fails as one does that
 is NOT REFUSED. It has to become another body, or one that a test refuses (`scripts/tested_bodies.py`).
@@ -235,9 +235,14 @@ class Crate:
         return any(f"+{function.name}" in folders for _, folders, _ in os.walk(f"{self.folder}/proofs"))
 
     def batches(self):
-        """Its wrong bodies, in lists of which none has two of one function, but in copies of it."""
+        """Its wrong bodies, in lists of those that are tried together."""
+        bodies = listed(self, "wrong_bodies")
+        return self.batches_of([it for it in bodies if not it.search]) + self.batches_of([it for it in bodies if it.search])
+
+    def batches_of(self, bodies):
+        """These bodies, in lists of which none has two of one function, but in copies of it."""
         found = []
-        for wrong in listed(self, "wrong_bodies"):
+        for wrong in bodies:
             functions = wrong.functions()
             fits = lambda taken: not any(one.may_be(other) for one in functions for other in taken)
             taken, batch = next((it for it in found if fits(it[0])), ([], []))
@@ -289,7 +294,7 @@ class Crate:
             paths = {it.path for found in functions for it in found}
             only = [word for path in sorted(paths) for word in ("--only", path)] if "" not in paths else []
             how = {"stdin": subprocess.DEVNULL, "stdout": subprocess.PIPE, "stderr": subprocess.STDOUT, "errors": "replace"}
-            half = [] if run.is_full or any(it.search == "full" for it in wrongs) else ["--margin"]
+            half = [] if run.is_full or wrongs[0].search == "full" else ["--margin"]
             return subprocess.run([*self.words(crates, run), "--incremental", proved, *half, *only], cwd=room, **how).stdout, functions
 
     def unproved(self, crates, run):
