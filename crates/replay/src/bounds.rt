@@ -4,7 +4,8 @@ use crate::stop::Stop;
 use fastmetrics::metrics::summary::Quantile;
 use fastmetrics::raw::Fixed;
 use fastmetrics::raw::bucket::{
-    Bound, Bucket, default_buckets, exponential_buckets, exponential_buckets_range, linear_buckets,
+    Bound, Bucket, ExponentialBuckets, default_buckets, exponential_buckets,
+    exponential_buckets_range, linear_buckets,
 };
 use std::alloc::Global;
 
@@ -15,6 +16,24 @@ fn three(list: &str) -> Option<(&str, &str, &str)> {
     Some((first, second, third))
 }
 
+// Bounds at equal distances.
+fn linear(alloc: Global, start: Fixed, width: Fixed, count: usize) -> Result<Vec<Fixed>, Stop> {
+    let mut all = Vec::new(alloc);
+    for bound in linear_buckets(start, width, count)? {
+        all.push(bound)?;
+    }
+    Ok(all)
+}
+
+// Bounds by a factor.
+fn exponential(alloc: Global, bounds: ExponentialBuckets) -> Result<Vec<Fixed>, Stop> {
+    let mut all = Vec::new(alloc);
+    for bound in bounds {
+        all.push(bound)?;
+    }
+    Ok(all)
+}
+
 // Bounds that are made from three numbers. A factor and a number of bounds are whole.
 fn made(alloc: Global, kind: &str, list: &str) -> Result<Vec<Fixed>, Stop> {
     let Some((first, second, third)) = three(list) else {
@@ -22,9 +41,12 @@ fn made(alloc: Global, kind: &str, list: &str) -> Result<Vec<Fixed>, Stop> {
     };
     let (first, count) = (fixed(first)?, whole(third)?);
     match kind {
-        "linear" => Ok(linear_buckets(first, fixed(second)?, count)?.collect(alloc)?),
-        "exp" => Ok(exponential_buckets(first, whole(second)?, count)?.collect(alloc)?),
-        "range" => Ok(exponential_buckets_range(first, fixed(second)?, count)?.collect(alloc)?),
+        "linear" => linear(alloc, first, fixed(second)?, count),
+        "exp" => exponential(alloc, exponential_buckets(first, whole(second)?, count)?),
+        "range" => exponential(
+            alloc,
+            exponential_buckets_range(first, fixed(second)?, count)?,
+        ),
         _ => Err(Stop::Mistake("no such bounds")),
     }
 }
@@ -55,7 +77,11 @@ fn bucket_of(pair: &str) -> Result<Bucket, Stop> {
 
 /// The buckets between commas.
 pub fn buckets_of(alloc: Global, text: &str) -> Result<Vec<Bucket>, Stop> {
-    text.split(',').map(bucket_of).collect(alloc)?
+    let mut all = Vec::new(alloc);
+    for pair in text.split(',') {
+        all.push(bucket_of(pair)?)?;
+    }
+    Ok(all)
 }
 
 // A quantile `QUANTILE:VALUE`.
@@ -68,23 +94,24 @@ fn quantile_of(pair: &str) -> Result<Quantile, Stop> {
 
 /// The quantiles between commas, or none for `-`.
 pub fn quantiles_of(alloc: Global, text: &str) -> Result<Vec<Quantile>, Stop> {
+    let mut all = Vec::new(alloc);
     if text == "-" {
-        return Ok(Vec::new(alloc));
+        return Ok(all);
     }
-    text.split(',').map(quantile_of).collect(alloc)?
+    for pair in text.split(',') {
+        all.push(quantile_of(pair)?)?;
+    }
+    Ok(all)
 }
 
-// A state `STATE:0` or `STATE:1`, with whether it is on.
-fn state_of(alloc: Global, pair: &str) -> Result<(String, bool), Stop> {
-    let Some((state, is_on)) = pair.rsplit_once(':') else {
-        return Err(Stop::Mistake("a state is STATE:0 or STATE:1"));
-    };
-    Ok((String::from_str(alloc, state)?, is_on == "1"))
-}
-
-/// The states between commas, each with whether it is on.
+/// The states `STATE:0` and `STATE:1` between commas, each with whether it is on.
 pub fn states_of(alloc: Global, text: &str) -> Result<Vec<(String, bool)>, Stop> {
-    text.split(',')
-        .map(|pair| state_of(alloc, pair))
-        .collect(alloc)?
+    let mut all = Vec::new(alloc);
+    for pair in text.split(',') {
+        let Some((state, is_on)) = pair.rsplit_once(':') else {
+            return Err(Stop::Mistake("a state is STATE:0 or STATE:1"));
+        };
+        all.push((String::from_str(alloc, state)?, is_on == "1"))?;
+    }
+    Ok(all)
 }

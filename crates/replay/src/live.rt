@@ -19,7 +19,7 @@ use std::sync::Wait;
 use std::time::Duration;
 
 /// A type of counters, gauges or histograms.
-#[derive(Clone, Copy)]
+#[derive(Clone, Copy, PartialEq, Eq)]
 pub enum LiveKind {
     Number(NumberKind),
     Histogram,

@@ -79,7 +79,12 @@ pub fn fixed(text: &str) -> Result<Fixed, Stop> {
 
 /// The numbers between commas.
 pub fn fixed_list(alloc: Global, text: &str) -> Result<Vec<Fixed>, Stop> {
-    text.split(',').map(fixed).collect(alloc)?
+    let mut all = Vec::new(alloc);
+    for part in text.split(',') {
+        let number = fixed(part)?;
+        all.push(number)?;
+    }
+    Ok(all)
 }
 
 // The nanoseconds that three digits after the point say, or nine.
