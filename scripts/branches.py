@@ -1,12 +1,12 @@
 """For scripts/tested_bodies.py: plants bodies in a copy of the crates so that one compilation serves them all.
 
-A body within functions becomes another branch of them, which runs where the crate `planted` of that copy says so (scripts/planted.c). One that lies
-outside functions, as a constant or the text of an error, replaces what is right, if no other one has a test in common with it.
+A body within functions becomes another branch of them, which runs where the crate `planted` of that copy says so (scripts/planted.c).
 """
 import os
 import re
 
-from wrong_bodies import FUNCTION, TOP, text_of
+from functions import FUNCTION, text_of
+from wrong_bodies import TOP
 
 # What one test may take beside other work, in seconds.
 MOST_RUN = "600"
@@ -88,18 +88,6 @@ def written(path, text):
         file.write(text)
 
 
-def stand_outside(bodies, folder):
-    """Plants those bodies that lie outside functions, and returns them."""
-    found, taken = [], set()
-    for body in bodies:
-        tests = tests_of(body)[1]
-        if tests and not tests & taken and not any(function.name for function in body.functions()):
-            body.stand_in(f"{folder}/crates/{body.crate.name}")
-            taken |= tests
-            found.append(body)
-    return found
-
-
 def stand_within(bodies, folder):
     """Plants those bodies that can be branches, and returns them by their numbers."""
     numbers, placed = {body: number for number, body in enumerate(bodies, 1)}, []
@@ -120,11 +108,10 @@ def trials_of(placed):
 
 
 def stand_beside(bodies, folder, results):
-    """Plants bodies in a copy of the crates: those that stand outside functions, and those that are branches, by the numbers that name them in the results."""
+    """Plants those bodies that can be branches in a copy of the crates, and returns them by the numbers that name them in the results."""
     placed = stand_within(bodies, folder)
-    outside = stand_outside(bodies, folder)
     written(f"{folder}/crates.txt", "planted:\n" + re.sub(r"^(\w[^:#\n]*:)", r"\1 planted", text_of(f"{folder}/crates.txt"), flags=re.M))
     written(f"{folder}/crates/planted/src/lib.rt", PLANTED)
     written(f"{folder}/crates/planted/c/trials.h", f'#define RESULTS "{results}"\n\nstatic const struct trial trials[] = {{\n{trials_of(placed)}}};\n')
     written(f"{folder}/crates/planted/c/planted.c", text_of(f"{TOP}/scripts/planted.c"))
-    return outside, placed
+    return placed

@@ -13,7 +13,8 @@ import signal
 import sys
 import time
 
-from wrong_bodies import TOP, text_of
+from functions import text_of
+from wrong_bodies import TOP
 
 GHOST = re.compile(r"\s*(?:ghost |requires |ensures |#\[tactic)")
 TICKS = os.sysconf("SC_CLK_TCK")

@@ -23,7 +23,7 @@ def files_in(folders):
 
 def name_of(path):
     """A name of the file that is the same in each checkout."""
-    in_crates = re.search(r"/crates/(\w+/(?:src|specs|proofs)/.*)", path)
+    in_crates = re.search(r"/(?:crates|bench)/(\w+/(?:src|specs|proofs)/.*)", path)
     return in_crates[1] if in_crates else os.path.basename(path)
 
 

@@ -1,27 +1,31 @@
 #!/usr/bin/env python3
-"""Writes a program of fifty metrics, in five structs of ten, to crates/many, with the document that it must print."""
+"""Writes fifty metrics, in five structs of ten, to the example `many` of crates/calling, with their document as the last of its stdout."""
 import os
 
-TOP = os.path.join(os.path.dirname(os.path.abspath(__file__)), "..", "crates", "many")
+TOP = os.path.join(os.path.dirname(os.path.abspath(__file__)), "..", "crates", "calling")
 PARTS = ["cache", "disk", "mail", "net", "queue"]
 KINDS = ["counter", "gauge"]
 NAMES = {"counter": "done", "gauge": "now"}
 TYPES = {"counter": "Counter", "gauge": "Gauge"}
 
 HEAD = """//! Fifty metrics in five structs of ten, each made and registered by one line. `scripts/many_metrics.py` writes it.
-#![tactic(auto)]
-
 use fastmetrics::metrics::counter::Counter;
 use fastmetrics::metrics::gauge::Gauge;
 use fastmetrics::registry::{RegistryError, Root};
+use std::alloc::Global;
+use std::io::Write;
 use std::sync::Wait;
 """
 
-MAIN = """
-fn main(rt: HostRuntime) -> anyhow::Result<()> {
-    let alloc = rt.alloc();
-    let mut root = Root::new(rt, alloc);
-%s    root.encode(&mut rt.stdout())?;
+SHOW = """
+/// Counts in some of them, and writes their document.
+pub fn show<H: Wait + Copy + Send + Sync + Drop, W: Write>(
+    wait: H,
+    alloc: Global,
+    out: &mut W,
+) -> anyhow::Result<()> {
+    let mut root = Root::new(wait, alloc);
+%s    root.encode(out)?;
     Ok(())
 }
 """
@@ -58,10 +62,12 @@ struct {name.title()} {{
 def main():
     uses = "".join(f"    let {it} = make_{it}(&mut root)?;\n" for it in PARTS)
     counts = "".join(f"    {it}.done_1.inc();\n    {it}.now_1.inc();\n" for it in PARTS)
-    os.makedirs(f"{TOP}/src", exist_ok=True)
-    with open(f"{TOP}/src/main.rt", "w", encoding="utf-8") as out:
-        out.write(HEAD + "".join(map(part, PARTS)) + MAIN % (uses + counts))
+    with open(f"{TOP}/src/many.rt", "w", encoding="utf-8") as out:
+        out.write(HEAD + "".join(map(part, PARTS)) + SHOW % (uses + counts))
+    with open(f"{TOP}/stdout", encoding="utf-8") as file:
+        others = file.read().split("# EOF\n")[:2]
     with open(f"{TOP}/stdout", "w", encoding="utf-8") as out:
+        out.write("".join(f"{it}# EOF\n" for it in others))
         for name in PARTS:
             for field, kind in fields():
                 total = 1 if field.endswith("_1") else 0

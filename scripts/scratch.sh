@@ -12,13 +12,13 @@ lay_out() {
     # The crates, and the bench's own, whose files get their true endings.
     for crate in "$top"/crates/*/ "$bench"/*/; do
         name=$(basename "$crate")
-        case $name in fm_tests_* | expose | expose_io | first_use | global_use | worker_pool | peers) continue ;; esac
+        [[ $name != peers ]] || continue
         mkdir -p "$folder/crates/$name"
         (cd "$crate" && tar -c --exclude=./out .) | tar -x -C "$folder/crates/$name"
     done
     find "$folder/crates" -path '*/out' -prune -o -name '*.in' -print | while read -r file; do
         mv "$file" "${file%.in}"
     done
-    grep -vE '^(fm_test|expose|first_use|global_use|worker_pool|replay)' "$top/crates.txt" | cat - "$bench/crates.in" >"$folder/crates.txt"
+    grep -vE '^(replay|tests)\b' "$top/crates.txt" | cat - "$bench/crates.in" >"$folder/crates.txt"
     [[ -d $folder/.git ]] || git -C "$folder" init -q
 }

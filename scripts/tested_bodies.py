@@ -3,16 +3,16 @@
 
     scripts/tested_bodies.py [CRATE..]        those of all crates, or of these
 
-A crate lists them in must-fail/tested_bodies.md, as its wrong bodies are listed (scripts/wrong_bodies.py), each with a line `tests: CRATE TEST..`, a
-crate of tests and those of its tests that fail with this body alone; with `tests: CRATE` some test has to fail. All that name one crate of tests are
-planted in one copy of the crates, each as another branch of its functions, and the tests are compiled once, with run-time checks and no proof
-(scripts/unproved.py); each test runs once for each body that names it, and must pass with none (scripts/planted.c). Of a body that lies outside a
-function, or that no test refused so, the crates are compiled with it in place of what is right, up to three times. A body with which a test never ends has a line
-`seconds: N`, after which a test has failed. With `requests::N::TEST` the test has failed once it asks for memory the Nth time, and must ask fewer times
-without the body. A test `cases::NAME` of a program is a case of its cases.toml (scripts/cases.py). With `tests: replay NAME..` scripts of bench/replay
-stand for tests, and one of them has to differ from its answer (scripts/replay.sh); they run with each body alone, and all scripts with none, those
-for refused memory also with each request refused in turn, so that the gate needs no other compilation of their program. Prints a line for each body; 'N agree, M differ', of the runs of scripts with no body; and then
-'N refused, M not refused'. The status is 0 if both M are 0.
+A crate lists them in must-fail/tested_bodies.md, as its wrong bodies are listed (scripts/wrong_bodies.py), each with a line `tests: tests TEST..`, those
+tests of bench/tests that fail with this body alone; with `tests: tests` some test has to fail. All of them are planted in one copy of the crates, each
+as another branch of its functions, and the tests are compiled once, with run-time checks and no proof (scripts/unproved.py); each test runs once for
+each body that names it, and once with none (scripts/planted.c): so the gate runs its tests. Of a body that lies outside a function, or that no test
+refused so, the crates are compiled with it in place of what is right, up to three times. A body with which a test never ends has a line `seconds: N`,
+after which a test has failed. With `requests::N::TEST` the test has failed once it asks for memory the Nth time, and must ask fewer times without the
+body. A test `cases::NAME` of a program is a case of its cases.toml (scripts/cases.py). With `tests: replay NAME..` scripts of bench/replay stand for
+tests, and one of them has to differ from its answer (scripts/replay.sh); they run with each body alone, and all scripts with none, those for refused
+memory also with each request refused in turn. Prints a line for each body; 'N passed, M failed', of the tests with no body; 'N agree, M differ', of the
+runs of scripts with none; and then 'N refused, M not refused'. The status is 0 if each M is 0.
 """
 import glob
 import os
@@ -27,14 +27,15 @@ import cases
 import kept
 import unproved
 from branches import MOST_RUN, stand_beside, tests_of
-from wrong_bodies import KIT, TOP, Crate, crates_of, listed, text_of
+from functions import text_of
+from wrong_bodies import KIT, TOP, Crate, crates_of, listed
 
 # What all tests may take beside other work, with their compilation, in seconds.
 MOST = 3000
 
 
 def copied_to(folder):
-    """Lays the crates' sources in a folder."""
+    """Lays the crates' sources and the tests in a folder."""
     for name in ("crates.txt", "HANDLES"):
         shutil.copy(f"{TOP}/{name}", folder)
     os.mkdir(f"{folder}/.git")
@@ -42,10 +43,15 @@ def copied_to(folder):
         for part in ("src", "specs", "proofs"):
             if os.path.isdir(f"{TOP}/crates/{crate}/{part}"):
                 shutil.copytree(f"{TOP}/crates/{crate}/{part}", f"{folder}/crates/{crate}/{part}")
+    shutil.copytree(f"{TOP}/bench/tests", f"{folder}/crates/tests")
+    for path in glob.glob(f"{folder}/crates/tests/**/*.in", recursive=True):
+        os.rename(path, path.removesuffix(".in"))
+    with open(f"{folder}/crates.txt", "a", encoding="utf-8") as file:
+        file.write(re.search(r"^tests:.*\n", text_of(f"{TOP}/bench/crates.in"), re.M)[0])
 
 
 def without_other_tests(folder, crate, bodies):
-    """Leaves out of a copy of a crate the tests that no body names: they ran where they were proved."""
+    """Leaves out of a copy of a crate the tests that no body names: they run by themselves (scripts/try_tests.sh)."""
     named = set().union(*(tests_of(body)[1] for body in bodies))
     if not all(tests_of(body)[1] for body in bodies):
         return
@@ -75,43 +81,39 @@ def are_scripts(body):
 
 
 def failing_beside(bodies):
-    """For each body of one crate of tests that can stand beside the others, the tests that fail with it."""
+    """For each body that tests refuse, and that can stand beside the others, the tests that fail with it; and all tests, each with whether it passes with
+    none."""
     with tempfile.TemporaryDirectory(prefix="tested-bodies-") as folder:
         copied_to(folder)
-        outside, placed = stand_beside(bodies, folder, f"{folder}/results")
-        if not outside and not placed:
-            return {}
-        without_other_tests(folder, tests_of(bodies[0])[0], bodies)
+        placed = stand_beside(bodies, folder, f"{folder}/results")
         said = unproved.run(folder, tests_of(bodies[0])[0], ["--seconds", str(MOST)], tests=True, seconds=2 * MOST)
-        always = set(re.findall(r"^test (\S+) \.\.\. (?!ok$)", said, re.M))
-        if not re.search(r"^test result: ", said, re.M) or always - {test for body in outside for test in tests_of(body)[1]}:
-            last = " / ".join(said.strip().split("\n")[-3:])[:400]
-            print(f"{tests_of(bodies[0])[0]}: its bodies can't stand beside each other: {sorted(always)[:3]} {last}", flush=True)
-            return {}
-        failed = {body: always & tests_of(body)[1] for body in outside}
-        ended = re.findall(r"^(\d+) (\S+) failed$", text_of(f"{folder}/results") if placed else "", re.M)
-        always |= {test for number, test in ended if number == "0"}
-        for number, test in ended:
-            if test not in always:
+        ran = {test: how == "ok" for test, how in re.findall(r"^test (\S+) \.\.\. (\w+)", said, re.M)}
+        if not ran or not re.search(r"^test result: ", said, re.M):
+            sys.exit(f"the tests were not run, or not all: {' / '.join(said.strip().split(chr(10))[-3:])[:400]}")
+        failed = {}
+        for number, test in re.findall(r"^(\d+) (\S+) failed$", text_of(f"{folder}/results"), re.M):
+            if number == "0":
+                ran[test] = False
+            else:
                 failed.setdefault(placed[int(number)], set()).add(test)
-        return failed
+        return {body: {it for it in tests if ran[it]} for body, tests in failed.items()}, ran
 
 
 def differing_beside(bodies):
-    """For each body that scripts refuse, and that can stand beside the others, the scripts that differ with it; and of the runs with none those that
-    differ."""
+    """For each body that scripts refuse, and that can stand beside the others, the scripts that differ with it; and all runs with none, each with
+    whether it agrees."""
     with tempfile.TemporaryDirectory(prefix="tested-bodies-") as folder:
         copied_to(folder)
-        outside, placed = stand_beside(bodies, folder, f"{folder}/results")
-        if outside:
-            sys.exit(f"{outside[0].crate.name}, {outside[0].title}: a body that scripts refuse has to lie within functions")
+        placed = stand_beside(bodies, folder, f"{folder}/results")
+        if len(placed) < len(bodies):
+            sys.exit(f"{next(it for it in bodies if it not in placed.values()).title}: a body that scripts refuse has to lie within functions")
         runs = {body: {f"{it}:{number}" for it in tests_of(body)[1]} for number, body in placed.items()}
         failed, said = differing(runs_with_none().union(*runs.values()), folder)
         if not re.search(r"^\d+ agree, \d+ differ$", said, re.M):
             sys.exit(f"replay: its bodies can't stand beside each other: {said.strip()[-300:]}")
-        with_none = runs_with_none() & set(failed or [])
-        wrong = {it.partition(":")[0] for it in with_none}
-        return {body: {it.partition(":")[0] for it in found & set(failed or [])} - wrong for body, found in runs.items()}, with_none
+        ran = {it: it not in (failed or []) for it in runs_with_none()}
+        wrong = {it.partition(":")[0] for it, agrees in ran.items() if not agrees}
+        return {body: {it.partition(":")[0] for it in found & set(failed or [])} - wrong for body, found in runs.items()}, ran
 
 
 def fit_together(one, other):
@@ -177,17 +179,17 @@ def tried(bodies, turns=3):
 
 
 def tried_beside(bodies):
-    """Each of the bodies that name one crate of tests, or scripts, as `tried` says, and the runs of scripts that differ with no body."""
-    failed, with_none = differing_beside(bodies) if are_scripts(bodies[0]) else (failing_beside(bodies), set())
+    """Each of the bodies that tests refuse, or scripts, as `tried` says, and all tests, or runs of scripts, each with whether it passes with no body."""
+    failed, ran = differing_beside(bodies) if are_scripts(bodies[0]) else failing_beside(bodies)
     left = [body for body in bodies if not failed.get(body)]
-    answers = [(body, sorted(failed[body]), "") for body in bodies if failed.get(body)] + [it for batch in batches(left) for it in tried(batch)]
-    return answers, with_none
+    return [(body, sorted(failed[body]), "") for body in bodies if failed.get(body)] + [it for batch in batches(left) for it in tried(batch)], ran
 
 
 def tried_or_kept(bodies, crates):
-    """The same, or what was refused before on this machine (scripts/kept.py), where all scripts agreed with no body."""
+    """The same, or what was refused before on this machine (scripts/kept.py), where all passed with no body."""
     crate = crates[tests_of(bodies[0])[0]]
-    scripts = [f"{TOP}/scripts/{name}" for name in ("tested_bodies.py", "branches.py", "planted.c", "wrong_bodies.py", "cases.py", "unproved.py")]
+    scripts = [f"{TOP}/scripts/{name}.py" for name in ("tested_bodies", "branches", "functions", "wrong_bodies", "cases", "unproved")]
+    scripts.append(f"{TOP}/scripts/planted.c")
     if are_scripts(bodies[0]):
         scripts += sorted(glob.glob(f"{TOP}/scripts/*.sh") + glob.glob(f"{TOP}/bench/replay/**/*.*", recursive=True))
     scripts += [f"{crate.folder}/cases.toml"] * are_cases(bodies[0])
@@ -195,36 +197,39 @@ def tried_or_kept(bodies, crates):
     key = kept.sum_of([f"{KIT}/KIT-ID", *scripts], sources, bodies)
     found = kept.given(key)
     if found:
-        return [(body, failed, "") for body, failed in zip(bodies, found)], set()
-    answers, with_none = (tried(bodies), set()) if are_cases(bodies[0]) else tried_beside(bodies)
-    if all(failed for _, failed, _ in answers) and not with_none:
-        kept.keep(key, [failed for _, failed, _ in sorted(answers, key=lambda it: bodies.index(it[0]))])
-    return answers, with_none
+        return [(body, failed, "") for body, failed in zip(bodies, found[0])], found[1]
+    answers, ran = (tried(bodies), {}) if are_cases(bodies[0]) else tried_beside(bodies)
+    if all(failed for _, failed, _ in answers) and all(ran.values()):
+        kept.keep(key, [[failed for _, failed, _ in sorted(answers, key=lambda it: bodies.index(it[0]))], ran])
+    return answers, ran
 
 
 def main():
     crates = crates_of()
     # The program of bench/replay, whose files lie over those of crates/replay, uses an example too.
     crates["replay"].libraries.append("own_metric")
+    crates["tests"] = crates_of(f"{TOP}/bench/crates.in")["tests"]
+    crates["tests"].folder = f"{TOP}/bench/tests"
     bodies = [it for name, crate in crates.items() if not sys.argv[1:] or name in sys.argv[1:] for it in listed(crate, "tested_bodies")]
     beside = {}
     for body in (it for it in bodies if not are_cases(it)):
         beside.setdefault(tests_of(body)[0], []).append(body)
     jobs = sorted(beside.values(), key=len, reverse=True) + batches([it for it in bodies if are_cases(it)])
     with ThreadPoolExecutor(len(os.sched_getaffinity(0))) as pool:
-        counts, differ = {True: 0, False: 0}, set()
-        for answers, with_none in pool.map(lambda it: tried_or_kept(it, crates), jobs):
-            differ |= with_none
+        counts, bad = {True: 0, False: 0}, 0
+        for job, (answers, ran) in zip(jobs, pool.map(lambda it: tried_or_kept(it, crates), jobs)):
             for body, failed, said in answers:
                 counts[bool(failed)] += 1
                 how = f"refused by {tests_of(body)[0]} {' '.join(failed[:3])}" if failed else "NOT REFUSED: " + " / ".join(said.strip().split("\n")[-3:])[:400]
                 print(f"tested body of {body.crate.name}, {body.title}: {how}", flush=True)
-    for script in sorted(differ):
-        print(f"DIFFERS with no body: the script {script} (scripts/replay.sh)")
-    if "replay" in beside:
-        print(f"{len(runs_with_none() - differ)} agree, {len(differ)} differ")
+            for name in sorted(it for it, passes in ran.items() if not passes):
+                print(f"FAILED with no body: {name}, {'a script (scripts/replay.sh)' if are_scripts(job[0]) else 'a test (scripts/try_tests.sh)'}")
+            if ran:
+                passed = sum(ran.values())
+                bad += len(ran) - passed
+                print(f"{passed} agree, {len(ran) - passed} differ" if are_scripts(job[0]) else f"{passed} passed, {len(ran) - passed} failed")
     print(f"{counts[True]} refused, {counts[False]} not refused")
-    return 1 if counts[False] or differ else 0
+    return 1 if counts[False] or bad else 0
 
 
 if __name__ == "__main__":

@@ -4,7 +4,7 @@
     scripts/uncalled.py
 
 A public call is a function that `fastmetrics` has, or a `pub fn` of a type or a function of a trait that it has (scripts/names_by_crate.py). It is made
-where its name stands before a parenthesis, or at the end of a path, in a crate that is no library or in the program that replays scripts. That a
+where its name stands before a parenthesis, or at the end of a path, in a crate that is no library, in a test, or in the program that replays scripts. That a
 name which two types have is called of both isn't seen. The page names calls for each unit and each whole number together.
 """
 import re
@@ -68,7 +68,7 @@ def public_calls():
 def calls_made(by_libraries):
     """The names that the libraries call, or all other crates and the program that replays scripts."""
     made, inside = set(), set(libraries())
-    for path in [*TOP.glob("crates/*/src/**/*.rt"), *TOP.glob("bench/replay/src/**/*.rt.in")]:
+    for path in [*TOP.glob("crates/*/src/**/*.rt"), *TOP.glob("bench/replay/src/**/*.rt.in"), *TOP.glob("bench/tests/src/**/*.rt.in")]:
         if (path.relative_to(TOP).parts[1] in inside) != by_libraries:
             continue
         for found in CALLED.finditer(re.sub(r"\bfn \w+", "", without_comments(path.read_text()))):

@@ -1,13 +1,17 @@
-//! The registry that a whole program shares.
+//! The registry that a whole program shares: it is set, metrics are registered in it, and its document is written.
 ghost use Rattle.fastmetrics.specs.HasHistory.{HasHistory};
 
 use crate::documents::body;
 use fastmetrics::encoder::EncodeMetric;
 use fastmetrics::format::text::EncodeError;
+use fastmetrics::metrics::counter::Counter;
+use fastmetrics::raw::TryDefault;
 use fastmetrics::registry::{
-    GlobalRegistry, Registry, RegistryError, with_global_registry, with_global_registry_mut,
+    GlobalRegistry, Registry, RegistryError, register_metric, set_global_registry,
+    with_global_registry, with_global_registry_mut,
 };
 use std::alloc::Global;
+use std::io::Write;
 use std::sync::Wait;
 
 /// Registers a metric that `main` boxed, on any thread. It waits for the lock.
@@ -28,7 +32,7 @@ pub fn share<R: Wait>(
     )
 }
 
-/// The document of the registry that the program shares.
+/// The document of the registry that the program shares, in memory: the lock is free before a byte is written.
 pub fn shared_body<R: Wait>(
     rt: &R,
     alloc: Global,
@@ -41,4 +45,26 @@ pub fn shared_body<R: Wait>(
             requires { HasHistory registry.now }
         { body(alloc, registry) },
     )
+}
+
+/// Sets the registry that the program shares, counts in it, and writes its document.
+pub fn show<R: Wait + Copy + Drop, W: Write>(
+    rt: R,
+    alloc: Global,
+    out: &mut W,
+) -> anyhow::Result<()> {
+    let global: GlobalRegistry = GlobalRegistry::new();
+    let namespace = String::from_str(alloc, "myapp")?;
+    let registry = Registry::builder().with_namespace(namespace)?.build()?;
+    set_global_registry(&rt, &global, registry)?;
+
+    let requests = Counter::<u64>::try_default(rt, alloc)?;
+    let metric: Box<dyn EncodeMetric> = Box::new(alloc, requests.clone()?)?;
+    let name = String::from_str(alloc, "requests")?;
+    let help = String::from_str(alloc, "Requests to the server")?;
+    register_metric(&rt, &global, name, help, None, metric)?;
+
+    requests.inc();
+    out.write_all(shared_body(&rt, alloc, &global)?.as_slice())?;
+    Ok(())
 }

@@ -19,7 +19,7 @@ use std::sync::Wait;
 use std::time::Duration;
 
 /// A type of counters, gauges or histograms.
-#[derive(Clone, Copy, PartialEq, Eq)]
+#[derive(Clone, Copy)]
 pub enum LiveKind {
     Number(NumberKind),
     Histogram,

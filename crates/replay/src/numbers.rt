@@ -13,7 +13,7 @@ use std::sync::Wait;
 use std::time::Duration;
 
 /// A type of counters or gauges.
-#[derive(Clone, Copy, PartialEq, Eq)]
+#[derive(Clone, Copy)]
 pub enum NumberKind {
     Counter,
     FixedCounter,

@@ -1,7 +1,7 @@
 //! What scripts do to metrics.
 
 /// A call of a metric.
-#[derive(Clone, Copy, PartialEq, Eq)]
+#[derive(Clone, Copy)]
 pub enum Operation {
     Inc,
     IncBy,

@@ -10,22 +10,10 @@ use std::alloc::Global;
 
 /// The type that a text names.
 pub fn type_of(text: &str) -> Result<MetricType, Stop> {
-    let all = [
-        MetricType::Unknown,
-        MetricType::Gauge,
-        MetricType::Counter,
-        MetricType::StateSet,
-        MetricType::Info,
-        MetricType::Histogram,
-        MetricType::GaugeHistogram,
-        MetricType::Summary,
-    ];
-    for one in all {
-        if one.as_str() == text {
-            return Ok(one);
-        }
+    match MetricType::from_word(text) {
+        Some(found) => Ok(found),
+        None => Err(Stop::Mistake("no such type")),
     }
-    Err(Stop::Mistake("no such type"))
 }
 
 // The exemplar whose value is the argument at this place.

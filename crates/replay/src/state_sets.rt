@@ -14,7 +14,7 @@ use std::sync::Wait;
 use std::time::Duration;
 
 /// A type of state sets.
-#[derive(Clone, Copy, PartialEq, Eq)]
+#[derive(Clone, Copy)]
 pub enum StatesKind {
     OnOff,
     UpDown,

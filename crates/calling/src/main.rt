@@ -1,0 +1,23 @@
+//! Examples of each kind of metric and of each way to write a document, which docs/GUIDE.md shows. The program writes three documents: of a pool of
+//! workers that counts exactly, of the registry that a program shares, and of fifty metrics.
+#![tactic(auto)]
+
+mod counters;
+mod documents;
+mod families;
+mod gauges;
+mod globals;
+mod histograms;
+mod infos;
+mod many;
+mod pool;
+mod registries;
+mod roots;
+mod states;
+mod threads;
+
+fn main(rt: HostRuntime) -> anyhow::Result<()> {
+    pool::show(&rt, rt.alloc(), &mut rt.stdout())?;
+    globals::show(rt, rt.alloc(), &mut rt.stdout())?;
+    many::show(rt, rt.alloc(), &mut rt.stdout())
+}

@@ -1,4 +1,0 @@
-use Rattle.worker_pool.proofs.main.Given as goal
-
-abbrev pub ghosts-count_all : goal.ghosts-count_all
-ghosts-count_all g a = record { name = a.blank.name; parts = a.blank.parts }
