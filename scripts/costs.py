@@ -19,7 +19,7 @@ from wrong_bodies import TOP
 GHOST = re.compile(r"\s*(?:ghost |requires |ensures |#\[tactic)")
 TICKS = os.sysconf("SC_CLK_TCK")
 # The parts, by a word of the command that stands for one of them.
-SCRIPTS = {"tested_bodies.py": "bodies that tests refuse", "wrong_bodies.py": "wrong bodies", "replay.sh": "replay", "cases.py": "cases"}
+SCRIPTS = {"tested_bodies.py": "tests and bodies that they refuse", "wrong_bodies.py": "wrong bodies", "replay.sh": "replay", "cases.py": "cases"}
 
 
 class Process:
@@ -48,8 +48,6 @@ class Process:
         crate = self.crate()
         if not crate:
             return "the rest"
-        if "--test" in self.words or crate.startswith("fm_test"):
-            return "proofs of tests"
         return "proofs of programs" if os.path.isfile(f"{TOP}/crates/{crate}/src/main.rt") else "proofs of libraries"
 
 

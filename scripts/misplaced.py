@@ -100,7 +100,7 @@ def main():
     crates = sorted(it for it in (TOP / "crates").iterdir() if (it / "src").is_dir())
     starts = {home(it) for crate in crates for path in crate.glob("src/**/*.rt") for it in Source(path).cited()}
     public = reach(starts)
-    chosen = [it for it in crates if it.name in sys.argv[1:] or len(sys.argv) == 1 and (it / "src/lib.rt").exists() and not it.name.startswith("fm_test")]
+    chosen = [it for it in crates if it.name in sys.argv[1:] or len(sys.argv) == 1 and (it / "src/lib.rt").exists()]
     for crate in chosen:
         for path in sorted(crate.glob("specs/**/*.antt")):
             name = str(path.relative_to(TOP / "crates"))[: -len(".antt")].replace("/", ".")

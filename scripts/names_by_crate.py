@@ -36,7 +36,7 @@ def text_of(path):
 def libraries():
     """The library crates of crates.txt, in order."""
     names = [line.split(":")[0].split()[0] for line in text_of(f"{TOP}/crates.txt").split("\n") if ":" in line]
-    return [it for it in names if it.startswith("fm_") and not it.startswith("fm_test") and os.path.isfile(f"{TOP}/crates/{it}/src/lib.rt")]
+    return [it for it in names if it.startswith("fm_") and os.path.isfile(f"{TOP}/crates/{it}/src/lib.rt")]
 
 
 def exported():

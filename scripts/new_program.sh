@@ -22,7 +22,7 @@ copy_library() {
     mkdir -p "$folder/crates"
     [[ -e $folder/HANDLES ]] || cp "$top/HANDLES" "$folder/"
     [[ -e $folder/.gitignore ]] || printf 'out/\n' >"$folder/.gitignore"
-    lines=$(grep -E '^(fm_|fastmetrics)' "$top/crates.txt" | grep -v '^fm_test')
+    lines=$(grep -E '^(fm_|fastmetrics)' "$top/crates.txt")
     end_line
     printf '%s\n' "$lines" >>"$folder/crates.txt"
     while read -r line; do

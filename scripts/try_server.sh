@@ -39,7 +39,7 @@ lay_out() {
     local folder=$1 crate file
     mkdir -p "$folder/crates"
     cp "$example/HANDLES" "$folder/"
-    grep -E '^(fm_|fastmetrics)' "$top/crates.txt" | grep -v '^fm_test' |
+    grep -E '^(fm_|fastmetrics)' "$top/crates.txt" |
         cat - "$example/crates.in" >"$folder/crates.txt"
     sed 's/[: ].*//' "$folder/crates.txt" | while read -r crate; do
         [[ -d $top/crates/$crate ]] || continue

@@ -4,7 +4,8 @@
 #
 #   scripts/try_tests.sh
 #
-# Prints what was said where a test failed. Its last line is 'N tests passed, M failed; scripts: A agree, D differ'; the status is 0 if M and D are 0.
+# Prints what was said where a test failed. Its last line is 'N tests passed, M failed; scripts: A agree, D differ'; the status is 0
+# if all were run and M and D are 0.
 set -u
 cd "$(dirname "$0")/.." || exit 2
 scratch=$(mktemp -d) || exit 2
