@@ -4,7 +4,8 @@
     scripts/costs.py PID PROGRAM..        PID is the process of .ci/run; it ends when it is told to by SIGTERM
 
 It looks each second at the processes below the gate's. A crate that `rt ci` has kept from an earlier run costs nothing. Of the programs it prints
-also the lines of ghost and of proof.
+also the lines of ghost and of proof. Other work of the machine's host can slow a processor to half its speed and less, and no count of the system
+tells: so it times each second a loop that is always the same, and prints how quick the processors were, and what the minutes would be at their best.
 """
 import glob
 import os
@@ -71,13 +72,21 @@ def look(gate, seen, ended):
         process.parent = parent if parent > 1 else process.parent
 
 
+def loop_seconds():
+    """The seconds of a core that a loop takes now, which is always the same."""
+    begun, total = time.thread_time(), 0
+    for number in range(50_000):
+        total += number * number
+    return time.thread_time() - begun
+
+
 def lines_in(folder, part, ending, is_counted):
     """How many lines of the files of a part of a crate count."""
     files = glob.glob(f"{folder}/{part}/**/*{ending}", recursive=True)
     return sum(1 for file in files for line in text_of(file).split("\n") if is_counted(line))
 
 
-def told(gate, programs, seen, ended):
+def told(gate, programs, seen, ended, loops):
     """Prints the sums."""
     spent = ended + [(it.part(seen), it.crate(), it.seconds) for it in seen.values() if gate in {above.pid for above in it.above(seen)}]
     parts, crates = {}, {}
@@ -86,6 +95,10 @@ def told(gate, programs, seen, ended):
         if part.startswith("proofs"):
             crates[crate] = crates.get(crate, 0) + seconds
     print("Minutes of one processor: " + ", ".join(f"{part} {seconds / 60:.1f}" for part, seconds in sorted(parts.items(), key=lambda it: -it[1])))
+    best = sorted(loops)[len(loops) // 20]
+    speed = sum(min(1, best / it) for it in loops) / len(loops)
+    minutes = sum(parts.values()) / 60
+    print(f"The processors ran at {speed:.2f} of their speed in the best moment of twenty; at that speed it would be {minutes * speed:.0f} minutes.")
     dearest = sorted(crates.items(), key=lambda it: -it[1])[:12]
     print("Seconds of a core for the dearest crates: " + ", ".join(f"{crate} {seconds:.0f}" for crate, seconds in dearest))
     for program in programs:
@@ -97,13 +110,14 @@ def told(gate, programs, seen, ended):
 
 
 def main():
-    gate, seen, ended = int(sys.argv[1]), {}, []
+    gate, seen, ended, loops = int(sys.argv[1]), {}, [], []
     is_over = []
     signal.signal(signal.SIGTERM, lambda *_: is_over.append(True))
     while not is_over:
         look(gate, seen, ended)
+        loops.append(loop_seconds())
         time.sleep(1)
-    told(gate, sys.argv[2:], seen, ended)
+    told(gate, sys.argv[2:], seen, ended, loops)
 
 
 if __name__ == "__main__":
