@@ -1,5 +1,5 @@
-//! Examples of each kind of metric and of each way to write a document, which docs/GUIDE.md shows. The program writes three documents: of a pool of
-//! workers that counts exactly, of the registry that a program shares, and of fifty metrics.
+//! Examples of each kind of metric and of each way to write a document, which docs/GUIDE.md shows. The program writes three
+//! documents: of a pool of workers that counts exactly, of the registry that a program shares, and of fifty metrics.
 #![tactic(auto)]
 
 mod counters;

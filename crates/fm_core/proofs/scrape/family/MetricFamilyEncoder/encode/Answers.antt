@@ -1,4 +1,4 @@
-use Rattle.std.proofs.Common.{sym, subst}
+use Rattle.std.proofs.Common.{sym, subst, rules}
 use Rattle.fm_grammar.specs.Exposition.{Text}
 use Rattle.fm_grammar.specs.Reading.{IsExposition, IsNewName}
 use Rattle.fm_grammar.proofs.States.{exposition_push}
@@ -16,3 +16,6 @@ invariant_of-self g c =
           (exposition_push c.self.inside.families.items c.in-Ok.family c.self.invariant.exposition c.in-Ok.ensures.family.1 (subst (λ n. IsNewName n c.self.inside.families.items) (sym {A = Text} c.in-Ok.ensures.family.0.0) fresh));
       ready = λ _. c.in-Ok.ensures.ready;
     }
+
+pub returns-after-push : goal.returns-after-push
+returns-after-push g c = search rules
