@@ -18,17 +18,6 @@ use std::sync::Wait;
 """
 
 SHOW = """
-#[derive(Drop)]
-struct Metrics {
-%s}
-
-fn make_metrics<H: Wait + Copy + Send + Sync + Drop>(
-    root: &mut Root<H>,
-) -> Result<Metrics, RegistryError> {
-    Ok(Metrics {
-%s    })
-}
-
 /// Counts in some of them, and writes their document.
 pub fn show<H: Wait + Copy + Send + Sync + Drop, W: Write>(
     wait: H,
@@ -36,7 +25,6 @@ pub fn show<H: Wait + Copy + Send + Sync + Drop, W: Write>(
     out: &mut W,
 ) -> anyhow::Result<()> {
     let mut root = Root::new(wait, alloc);
-    let metrics = make_metrics(&mut root)?;
 %s    root.encode(out)?;
     Ok(())
 }
@@ -72,11 +60,10 @@ struct {name.title()} {{
 
 
 def main():
-    parts = "".join(f"    {it}: {it.title()},\n" for it in PARTS)
-    made = "".join(f"        {it}: make_{it}(root)?,\n" for it in PARTS)
-    counts = "".join(f"    metrics.{it}.done_1.inc();\n    metrics.{it}.now_1.inc();\n" for it in PARTS)
+    uses = "".join(f"    let {it} = make_{it}(&mut root)?;\n" for it in PARTS)
+    counts = "".join(f"    {it}.done_1.inc();\n    {it}.now_1.inc();\n" for it in PARTS)
     with open(f"{TOP}/src/many.rt", "w", encoding="utf-8") as out:
-        out.write(HEAD + "".join(map(part, PARTS)) + SHOW % (parts, made, counts))
+        out.write(HEAD + "".join(map(part, PARTS)) + SHOW % (uses + counts))
     with open(f"{TOP}/stdout", encoding="utf-8") as file:
         others = file.read().split("# EOF\n")[:2]
     with open(f"{TOP}/stdout", "w", encoding="utf-8") as out:

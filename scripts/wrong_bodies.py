@@ -4,7 +4,7 @@
     scripts/wrong_bodies.py [--follow LOG | --right | --full] [CRATE..]        those of all crates, or of these
 
 A crate lists its wrong bodies in must-fail/wrong_bodies.md: below a heading of its own, a line `file: src/FILE`, and pairs of lines
-`old: TEXT` and `new: TEXT`. Each old text stands in the file once. A line `search: full` is explained below.
+`old: TEXT` and `new: TEXT`. Each old text stands in the file once.
 
 Many wrong bodies are tried together: one check of a copy of the crate, in which they all stand, says of each function what it can't prove. A function
 is proved from its own body and from the contracts of what it calls; only functions that call one another have one proof. So a wrong body is refused
@@ -14,9 +14,8 @@ are tried in two checks. What else the check would prove again is left out: each
 contract promises what is false, and the proof of each is gone. With --right all of this is tried with what is right in the place of each wrong body:
 each function must be proved, since one that isn't would show nothing.
 
-Most of what a wrong body costs is a search that fails, and that ends at its counts. So a search gets half of the counts that it has elsewhere, also
-with --right. It gets all for bodies with a line `search: full`, which are tried apart from the others, since what is right isn't proved at half of the
-counts there; and with --full, which whoever adds a body tries once.
+Much of what a wrong body costs is a search that fails, and that ends at its counts. So a search gets half of the counts that it has elsewhere, also
+with --right. It gets all with --full, which whoever adds a body tries once.
 
 One of which a check says only that the function's proof names what is gone shows nothing of the contract: it is NOT SHOWN, and fails as one does that
 is NOT REFUSED. It has to become another body, or one that a test refuses (`scripts/tested_bodies.py`).
@@ -47,7 +46,7 @@ class WrongBody:
     """A mistake in functions of a file: pairs of an old and a new text, one line each."""
 
     def __init__(self, crate, title):
-        self.crate, self.title, self.tests, self.seconds, self.search, self.file, self.pairs = crate, title, "", "", "", "", []
+        self.crate, self.title, self.tests, self.seconds, self.file, self.pairs = crate, title, "", "", "", []
         # The number of the copy that it stands in, or 0 in place of what is right.
         self.copy = 0
 
@@ -105,10 +104,6 @@ def listed(crate, name):
             found[-1].tests = text
         elif word == "seconds:":
             found[-1].seconds = text
-        elif word == "search:":
-            if text != "full":
-                sys.exit(f"{path}: {line}: there is only `search: full`")
-            found[-1].search = text
         elif word == "file:":
             found[-1].file = text
         elif word == "old:":
@@ -129,14 +124,9 @@ class Crate:
         return any(f"+{function.name}" in folders for _, folders, _ in os.walk(f"{self.folder}/proofs"))
 
     def batches(self):
-        """Its wrong bodies, in lists of those that are tried together."""
-        bodies = listed(self, "wrong_bodies")
-        return self.batches_of([it for it in bodies if not it.search]) + self.batches_of([it for it in bodies if it.search])
-
-    def batches_of(self, bodies):
-        """These bodies, in lists of which none has two of one function, but in copies of it."""
+        """Its wrong bodies, in lists of those that are tried together. None has two of one function, but in copies of it."""
         found = []
-        for wrong in bodies:
+        for wrong in listed(self, "wrong_bodies"):
             functions = wrong.functions()
             fits = lambda taken: not any(one.may_be(other) for one in functions for other in taken)
             taken, batch = next((it for it in found if fits(it[0])), ([], []))
@@ -188,7 +178,7 @@ class Crate:
             paths = {it.path for found in functions for it in found}
             only = [word for path in sorted(paths) for word in ("--only", path)] if "" not in paths else []
             how = {"stdin": subprocess.DEVNULL, "stdout": subprocess.PIPE, "stderr": subprocess.STDOUT, "errors": "replace"}
-            half = [] if run.is_full or wrongs[0].search == "full" else ["--margin"]
+            half = [] if run.is_full else ["--margin"]
             return subprocess.run([*self.words(crates, run), "--incremental", proved, *half, *only], cwd=room, **how).stdout, functions
 
     def unproved(self, crates, run):

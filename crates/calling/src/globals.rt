@@ -47,20 +47,6 @@ pub fn shared_body<R: Wait>(
     )
 }
 
-// A counter that is registered in the registry that the program shares.
-fn requests<R: Wait + Copy + Drop>(
-    rt: R,
-    alloc: Global,
-    global: &GlobalRegistry,
-) -> anyhow::Result<Counter> {
-    let requests = Counter::<u64>::try_default(rt, alloc)?;
-    let metric: Box<dyn EncodeMetric> = Box::new(alloc, requests.clone()?)?;
-    let name = String::from_str(alloc, "requests")?;
-    let help = String::from_str(alloc, "Requests to the server")?;
-    register_metric(&rt, global, name, help, None, metric)?;
-    Ok(requests)
-}
-
 /// Sets the registry that the program shares, counts in it, and writes its document.
 pub fn show<R: Wait + Copy + Drop, W: Write>(
     rt: R,
@@ -72,7 +58,13 @@ pub fn show<R: Wait + Copy + Drop, W: Write>(
     let registry = Registry::builder().with_namespace(namespace)?.build()?;
     set_global_registry(&rt, &global, registry)?;
 
-    requests(rt, alloc, &global)?.inc();
+    let requests = Counter::<u64>::try_default(rt, alloc)?;
+    let metric: Box<dyn EncodeMetric> = Box::new(alloc, requests.clone()?)?;
+    let name = String::from_str(alloc, "requests")?;
+    let help = String::from_str(alloc, "Requests to the server")?;
+    register_metric(&rt, &global, name, help, None, metric)?;
+
+    requests.inc();
     out.write_all(shared_body(&rt, alloc, &global)?.as_slice())?;
     Ok(())
 }

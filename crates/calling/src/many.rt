@@ -159,27 +159,6 @@ fn make_queue<H: Wait + Copy + Send + Sync + Drop>(
     })
 }
 
-#[derive(Drop)]
-struct Metrics {
-    cache: Cache,
-    disk: Disk,
-    mail: Mail,
-    net: Net,
-    queue: Queue,
-}
-
-fn make_metrics<H: Wait + Copy + Send + Sync + Drop>(
-    root: &mut Root<H>,
-) -> Result<Metrics, RegistryError> {
-    Ok(Metrics {
-        cache: make_cache(root)?,
-        disk: make_disk(root)?,
-        mail: make_mail(root)?,
-        net: make_net(root)?,
-        queue: make_queue(root)?,
-    })
-}
-
 /// Counts in some of them, and writes their document.
 pub fn show<H: Wait + Copy + Send + Sync + Drop, W: Write>(
     wait: H,
@@ -187,17 +166,21 @@ pub fn show<H: Wait + Copy + Send + Sync + Drop, W: Write>(
     out: &mut W,
 ) -> anyhow::Result<()> {
     let mut root = Root::new(wait, alloc);
-    let metrics = make_metrics(&mut root)?;
-    metrics.cache.done_1.inc();
-    metrics.cache.now_1.inc();
-    metrics.disk.done_1.inc();
-    metrics.disk.now_1.inc();
-    metrics.mail.done_1.inc();
-    metrics.mail.now_1.inc();
-    metrics.net.done_1.inc();
-    metrics.net.now_1.inc();
-    metrics.queue.done_1.inc();
-    metrics.queue.now_1.inc();
+    let cache = make_cache(&mut root)?;
+    let disk = make_disk(&mut root)?;
+    let mail = make_mail(&mut root)?;
+    let net = make_net(&mut root)?;
+    let queue = make_queue(&mut root)?;
+    cache.done_1.inc();
+    cache.now_1.inc();
+    disk.done_1.inc();
+    disk.now_1.inc();
+    mail.done_1.inc();
+    mail.now_1.inc();
+    net.done_1.inc();
+    net.now_1.inc();
+    queue.done_1.inc();
+    queue.now_1.inc();
     root.encode(out)?;
     Ok(())
 }

@@ -18,7 +18,7 @@ pub use Rattle.fm_raw.specs.MetricErrors
 pub use Rattle.fm_raw.specs.Metadata
 pub use Rattle.fm_raw.specs.Signed
 pub use Rattle.fm_raw.specs.Units
-pub use Rattle.fm_encode_error.specs.EncodeErrors
+pub use Rattle.fm_raw.specs.EncodeErrors
 pub use Rattle.fm_reader.specs.ReadErrors
 pub use Rattle.fm_writer.specs.Output
 pub use Rattle.fm_registry_model.specs.RegistryErrors

@@ -15,8 +15,8 @@ use Rattle.fm_registry_model.specs.Registration.{printed_unit}
 use Rattle.fm_registry_model.specs.Listing.{Listed, listed_name, IsListable}
 use Rattle.fm_exposition.specs.Rows.{sample_rows}
 use Rattle.fm_exposition.specs.inside.DocumentRows.{family_rows, families_rows}
-use Rattle.fm_encode_error.specs.declared.EncodeError.{EncodeError}
-use Rattle.fm_encode_error.specs.declared.EncodeError.TheVariants.{Memory}
+use Rattle.fm_raw.specs.declared.encode_error.EncodeError.{EncodeError}
+use Rattle.fm_raw.specs.declared.encode_error.EncodeError.TheVariants.{Memory}
 use Rattle.fm_writer.specs.Output.{Output, OutputText, appended, with_lines}
 use Rattle.fm_encoder.specs.Points.{Member}
 use Rattle.fm_encoder.specs.Gathered.{GatheredMembers}

@@ -2,8 +2,8 @@
 use Rattle.std.specs.Prelude.{◌≡◌, ℕ, List, Option, Some, None, ◌⊎◌}
 use Rattle.fm_grammar.specs.Exposition.{Exposition}
 use Rattle.fm_raw.specs.declared.metadata.Metadata.{Metadata}
-use Rattle.fm_encode_error.specs.declared.EncodeError.{EncodeError}
-use Rattle.fm_encode_error.specs.declared.EncodeError.TheVariants.{Memory}
+use Rattle.fm_raw.specs.declared.encode_error.EncodeError.{EncodeError}
+use Rattle.fm_raw.specs.declared.encode_error.EncodeError.TheVariants.{Memory}
 use Rattle.fm_registry_model.specs.Texts.{Text, Labels}
 use Rattle.fm_registry_model.specs.Listing.{Listed}
 use Rattle.fm_encoder.specs.Points.{Member}

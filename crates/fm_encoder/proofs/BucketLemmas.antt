@@ -17,7 +17,7 @@ use Rattle.fm_writer.specs.Output.{Output, appended}
 use Rattle.fm_writer.proofs.OutputLemmas.{appended-append}
 use Rattle.fm_labels.specs.Labels.{IsReserved}
 use Rattle.fm_grammar.proofs.Runs.{all_append}
-use Rattle.fm_encode_error.specs.declared.EncodeError.{EncodeError}
+use Rattle.fm_raw.specs.declared.encode_error.EncodeError.{EncodeError}
 use Rattle.fm_encoder.specs.Points.{PartsFault, EmittedExemplar, Setting, Point, ExemplarValid, values_in, BucketsValid, BucketsFault, PartsValid, type_of, point_samples, bucket_sample, bucket_samples}
 use Rattle.fm_encoder.specs.inside.Samples.{bucket_line}
 use Rattle.fm_encoder.specs.Gathered.{GatheredPoints}

@@ -8,8 +8,8 @@ use Rattle.fm_grammar.specs.declared.MetricType.{MetricType}
 use Rattle.fm_grammar.specs.declared.MetricType.TheVariants.{Unknown}
 use Rattle.fm_grammar.specs.Exposition.{Exemplar, Label}
 use Rattle.fm_grammar.specs.WellFormed.{IsBetween, AreMillis, IsExemplar, label_code_points}
-use Rattle.fm_encode_error.specs.declared.EncodeError.{EncodeError}
-use Rattle.fm_encode_error.specs.declared.EncodeError.TheVariants.{ExemplarTwice}
+use Rattle.fm_raw.specs.declared.encode_error.EncodeError.{EncodeError}
+use Rattle.fm_raw.specs.declared.encode_error.EncodeError.TheVariants.{ExemplarTwice}
 use Rattle.fm_raw.specs.Signed.{IsSigned}
 use Rattle.fm_labels.specs.Labels.{EmittedLabel, LabelValid, LabelsValid, NamePiece, ValuePiece, written, all_written, emitted_again}
 use Rattle.fm_encoder.specs.Gathered.{GatheredExemplars}

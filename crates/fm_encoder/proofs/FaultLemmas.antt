@@ -2,8 +2,8 @@
 use Rattle.std.proofs.Common.{◌≡◌, ℕ, List, [], ◌∷◌, Option, inl, inr, subst}
 use Rattle.fm_grammar.specs.declared.MetricType.{MetricType}
 use Rattle.fm_grammar.specs.Exposition.{Text, Label, Value}
-use Rattle.fm_encode_error.specs.declared.EncodeError.{EncodeError}
-use Rattle.fm_encode_error.specs.declared.EncodeError.TheVariants.{MalformedLabel, KindMismatch, DuplicateLabel, ExemplarCountMismatch, BucketOverflow, ExemplarTwice, ExemplarTooLong, MetricFault, Write, WriteZero}
+use Rattle.fm_raw.specs.declared.encode_error.EncodeError.{EncodeError}
+use Rattle.fm_raw.specs.declared.encode_error.EncodeError.TheVariants.{MalformedLabel, KindMismatch, DuplicateLabel, ExemplarCountMismatch, BucketOverflow, ExemplarTwice, ExemplarTooLong, MetricFault, Write, WriteZero}
 use Rattle.fm_exposition.specs.Written.{IsWritersFault}
 use Rattle.fm_raw.specs.declared.bucket.bound.Bucket.{Bucket}
 use Rattle.fm_labels.specs.Labels.{EmittedLabel, NameFault, LabelFault, LabelsFault}

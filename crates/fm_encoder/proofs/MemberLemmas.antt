@@ -5,7 +5,7 @@ use Rattle.std.proofs.lemmas.List.{take_more}
 use Rattle.std.proofs.lemmas.Grind.{flat_map-append}
 use Rattle.fm_grammar.specs.Exposition.{Label}
 use Rattle.fm_grammar.specs.declared.MetricType.{MetricType}
-use Rattle.fm_encode_error.specs.declared.EncodeError.{EncodeError}
+use Rattle.fm_raw.specs.declared.encode_error.EncodeError.{EncodeError}
 use Rattle.fm_grammar.specs.WellFormed.{IsSample}
 use Rattle.fm_grammar.proofs.Runs.{all_append}
 use Rattle.fm_writer.specs.Output.{appended}

@@ -2,8 +2,8 @@
 use Rattle.std.proofs.Common.{◌≡◌, List, [], ◌∷◌, Bool, true, false, map, Contains, Option, Some, None, Result, Ok, Err, ◌⊎◌, inl, inr, refl, subst, ◌∙◌}
 use Rattle.fm_grammar.specs.declared.MetricType.TheVariants.{StateSet}
 use Rattle.fm_grammar.specs.Exposition.{Text, Label}
-use Rattle.fm_encode_error.specs.declared.EncodeError.{EncodeError}
-use Rattle.fm_encode_error.specs.declared.EncodeError.TheVariants.{DuplicateLabel}
+use Rattle.fm_raw.specs.declared.encode_error.EncodeError.{EncodeError}
+use Rattle.fm_raw.specs.declared.encode_error.EncodeError.TheVariants.{DuplicateLabel}
 use Rattle.fm_labels.specs.Labels.{label_names}
 use Rattle.fm_labels.specs.Refusals.{result_of}
 use Rattle.fm_encoder.specs.Points.{Setting, StateSetPoint, PartsValid, PartsFault}

@@ -5,8 +5,8 @@
 use Rattle.std.specs.Prelude.{◌≡◌, ◌≤◌, List, [], ◌∷◌, ◌++◌, map, length, Contains, Some, None, Result, Ok, Err, ◌⊎◌}
 use Rattle.std.specs.List.{AllByRecursion, flat_map}
 use Rattle.fm_grammar.specs.Exposition.{Value, Sample}
-use Rattle.fm_encode_error.specs.declared.EncodeError.{EncodeError}
-use Rattle.fm_encode_error.specs.declared.EncodeError.TheVariants.{Memory, ValueTwice, ExemplarTwice}
+use Rattle.fm_raw.specs.declared.encode_error.EncodeError.{EncodeError}
+use Rattle.fm_raw.specs.declared.encode_error.EncodeError.TheVariants.{Memory, ValueTwice, ExemplarTwice}
 use Rattle.fm_writer.specs.Output.{appended}
 use Rattle.fm_labels.specs.Labels.{EmittedLabel, PieceFault, LabelsFault, LabelsValid, all_written}
 use Rattle.fm_encoder.specs.Points.{EmittedExemplar, ExemplarPartsValid, ExemplarPartsFault, written_as, Point, PointValid, HeadFault, PartsFault, point_samples, Member, MembersValid, MembersFault, members_samples}

@@ -1,7 +1,7 @@
 -- What encoders of values, exemplars, points and members have gathered so far, and what they have refused.
 use Rattle.std.specs.Prelude.{List, Option}
 use Rattle.fm_grammar.specs.Exposition.{Label, Value, Exemplar}
-use Rattle.fm_encode_error.specs.declared.EncodeError.{EncodeError}
+use Rattle.fm_raw.specs.declared.encode_error.EncodeError.{EncodeError}
 use Rattle.fm_writer.specs.Output.{Output}
 use Rattle.fm_encoder.specs.Points.{Setting, Context}
 

@@ -11,8 +11,8 @@ use Rattle.fm_grammar.specs.declared.SampleKind.TheVariants.{Plain, Total, Creat
 use Rattle.fm_grammar.specs.Exposition.{Text, Label, Value, Whole, Fixed, Millis, Exemplar, Sample}
 use Rattle.fm_grammar.specs.Numbers.{fixed_text}
 use Rattle.fm_grammar.specs.WellFormed.{label_code_points, IsSample}
-use Rattle.fm_encode_error.specs.declared.EncodeError.{EncodeError}
-use Rattle.fm_encode_error.specs.declared.EncodeError.TheVariants.{DuplicateLabel, KindMismatch, MissingValue, ValueTwice, ExemplarCountMismatch, BucketOverflow, ExemplarTwice, ExemplarTooLong}
+use Rattle.fm_raw.specs.declared.encode_error.EncodeError.{EncodeError}
+use Rattle.fm_raw.specs.declared.encode_error.EncodeError.TheVariants.{DuplicateLabel, KindMismatch, MissingValue, ValueTwice, ExemplarCountMismatch, BucketOverflow, ExemplarTwice, ExemplarTooLong}
 use Rattle.fm_raw.specs.BoundTests.{bound_text}
 use Rattle.fm_raw.specs.declared.bucket.bound.Bound.{Bound}
 use Rattle.fm_raw.specs.declared.bucket.bound.Bucket.{Bucket}

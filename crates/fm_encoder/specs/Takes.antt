@@ -1,7 +1,7 @@
 -- What calls of the encoders of values, exemplars, points and members promise: what it takes is emitted to the encoder, as `Emits` says it, and its result is the encoder's first refusal.
 use Rattle.std.specs.Prelude.{◌≡◌, List, Option, Result}
 use Rattle.fm_grammar.specs.Exposition.{Value}
-use Rattle.fm_encode_error.specs.declared.EncodeError.{EncodeError}
+use Rattle.fm_raw.specs.declared.encode_error.EncodeError.{EncodeError}
 use Rattle.fm_encoder.specs.Points.{EmittedExemplar, Point, Member}
 use Rattle.fm_encoder.specs.Gathered.{GatheredNumbers, GatheredExemplars, GatheredPoints, GatheredMembers}
 use Rattle.fm_labels.specs.Refusals.{Takes}

@@ -11,13 +11,13 @@ ghost use Rattle.fm_labels.specs.Refusals.{OwnRefusal};
 ghost use Rattle.fm_encoder.specs.Emits.{EmitsExemplars};
 ghost use Rattle.fm_encoder.specs.Takes.{TakesExemplars};
 
-use fm_encode_error::EncodeError;
 use fm_exposition::code_points::are_short;
 use fm_exposition::{Exemplar, make};
 use fm_grammar::MetricType;
 use fm_labels::first_refusal::FirstRefusal;
 use fm_labels::label::LabelSetEncoder;
 use fm_labels::label_set::EncodeLabelSet;
+use fm_raw::EncodeError;
 use fm_raw::fixed::Fixed;
 use std::alloc::Global;
 use std::marker::Model;

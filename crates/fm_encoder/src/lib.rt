@@ -22,12 +22,12 @@ pub mod collector {
 pub use exemplar::{
     EncodeExemplar, ExemplarEncoder, ExemplarLabels, LabeledExemplar, whole_millis,
 };
-pub use fm_encode_error::EncodeError;
 pub use fm_labels::{
     EncodeLabel, EncodeLabelName, EncodeLabelSet, EncodeLabelValue, FirstRefusal, LabelEncoder,
     LabelSetEncoder, LabelSlice, LabelStr, LabelValue, StaticStr, encode_labels, label, label_set,
     label_value,
 };
+pub use fm_raw::EncodeError;
 pub use metric::{EncodeMetric, MetricEncoder};
 pub use point::histogram::bare::{encode_bare_gauge_histogram, encode_bare_histogram};
 pub use point::{EncodePoint, PointEncoder};

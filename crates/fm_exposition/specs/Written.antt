@@ -3,8 +3,8 @@ use Rattle.std.specs.Prelude.{◌≡◌, ◌++◌, Option}
 use Rattle.std.specs.Io.KnownBytes.{Appends}
 use Rattle.fm_grammar.specs.Exposition.{Text, Exposition}
 use Rattle.fm_grammar.specs.Law.{IsDocumentOf}
-use Rattle.fm_encode_error.specs.declared.EncodeError.{EncodeError}
-use Rattle.fm_encode_error.specs.declared.EncodeError.TheVariants.{Memory, Write, WriteZero}
+use Rattle.fm_raw.specs.declared.encode_error.EncodeError.{EncodeError}
+use Rattle.fm_raw.specs.declared.encode_error.EncodeError.TheVariants.{Memory, Write, WriteZero}
 
 -- a beginning of the text was appended
 abbrev pub AppendsBeginning : Option Text → Option Text → Text → Type 0

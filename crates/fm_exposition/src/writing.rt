@@ -3,7 +3,7 @@ ghost use Rattle.std.specs.Prelude.{OnOk, OnErr, IfErr};
 ghost use Rattle.std.specs.Io.KnownBytes.{Appends};
 ghost use Rattle.fm_exposition.specs.Written.{AppendsBeginning, IsWritersFault};
 
-use fm_encode_error::EncodeError;
+use fm_raw::EncodeError;
 use std::io::Write;
 
 /// Writes a text. Fails with `Write` if the writer returns an error, and with `WriteZero` if it returns 0; then only a

@@ -12,7 +12,7 @@ use Rattle.fm_raw.specs.declared.error.MetricError.{MetricError}
 use Rattle.fm_family.specs.Members.{OffersFirst, OffersDifferent, GetsOrAdds, MayFault}
 use Rattle.fm_family.specs.inside.Indexed.{HoldsMetric}
 use Rattle.std.proofs.Math.Seq.{take-append_seam}
-use Rattle.fm_encode_error.specs.declared.EncodeError.{EncodeError}
+use Rattle.fm_raw.specs.declared.encode_error.EncodeError.{EncodeError}
 use Rattle.fm_labels.specs.Labels.{EmittedLabel}
 use Rattle.fm_encoder.specs.Points.{Point, Member}
 use Rattle.fm_encoder.specs.Gathered.{GatheredMembers}

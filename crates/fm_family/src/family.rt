@@ -7,9 +7,8 @@ ghost use Rattle.fm_family.specs.Members.{ClonesEqual, OffersDifferent, MayFault
 
 use crate::factory::{DefaultFactory, MetricFactory};
 use crate::members::FamilyCore;
-use fm_encode_error::EncodeError;
 use fm_encoder::{EncodeLabelSet, EncodeMetric, EncodePoint, MetricEncoder};
-use fm_raw::{MetricError, MetricType, TryDefault, TypedMetric};
+use fm_raw::{EncodeError, MetricError, MetricType, TryDefault, TypedMetric};
 use std::alloc::{AllocError, Global};
 use std::fmt::{self, Debug, Formatter};
 use std::hash::{BuildHasher, Hash};

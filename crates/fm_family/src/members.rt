@@ -11,10 +11,9 @@ ghost use Rattle.fm_family.specs.Members.{ClonesEqual, GetsOrAdds, OffersFirst, 
 ghost use Rattle.fm_family.specs.inside.Indexed.{HoldsMetric};
 
 use crate::factory::MetricFactory;
-use fm_encode_error::EncodeError;
 use fm_encoder::collector::{self, WrittenLabels};
 use fm_encoder::{EncodeLabelSet, EncodePoint, MetricEncoder};
-use fm_raw::MetricError;
+use fm_raw::{EncodeError, MetricError};
 use indexmap::IndexMap;
 use std::alloc::{AllocError, Global};
 use std::hash::{BuildHasher, Hash};

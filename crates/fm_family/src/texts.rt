@@ -6,10 +6,9 @@ ghost use Rattle.fm_raw.specs.declared.error.MetricError.TheVariants.{Memory};
 
 use crate::factory::DefaultFactory;
 use crate::family::Family;
-use fm_encode_error::EncodeError;
 use fm_labels::label::LabelSetEncoder;
 use fm_labels::label_set::EncodeLabelSet;
-use fm_raw::{MetricError, TryDefault};
+use fm_raw::{EncodeError, MetricError, TryDefault};
 use fm_text::owned_labels;
 use std::alloc::{AllocError, Global};
 use std::hash::{BuildHasherDefault, FoldHasher};

@@ -1,6 +1,6 @@
 -- What histograms emit.
 use Rattle.std.proofs.Common.{◌≡◌, ℤ, Bool, [], ◌∷◌, Result, inl, inr}
-use Rattle.fm_encode_error.specs.declared.EncodeError.{EncodeError}
+use Rattle.fm_raw.specs.declared.encode_error.EncodeError.{EncodeError}
 use Rattle.fm_encoder.specs.Points.{Point}
 use Rattle.fm_encoder.specs.Gathered.{GatheredPoints}
 use Rattle.fm_encoder.specs.Emits.{EmitsPoints}

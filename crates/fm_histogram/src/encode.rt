@@ -4,9 +4,8 @@ ghost use Rattle.fm_histogram.specs.Shown.{alone};
 
 use crate::sign::Sign;
 use crate::snapshot::SnapshotOf;
-use fm_encode_error::EncodeError;
 use fm_encoder::{EncodeMetric, EncodePoint, MetricEncoder, PointEncoder};
-use fm_raw::{MetricType, TypedMetric};
+use fm_raw::{EncodeError, MetricType, TypedMetric};
 use std::time::Duration;
 
 impl<S: Sign> TypedMetric for SnapshotOf<S> {

@@ -13,11 +13,10 @@ ghost use Rattle.fm_histogram.specs.Shared.{exemplar_histogram_created};
 ghost use Rattle.fm_histogram.specs.inside.Slots.{emitted};
 
 use crate::snapshot::HistogramSnapshot;
-use fm_encode_error::EncodeError;
 use fm_encoder::{
     EncodeMetric, EncodePoint, ExemplarLabels, LabeledExemplar, MetricEncoder, PointEncoder,
 };
-use fm_raw::{Fixed, MetricError, MetricType, TryDefault, TypedMetric};
+use fm_raw::{EncodeError, Fixed, MetricError, MetricType, TryDefault, TypedMetric};
 use std::alloc::{AllocError, Global};
 use std::fmt::{self, Debug, Formatter};
 use std::sync::{Arc, Mutex, Wait};

@@ -13,9 +13,8 @@ ghost use Rattle.fm_histogram.specs.Shared.{histogram_created};
 
 use crate::sign::{Any, NotNegative, Sign};
 use crate::snapshot::{GaugeHistogramSnapshot, HistogramSnapshot, SnapshotOf};
-use fm_encode_error::EncodeError;
 use fm_encoder::{EncodeMetric, EncodePoint, MetricEncoder, PointEncoder};
-use fm_raw::{Fixed, MetricError, MetricType, TryDefault, TypedMetric};
+use fm_raw::{EncodeError, Fixed, MetricError, MetricType, TryDefault, TypedMetric};
 use std::alloc::{AllocError, Global};
 use std::fmt::{self, Debug, Formatter};
 use std::sync::{Arc, Mutex, Wait};

@@ -10,9 +10,8 @@ ghost use Rattle.fm_histogram.specs.Shown.{point_of, gauge_point_of};
 ghost use Rattle.fm_labels.specs.Refusals.{NoFault};
 
 use crate::counts::Counts;
-use fm_encode_error::EncodeError;
 use fm_encoder::{PointEncoder, encode_bare_gauge_histogram, encode_bare_histogram};
-use fm_raw::{FixedSum, MetricType};
+use fm_raw::{EncodeError, FixedSum, MetricType};
 use std::time::Duration;
 
 /// Which values and bounds are taken, and the type and the point of what was counted.

@@ -3,7 +3,7 @@ use Rattle.std.proofs.Common.{◌≡◌, ℕ, List, [], ◌∷◌, ◌++◌, Non
 use Rattle.std.proofs.lemmas.List.Elements.{Contains-append_left, Contains-append_right}
 use Rattle.std.proofs.lemmas.List.{map_more, map-append, take-append-drop}
 use Rattle.std.proofs.lemmas.Grind.{flat_map-append}
-use Rattle.fm_encode_error.specs.declared.EncodeError.{EncodeError}
+use Rattle.fm_raw.specs.declared.encode_error.EncodeError.{EncodeError}
 use Rattle.fm_grammar.specs.declared.MetricType.{MetricType}
 use Rattle.fm_grammar.specs.Exposition.{Label}
 use Rattle.fm_labels.specs.Labels.{EmittedLabel, LabelsFault, LabelsValid, all_written, written, emitted_again}

@@ -1,6 +1,6 @@
 -- For label sets of a user's own: labels that are emitted one after the other, each of which declares no error of its own.
 use Rattle.std.proofs.Common.{◌≡◌, ◌⊎◌, inl, inr, List, [], ◌∷◌, Result, Ok}
-use Rattle.fm_encode_error.specs.declared.EncodeError.{EncodeError}
+use Rattle.fm_raw.specs.declared.encode_error.EncodeError.{EncodeError}
 use Rattle.fm_labels.specs.Labels.{EmittedLabel}
 use Rattle.fm_labels.specs.LabelEncoders.{GatheredLabels}
 use Rattle.fm_labels.specs.LabelEncoders.{EmitsLabels}

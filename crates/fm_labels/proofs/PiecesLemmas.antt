@@ -1,7 +1,7 @@
 -- Pieces that are emitted one part after the other.
 use Rattle.std.proofs.Common.{◌≡◌, List, [], ◌∷◌, ◌++◌, None, Result, Ok, Err, inl, inr, refl, sym, ◌∙◌, ap, subst, append_assoc, append-nil}
 use Rattle.std.proofs.lemmas.List.Elements.{Contains-append_left}
-use Rattle.fm_encode_error.specs.declared.EncodeError.{EncodeError}
+use Rattle.fm_raw.specs.declared.encode_error.EncodeError.{EncodeError}
 use Rattle.fm_grammar.specs.declared.MetricType.{MetricType}
 use Rattle.fm_grammar.specs.Exposition.{Label}
 use Rattle.fm_labels.specs.Labels.{EmittedLabel, NamePiece, ValuePiece, PieceFault, CannotBegin}

@@ -1,7 +1,7 @@
 -- What encoders refuse, and what their calls return.
 use Rattle.std.specs.Prelude.{◌≡◌, Option, Some, None, Result, Ok, Err, MatchResult, ◌⊎◌}
-use Rattle.fm_encode_error.specs.declared.EncodeError.{EncodeError}
-use Rattle.fm_encode_error.specs.declared.EncodeError.TheVariants.{Memory, MetricFault}
+use Rattle.fm_raw.specs.declared.encode_error.EncodeError.{EncodeError}
+use Rattle.fm_raw.specs.declared.encode_error.EncodeError.TheVariants.{Memory, MetricFault}
 
 -- a source that returns no error of its own
 abbrev pub NoFault : Type 0

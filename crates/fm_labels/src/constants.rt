@@ -1,6 +1,6 @@
 //! The constant labels of a registry.
 ghost use Rattle.std.specs.Prelude.{◌≡◌, ◌⊎◌, ◌++◌, [], map, None, OnOk, OnErr, IfOk, IfErr, IfSome, MatchResult};
-ghost use Rattle.fm_encode_error.specs.declared.EncodeError.{EncodeError};
+ghost use Rattle.fm_raw.specs.declared.encode_error.EncodeError.{EncodeError};
 ghost use Rattle.fm_grammar.specs.LabelPairs.{labels_of, shown_label};
 ghost use Rattle.fm_labels.specs.LabelEncoders.{EmitsLabels};
 ghost use Rattle.fm_labels.specs.Labels.{LabelsValid, LabelsFault, all_written, emitted_again};
@@ -12,8 +12,8 @@ use crate::gathered::read_labels;
 use crate::label::LabelSetEncoder;
 use crate::label_set::{EncodeLabelSet, encode_all};
 use crate::written_labels::WrittenLabels;
-use fm_encode_error::EncodeError;
 use fm_grammar::MetricType;
+use fm_raw::EncodeError;
 use fm_text::LabelText;
 use std::alloc::Global;
 use std::marker::Model;

@@ -2,7 +2,7 @@
 ghost use Rattle.std.specs.Prelude.{◌≡◌, None, Some, Err, MatchResult};
 ghost use Rattle.fm_labels.specs.Refusals.{own_refusal, IsOutcome};
 
-use fm_encode_error::EncodeError;
+use fm_raw::EncodeError;
 
 /// The first error that an encoder returned, if it returned one. From then on the encoder stays as it is, and each of its calls
 /// returns this error.

@@ -5,8 +5,8 @@ ghost use Rattle.fm_labels.specs.Refusals.{OwnRefusal};
 
 use crate::label::LabelSetEncoder;
 use crate::label_set::EncodeLabelSet;
-use fm_encode_error::EncodeError;
 use fm_grammar::MetricType;
+use fm_raw::EncodeError;
 use fm_text::LabelText;
 use std::alloc::Global;
 

@@ -1,6 +1,6 @@
 //! Labels: what emits them, and the encoders that gather them.
 ghost use Rattle.std.specs.Prelude.{◌≡◌, [], ◌∷◌, ◌++◌, Bool, Some, None, Ok, Err, OnOk, MatchResult};
-ghost use Rattle.fm_encode_error.specs.declared.EncodeError.{EncodeError};
+ghost use Rattle.fm_raw.specs.declared.encode_error.EncodeError.{EncodeError};
 ghost use Rattle.fm_labels.specs.Labels.{EmittedLabel, NamePiece, ValuePiece, NameFits, NameFault, written};
 ghost use Rattle.fm_labels.specs.LabelEncoders.{GatheredPieces, GatheredLabels, EmitsPieces, TakesPieces, TakesLabels};
 ghost use Rattle.fm_labels.specs.Refusals.{result_of, Takes, NoFault};
@@ -9,8 +9,8 @@ ghost use Rattle.fm_labels.specs.inside.Steps.{EndsLabel};
 use crate::first_refusal::{FirstRefusal, own_refusal};
 use crate::keep;
 use crate::names::is_reserved;
-use fm_encode_error::EncodeError;
 use fm_grammar::MetricType;
+use fm_raw::EncodeError;
 use fm_raw::name::is_label_name;
 use fm_text::LabelText;
 use std::marker::Model;

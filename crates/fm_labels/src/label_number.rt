@@ -6,7 +6,7 @@ ghost use Rattle.fm_labels.specs.LabelEncoders.{TakesPieces};
 ghost use Rattle.fm_labels.specs.Refusals.{NoFault};
 
 use crate::label::{EncodeLabelValue, LabelEncoder};
-use fm_encode_error::EncodeError;
+use fm_raw::EncodeError;
 use itoa::{Buffer, Integer};
 
 impl LabelEncoder {

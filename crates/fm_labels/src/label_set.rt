@@ -6,7 +6,7 @@ ghost use Rattle.fm_labels.specs.LabelEncoders.{EmitsLabels};
 ghost use Rattle.fm_labels.specs.Refusals.{NoFault};
 
 use crate::label::{EncodeLabel, EncodeLabelName, EncodeLabelValue, LabelSetEncoder};
-use fm_encode_error::EncodeError;
+use fm_raw::EncodeError;
 use std::collections::{BTreeMap, BTreeSet, LinkedList, VecDeque};
 
 /// A source of a list of labels.

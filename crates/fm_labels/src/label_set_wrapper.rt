@@ -4,7 +4,7 @@ ghost use Rattle.std.specs.Rc.{rc_value};
 
 use crate::label::LabelSetEncoder;
 use crate::label_set::EncodeLabelSet;
-use fm_encode_error::EncodeError;
+use fm_raw::EncodeError;
 use std::rc::Rc;
 use std::sync::Arc;
 

@@ -7,7 +7,7 @@ ghost use Rattle.fm_labels.specs.LabelEncoders.{TakesPieces};
 ghost use Rattle.fm_labels.specs.Refusals.{NoFault};
 
 use crate::label::{EncodeLabel, EncodeLabelName, EncodeLabelValue, LabelEncoder};
-use fm_encode_error::EncodeError;
+use fm_raw::EncodeError;
 use fm_raw::fixed::{Fixed, FixedBuffer, FixedSum};
 
 /// Borrows a text as a name or a value of a label.

@@ -6,7 +6,7 @@ ghost use Rattle.std.specs.Rc.{rc_value};
 ghost use Rattle.fm_labels.specs.Labels.{NamePiece, ValuePiece};
 
 use crate::label::{EncodeLabelName, EncodeLabelValue, LabelEncoder};
-use fm_encode_error::EncodeError;
+use fm_raw::EncodeError;
 use std::borrow::CowStr;
 use std::rc::Rc;
 use std::sync::Arc;

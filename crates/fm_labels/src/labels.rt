@@ -8,8 +8,7 @@ ghost use Rattle.fm_labels.specs.Refusals.{NoFault};
 
 use crate::label::{EncodeLabel, EncodeLabelValue, LabelEncoder, LabelSetEncoder};
 use crate::label_set::{EncodeLabelSet, LabelSlice};
-use fm_encode_error::EncodeError;
-use fm_raw::Fixed;
+use fm_raw::{EncodeError, Fixed};
 
 /// The value of a label: a text, a number or a truth value.
 #[derive(Clone, Copy, Debug, PartialEq, Eq, PartialOrd, Ord, Hash)]

@@ -16,7 +16,7 @@ pub mod written_labels;
 
 pub use constants::ConstantLabels;
 pub use first_refusal::FirstRefusal;
-pub use fm_encode_error::EncodeError;
+pub use fm_raw::EncodeError;
 pub use label::{EncodeLabel, EncodeLabelName, EncodeLabelValue, LabelEncoder, LabelSetEncoder};
 pub use label_set::{EncodeLabelSet, LabelSlice};
 pub use label_value::{LabelStr, StaticStr};

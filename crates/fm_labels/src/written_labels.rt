@@ -1,14 +1,14 @@
 //! Labels that are read once and kept, so that each later reading copies them.
 ghost use Rattle.std.specs.Prelude.{◌≡◌, [], IfOk, IfErr, IfSome};
 ghost use Rattle.fm_grammar.specs.declared.MetricType.{MetricType};
-ghost use Rattle.fm_encode_error.specs.declared.EncodeError.{EncodeError};
+ghost use Rattle.fm_raw.specs.declared.encode_error.EncodeError.{EncodeError};
 ghost use Rattle.fm_labels.specs.WrittenLabels.{AreWritten};
 ghost use Rattle.fm_labels.specs.Labels.{LabelsValid, all_written};
 
 use crate::label::LabelSetEncoder;
 use crate::label_set::EncodeLabelSet;
-use fm_encode_error::EncodeError;
 use fm_grammar::MetricType;
+use fm_raw::EncodeError;
 use fm_text::LabelText;
 use std::alloc::Global;
 use std::marker::Model;

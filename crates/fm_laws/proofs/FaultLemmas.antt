@@ -14,8 +14,8 @@ use Rattle.fm_grammar.specs.NameTests.{is_label_name}
 use Rattle.fm_grammar.specs.WellFormed.{label_code_points, IsSample}
 use Rattle.fm_raw.proofs.NameLemmas.{label_name_decides}
 use Rattle.fm_exposition.specs.inside.SameLaws.{type_decides}
-use Rattle.fm_encode_error.specs.declared.EncodeError.{EncodeError}
-use Rattle.fm_encode_error.specs.declared.EncodeError.TheVariants.{InvalidLabelName, ReservedLabel, DuplicateLabel, MalformedLabel, MissingValue, ValueTwice, KindMismatch, ExemplarCountMismatch, BucketOverflow, ExemplarTwice, ExemplarTooLong}
+use Rattle.fm_raw.specs.declared.encode_error.EncodeError.{EncodeError}
+use Rattle.fm_raw.specs.declared.encode_error.EncodeError.TheVariants.{InvalidLabelName, ReservedLabel, DuplicateLabel, MalformedLabel, MissingValue, ValueTwice, KindMismatch, ExemplarCountMismatch, BucketOverflow, ExemplarTwice, ExemplarTooLong}
 use Rattle.fm_raw.specs.declared.bucket.bound.Bucket.{Bucket}
 use Rattle.fm_labels.specs.Labels.{EmittedLabel, NamePiece, ValuePiece, IsReserved, IsMalformed, NameFits, NameFault, LabelValid, LabelFault, LabelsValid, LabelsFault, label_names, all_written, written}
 use Rattle.fm_encoder.specs.Points.{EmittedExemplar, Point, UnknownPoint, GaugePoint, CounterPoint, StateSetPoint, InfoPoint, HistogramPoint, GaugeHistogramPoint, SummaryPoint, Member, Setting, Context, NumberValid, NumberFault, ExemplarValid, ExemplarFault, BucketsValid, BucketsFault, PartsValid, PartsFault, PointValid, PointFault, SlotsDiffer, MemberValid, MemberFault, MembersValid, MembersFault, common_emitted, common_written, values_in, type_of, point_samples}

@@ -6,8 +6,8 @@ use Rattle.fm_grammar.specs.declared.MetricType.{MetricType}
 use Rattle.fm_grammar.specs.declared.MetricType.TheVariants.{Unknown}
 use Rattle.fm_grammar.specs.Exposition.{Text, Label, Value}
 use Rattle.fm_grammar.specs.WellFormed.{label_code_points}
-use Rattle.fm_encode_error.specs.declared.EncodeError.{EncodeError}
-use Rattle.fm_encode_error.specs.declared.EncodeError.TheVariants.{InvalidLabelName, ReservedLabel, DuplicateLabel, MissingValue, ValueTwice}
+use Rattle.fm_raw.specs.declared.encode_error.EncodeError.{EncodeError}
+use Rattle.fm_raw.specs.declared.encode_error.EncodeError.TheVariants.{InvalidLabelName, ReservedLabel, DuplicateLabel, MissingValue, ValueTwice}
 use Rattle.fm_raw.specs.declared.bucket.bound.Bucket.{Bucket}
 use Rattle.fm_labels.specs.Labels.{EmittedLabel, NamePiece, ValuePiece, NameFits, NameFault, LabelValid, LabelFault, LabelsValid, LabelsFault, all_written}
 use Rattle.fm_encoder.specs.Points.{EmittedExemplar, Point, UnknownPoint, GaugePoint, CounterPoint, StateSetPoint, InfoPoint, HistogramPoint, GaugeHistogramPoint, SummaryPoint, Member, Setting, Context, NumberValid, NumberFault, ExemplarValid, ExemplarFault, BucketsValid, BucketsFault, PartsValid, PartsFault, PointValid, PointFault, SlotsDiffer, MemberValid, MemberFault, MembersValid, MembersFault, common_emitted, common_written}

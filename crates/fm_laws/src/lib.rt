@@ -15,7 +15,7 @@ ghost use Rattle.fm_raw.specs.contracts.bucket.bound.BoundOrd.TheImpl.{ghosts as
 ghost use Rattle.fm_raw.specs.contracts.fixed.FixedOrd.TheImpl.{ghosts as fixed_order};
 ghost use Rattle.fm_raw.specs.contracts.fixed.FixedSumOrd.TheImpl.{ghosts as sum_order};
 ghost use Rattle.fm_raw.specs.contracts.metadata.MetadataHash.TheImpl.{ghosts as hashes};
-ghost use Rattle.fm_encode_error.specs.declared.EncodeError.{EncodeError};
+ghost use Rattle.fm_raw.specs.declared.encode_error.EncodeError.{EncodeError};
 ghost use Rattle.fm_encoder.specs.Points.{Context, Member, MembersValid, MembersFault, EmittedExemplar, Setting, values_in, bucket_samples};
 ghost use Rattle.fm_registry_model.specs.Texts.{Path};
 ghost use Rattle.fm_registry_model.specs.Taken.{AreSeparate, tails_of};

@@ -9,9 +9,10 @@ ghost use Rattle.fm_metrics.specs.Constants.{constant_total, constant_created};
 ghost use Rattle.fm_metrics.specs.NumberOrder.{IsLess};
 ghost use Rattle.fm_metrics.specs.Counters.{counter_created, counter_total};
 
-use fm_encode_error::EncodeError;
 use fm_encoder::{EncodeCounterValue, EncodeMetric, EncodePoint, MetricEncoder, PointEncoder};
-use fm_raw::{Atomic, CounterValue, MetricError, MetricType, Number, TryDefault, TypedMetric};
+use fm_raw::{
+    Atomic, CounterValue, EncodeError, MetricError, MetricType, Number, TryDefault, TypedMetric,
+};
 use std::alloc::{AllocError, Global};
 use std::fmt::{self, Debug, Formatter};
 use std::sync::{Arc, Wait};

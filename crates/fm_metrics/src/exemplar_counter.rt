@@ -9,12 +9,11 @@ ghost use Rattle.fm_metrics.specs.NumberOrder.{IsLess};
 ghost use Rattle.fm_metrics.specs.Counters.{counter_created};
 
 use crate::counter::{Count, Counter};
-use fm_encode_error::EncodeError;
 use fm_encoder::{
     EncodeCounterValue, EncodeExemplar, EncodeMetric, EncodePoint, ExemplarLabels, LabeledExemplar,
     MetricEncoder, PointEncoder,
 };
-use fm_raw::{Atomic, CounterValue, MetricError, MetricType, TryDefault, TypedMetric};
+use fm_raw::{Atomic, CounterValue, EncodeError, MetricError, MetricType, TryDefault, TypedMetric};
 use std::alloc::{AllocError, Global};
 use std::fmt::{self, Debug, Formatter};
 use std::sync::{Arc, Mutex, Wait};

@@ -6,9 +6,10 @@ ghost use Rattle.fm_raw.specs.declared.error.MetricError.TheVariants.{Memory};
 ghost use Rattle.fm_encoder.specs.Points.{GaugePoint};
 ghost use Rattle.fm_metrics.specs.Constants.{constant_value};
 
-use fm_encode_error::EncodeError;
 use fm_encoder::{EncodeGaugeValue, EncodeMetric, EncodePoint, MetricEncoder, PointEncoder};
-use fm_raw::{Atomic, GaugeValue, MetricError, MetricType, Number, TryDefault, TypedMetric};
+use fm_raw::{
+    Atomic, EncodeError, GaugeValue, MetricError, MetricType, Number, TryDefault, TypedMetric,
+};
 use std::alloc::{AllocError, Global};
 use std::fmt::{self, Debug, Formatter};
 use std::sync::{Arc, Wait};

@@ -4,9 +4,8 @@ ghost use Rattle.fm_grammar.specs.declared.MetricType.TheVariants.{Info as InfoT
 ghost use Rattle.fm_encoder.specs.Points.{InfoPoint};
 ghost use Rattle.fm_metrics.specs.Constants.{label_set_of};
 
-use fm_encode_error::EncodeError;
 use fm_encoder::{EncodeLabelSet, EncodeMetric, EncodePoint, MetricEncoder, PointEncoder};
-use fm_raw::{MetricType, TypedMetric};
+use fm_raw::{EncodeError, MetricType, TypedMetric};
 use std::time::Duration;
 
 /// An info metric: a label set that does not change.

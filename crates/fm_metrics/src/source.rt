@@ -3,11 +3,10 @@ ghost use Rattle.std.specs.Prelude.{◌≡◌, [], ◌∷◌, None, ⊤};
 ghost use Rattle.fm_grammar.specs.declared.MetricType.TheVariants.{Gauge, Counter};
 ghost use Rattle.fm_encoder.specs.Points.{GaugePoint, CounterPoint};
 
-use fm_encode_error::EncodeError;
 use fm_encoder::{
     EncodeCounterValue, EncodeGaugeValue, EncodeMetric, EncodePoint, MetricEncoder, PointEncoder,
 };
-use fm_raw::{MetricType, TypedMetric};
+use fm_raw::{EncodeError, MetricType, TypedMetric};
 use std::marker::PhantomData;
 use std::time::Duration;
 

@@ -7,9 +7,8 @@ ghost use Rattle.fm_encoder.specs.Points.{StateSetPoint};
 ghost use Rattle.fm_encoder.specs.States.{state_of};
 ghost use Rattle.fm_metrics.specs.StateSets.{IsState, IsNoState, IsStateIndex, IsVariant, IsRefusedAs, AreDifferent, states_at};
 
-use fm_encode_error::EncodeError;
 use fm_encoder::{EncodeMetric, EncodePoint, MetricEncoder, PointEncoder};
-use fm_raw::{MetricError, MetricType, TryDefault, TypedMetric};
+use fm_raw::{EncodeError, MetricError, MetricType, TryDefault, TypedMetric};
 use std::alloc::{AllocError, Global};
 use std::fmt::{self, Debug, Formatter};
 use std::marker::PhantomData;

@@ -4,10 +4,9 @@ ghost use Rattle.fm_grammar.specs.declared.MetricType.TheVariants.{Unknown as Un
 ghost use Rattle.fm_encoder.specs.Points.{UnknownPoint};
 ghost use Rattle.fm_metrics.specs.Constants.{unknown_value};
 
-use fm_encode_error::EncodeError;
 use fm_encoder::{EncodeMetric, EncodePoint, EncodeUnknownValue, MetricEncoder, PointEncoder};
 pub use fm_raw::UnknownValue;
-use fm_raw::{MetricType, TypedMetric};
+use fm_raw::{EncodeError, MetricType, TypedMetric};
 use std::time::Duration;
 
 /// A metric of unknown type that keeps the value it was made with.

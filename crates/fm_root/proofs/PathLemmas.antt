@@ -7,7 +7,7 @@ use Rattle.fm_raw.specs.declared.metadata.Unit as unit
 use Rattle.fm_grammar.specs.LabelPairs.{labels_of}
 use Rattle.fm_registry_model.specs.Texts.{Text, Path, Labels}
 use Rattle.fm_registry_model.specs.History.{History, Call, Register, Subsystem}
-use Rattle.fm_registry_model.specs.Answer.{Refusal, refusal_of, seen_error, after}
+use Rattle.fm_registry_model.specs.Answer.{Refusal, Memory, refusal_of, seen_error, after}
 use Rattle.fm_registry_model.specs.Tree.{Tree, Reads}
 use Rattle.fm_registry_model.specs.declared.RegistryError.{RegistryError}
 use Rattle.fm_registry.specs.Calls.{RunsCall, IsCall, seen_path}
@@ -35,6 +35,12 @@ module _ {M : Type 0} where
   pub told_at : (Last Told : History M → Option Refusal → Tree M → Type 0) → ((b : History M) (r : Option Refusal) (t : Tree M) → Last b r t → Told b r t)
       → (names : List (String Global)) (path : Path) (b : History M) (r : Option Refusal) (t : Tree M) → names ≡ [] → Below Last (seen_path names) path b r t → Below Told [] path b r t
   told_at Last Told tell names path b r t none below = told Last Told tell [] path b r t (subst (λ above. Below Last (seen_path above) path b r t) none below)
+
+  -- there was no memory to ask for the first subsystem on the path
+  pub unasked : (Last : History M → Option Refusal → Tree M → Type 0) (above : Path) (name : Bor Text) (rest path : List (Bor Text)) (t : Tree M)
+      → path ≡ name ∷ rest → (b : History M) → Reads t b → Below Last above (shown_path path) b (Some Memory) t
+  unasked Last above name rest path t is b reads =
+      subst (λ p. Below Last above (shown_path p) b (Some Memory) t) (sym is) (inl (Memory, refl, inl refl, reads))
 
   module _ (Types : M → MetricType → Type 0) where
     -- a call was made, and got its reply

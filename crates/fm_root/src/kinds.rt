@@ -12,7 +12,6 @@ mod one_of;
 
 pub use by_texts::{ByTexts, OfTexts};
 pub use constant::Constant;
-use fm_encode_error::EncodeError;
 use fm_encoder::{EncodeMetric, MetricEncoder};
 use fm_family::TextFamily;
 use fm_histogram::{GaugeHistogram, GaugeHistogramSnapshot, Histogram, HistogramSnapshot};
@@ -20,7 +19,7 @@ use fm_metrics::counter::{ConstCounter, Counter};
 use fm_metrics::gauge::{ConstGauge, Gauge};
 use fm_metrics::info::Info;
 use fm_metrics::unknown::Unknown;
-use fm_raw::{Fixed, MetricType};
+use fm_raw::{EncodeError, Fixed, MetricType};
 pub use number::Number;
 pub use one_of::OneOf;
 use std::sync::Wait;

@@ -1,8 +1,9 @@
 -- Values that are cut into pieces, and the histograms of the pieces.
-use Rattle.std.proofs.Common.{◌≡◌, ℕ, ◌+◌, ◌<◌, ◌≤◌, ℤ, Bool, Option, List, [], ◌∷◌, ◌++◌, None, length, get_or, take, drop, filter, flat_map, ap, sym, ◌∙◌, arith, length-append}
+use Rattle.std.proofs.Common.{◌≡◌, ◌⊎◌, inl, inr, subst, ℕ, ◌+◌, ◌<◌, ◌≤◌, ℤ, Bool, Option, List, [], ◌∷◌, ◌++◌, None, length, get_or, take, drop, filter, flat_map, ap, sym, ◌∙◌, arith, length-append}
 use Rattle.std.specs.Iterator.{Drains}
 use Rattle.std.proofs.lemmas.Iterator.{YieldsList, items_from_drains}
-use Rattle.std.proofs.lemmas.List.{take_more, take-append-drop, append-nil, map-id}
+use Rattle.std.proofs.Math.Nat.{eq-or-lt_of_le}
+use Rattle.std.proofs.lemmas.List.{take_more, take-append-drop, append-nil, map-id, get_or_push, get_or_append_left}
 use Rattle.std.proofs.lemmas.List.Concat.{flat_map-append}
 use Rattle.std.proofs.lemmas.List.Elements.{filter-append}
 use Rattle.fm_histogram.specs.Histogram.{Histogram, IsHistogram, upper_bounds}
@@ -46,3 +47,13 @@ element (x ∷ xs) i h = x
 -- what was drawn from an iterator whose items are known
 pub drained : {S A : Type 0} {steps : S → Option A → S → Type 0} {s : S} {given all : List A} → Drains steps s given → YieldsList steps (λ x. x) s all → given ≡ all
 drained {given = given} d e = sym (map-id given) ∙ items_from_drains given (d.1.0, d.1.1, λ _. (d.0, d.1.2)) e
+
+-- what holds of each element at its index, and of one more at the next, holds after a push
+pub after_push : {X : Type 0} (P : ℕ → X → Type 0) (old new : List X) (x : X) (n : ℕ) → new ≡ old ++ x ∷ [] → length old ≡ n
+    → ((k : ℕ) (d : X) → k < n → P k (get_or old k d)) → P n x → (k : ℕ) (d : X) → k < n + 1 → P k (get_or new k d)
+after_push P old new x n is len before last k d h =
+    let either : (k ≡ n) ⊎ (k < n) = eq-or-lt_of_le (omega arith) in
+    subst (λ l. P k (get_or l k d)) (sym is) (elim either [
+      | inl same ↦ subst (P k) (sym (get_or_push old x d k (len ∙ sym same))) (subst (λ i. P i x) (sym same) last)
+      | inr below ↦ subst (P k) (sym (get_or_append_left old (x ∷ []) d k (subst (λ i. k < i) (sym len) below))) (before k d below)
+    ])

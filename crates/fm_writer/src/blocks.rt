@@ -4,8 +4,8 @@ ghost use Rattle.std.specs.Io.KnownBytes.{Appends};
 ghost use Rattle.fm_exposition.specs.Written.{AppendsBeginning, IsWritersFault};
 ghost use Rattle.fm_text.specs.inside.Grown.{Grown};
 
-use fm_encode_error::EncodeError;
 use fm_exposition::write_text;
+use fm_raw::EncodeError;
 use fm_text::GrowingText;
 use std::alloc::{AllocError, Global};
 use std::io::Write;

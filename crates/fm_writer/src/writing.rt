@@ -15,8 +15,8 @@ ghost use Rattle.fm_writer.specs.inside.Utf8.{IsUtf8Family};
 
 use crate::heads::{FamilyHead, append_heads};
 use crate::rendering::{Reading, append_sample_row};
-use fm_encode_error::EncodeError;
 use fm_exposition::{Exposition, FamilySamples, Sample, parts, write_text};
+use fm_raw::EncodeError;
 use fm_text::GrowingText;
 use fm_text::labels::{Rendered, render_label_list};
 use fm_text::output::{Output, Size};

@@ -1,6 +1,6 @@
 -- A metric that admits every list of members offers what another one offers, and one thing after the other.
 use Rattle.std.proofs.Common.{◌≡◌, List, Result, Ok, None, refl}
-use Rattle.fm_encode_error.specs.declared.EncodeError.{EncodeError}
+use Rattle.fm_raw.specs.declared.encode_error.EncodeError.{EncodeError}
 use Rattle.fm_encoder.specs.Points.{Member, Point}
 use Rattle.fm_encoder.specs.Gathered.{GatheredMembers, GatheredPoints}
 use Rattle.fm_encoder.specs.Emits.{EmitsMembers, EmitsPoints}

@@ -1,9 +1,9 @@
 //! The OpenMetrics text format: collecting a registry, writing its document, and reading documents back.
 
 pub use crate::scrape::{collect, encode};
-pub use fm_encode_error::EncodeError;
 pub use fm_exposition::{Exemplar, Exposition, FamilySamples, Sample, Value};
 pub use fm_grammar::SampleKind;
+pub use fm_raw::EncodeError;
 pub use fm_reader::{ReadError, read};
 pub use fm_writer::encode_exposition;
 

@@ -4,7 +4,7 @@ ghost use Rattle.std.specs.List.{AllByRecursion};
 ghost use Rattle.std.specs.String.{string_bytes};
 ghost use Rattle.fm_grammar.specs.Exposition.{Exposition};
 ghost use Rattle.fm_grammar.specs.Reading.{IsExposition};
-ghost use Rattle.fm_encode_error.specs.declared.EncodeError.{EncodeError};
+ghost use Rattle.fm_raw.specs.declared.encode_error.EncodeError.{EncodeError};
 ghost use Rattle.fm_exposition.specs.inside.DocumentRows.{document_rows};
 ghost use Rattle.fm_exposition.specs.Written.{AppendsDocument, AppendsBeginningOfDocument, IsWritersFault};
 ghost use Rattle.fm_registry_model.specs.Listing.{listed_name, own_metrics, order, IsListable};
@@ -16,8 +16,8 @@ ghost use Rattle.fm_core.specs.inside.Documents.{text_so_far, HasLines, AddsNext
 
 use crate::scrape::family::join_name;
 use crate::scrape::taking::take_family;
-use fm_encode_error::EncodeError;
 use fm_encoder::{EncodeMetric, MetricEncoder, collector};
+use fm_raw::EncodeError;
 use fm_registry::{ListedMetric, Registry};
 use fm_writer::TextBlocks;
 use std::alloc::{AllocError, Global};

@@ -2,16 +2,15 @@
 ghost use Rattle.std.specs.Prelude.{◌≡◌, ◌⊎◌, None, MatchResult, IfErr, IfSome, OnOk, string_bytes};
 ghost use Rattle.fm_grammar.specs.Names.{IsSnakeCase};
 ghost use Rattle.fm_grammar.specs.WellFormed.{AreMillis};
-ghost use Rattle.fm_encode_error.specs.declared.EncodeError.{EncodeError};
+ghost use Rattle.fm_raw.specs.declared.encode_error.EncodeError.{EncodeError};
 ghost use Rattle.fm_writer.specs.Output.{with_lines};
 ghost use Rattle.fm_encoder.specs.Offers.{MetricHasFault, context_at};
 ghost use Rattle.fm_core.specs.inside.Documents.{rows_before};
 ghost use Rattle.fm_core.specs.inside.Offered.{Offered};
 
 use crate::scrape::family::text_of;
-use fm_encode_error::EncodeError;
 use fm_encoder::{EncodeMetric, MetricEncoder, collector, whole_millis};
-use fm_raw::Metadata;
+use fm_raw::{EncodeError, Metadata};
 use fm_writer::FamilyHead;
 use std::alloc::Global;
 

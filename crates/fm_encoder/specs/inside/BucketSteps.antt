@@ -6,8 +6,8 @@ use Rattle.fm_grammar.specs.declared.MetricType.TheVariants.{Histogram, GaugeHis
 use Rattle.fm_grammar.specs.declared.SampleKind.{SampleKind}
 use Rattle.fm_grammar.specs.declared.SampleKind.TheVariants.{Count, Sum, GCount, GSum}
 use Rattle.fm_grammar.specs.WellFormed.{IsSample}
-use Rattle.fm_encode_error.specs.declared.EncodeError.{EncodeError}
-use Rattle.fm_encode_error.specs.declared.EncodeError.TheVariants.{KindMismatch, ExemplarCountMismatch, BucketOverflow}
+use Rattle.fm_raw.specs.declared.encode_error.EncodeError.{EncodeError}
+use Rattle.fm_raw.specs.declared.encode_error.EncodeError.TheVariants.{KindMismatch, ExemplarCountMismatch, BucketOverflow}
 use Rattle.fm_raw.specs.declared.bucket.bound.Bucket.{Bucket}
 use Rattle.fm_writer.specs.Output.{appended}
 use Rattle.fm_encoder.specs.Points.{EmittedExemplar, ExemplarValid, ExemplarFault, values_in, BucketsFault, bucket_samples}

@@ -5,8 +5,8 @@ use Rattle.fm_grammar.specs.declared.MetricType.{MetricType}
 use Rattle.fm_grammar.specs.declared.SampleKind.{SampleKind}
 use Rattle.fm_grammar.specs.Exposition.{Value, Whole, Fixed, Millis, Exemplar, Sample, Text}
 use Rattle.fm_grammar.specs.WellFormed.{ValueFits, ValueSuits, kinds_of, ExemplarAllowed, IsExemplar, IsSample}
-use Rattle.fm_encode_error.specs.declared.EncodeError.{EncodeError}
-use Rattle.fm_encode_error.specs.declared.EncodeError.TheVariants.{Memory, DuplicateLabel, MalformedLabel, ValueTwice, MissingValue, KindMismatch}
+use Rattle.fm_raw.specs.declared.encode_error.EncodeError.{EncodeError}
+use Rattle.fm_raw.specs.declared.encode_error.EncodeError.TheVariants.{Memory, DuplicateLabel, MalformedLabel, ValueTwice, MissingValue, KindMismatch}
 use Rattle.fm_writer.specs.Output.{appended}
 use Rattle.fm_labels.specs.Labels.{EmittedLabel, label_names, LabelsFault, LabelsValid, LabelValid, IsMalformed, written, all_written, NamePiece, ValuePiece}
 use Rattle.fm_labels.specs.LabelEncoders.{GatheredPieces}

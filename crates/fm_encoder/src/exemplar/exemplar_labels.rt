@@ -2,16 +2,16 @@
 ghost use Rattle.std.specs.Prelude.{◌≡◌, ℕ, ℤ, ◌⊎◌, ◌<◌, [], MatchResult, Option};
 ghost use Rattle.fm_grammar.specs.declared.MetricType.TheVariants.{Unknown};
 ghost use Rattle.fm_grammar.specs.WellFormed.{label_code_points};
-ghost use Rattle.fm_encode_error.specs.declared.EncodeError.TheVariants.{ExemplarTooLong};
+ghost use Rattle.fm_raw.specs.declared.encode_error.EncodeError.TheVariants.{ExemplarTooLong};
 ghost use Rattle.fm_labels.specs.Labels.{LabelsFault, all_written, emitted_again};
 ghost use Rattle.fm_encoder.specs.Points.{ExemplarPartsValid};
 ghost use Rattle.fm_labels.specs.Refusals.{OwnRefusal};
 
 use crate::exemplar::written_labels;
-use fm_encode_error::EncodeError;
 use fm_exposition::code_points::are_short;
 use fm_labels::label::LabelSetEncoder;
 use fm_labels::label_set::{EncodeLabelSet, encode_written};
+use fm_raw::EncodeError;
 use std::alloc::Global;
 use std::marker::Model;
 

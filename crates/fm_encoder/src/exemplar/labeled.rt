@@ -4,8 +4,8 @@ ghost use Rattle.std.specs.Option.{option_map};
 ghost use Rattle.fm_encoder.specs.Points.{millis};
 
 use crate::exemplar::{EncodeExemplar, ExemplarEncoder};
-use fm_encode_error::EncodeError;
 use fm_labels::label_set::EncodeLabelSet;
+use fm_raw::EncodeError;
 use fm_raw::fixed::Fixed;
 use std::time::Duration;
 

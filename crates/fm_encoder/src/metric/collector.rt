@@ -2,7 +2,7 @@
 ghost use Rattle.std.specs.Prelude.{◌≡◌, [], ◌⊎◌, None, Some, IfSome, IsSome, OnOk, OnErr, IfOk, IfErr, Err, string_bytes};
 ghost use Rattle.fm_grammar.specs.Names.{IsSnakeCase};
 ghost use Rattle.fm_grammar.specs.WellFormed.{AreMillis};
-ghost use Rattle.fm_encode_error.specs.declared.EncodeError.{EncodeError};
+ghost use Rattle.fm_raw.specs.declared.encode_error.EncodeError.{EncodeError};
 ghost use Rattle.fm_exposition.specs.Rows.{head_rows};
 ghost use Rattle.fm_grammar.specs.LabelPairs.{labels_of};
 ghost use Rattle.fm_writer.specs.Heads.{headed};
@@ -14,11 +14,11 @@ ghost use Rattle.fm_encoder.specs.Takes.{TakesMembers};
 
 use crate::metric::MetricEncoder;
 use crate::point::{EncodePoint, PointEncoder};
-use fm_encode_error::EncodeError;
 use fm_exposition::SampleStore;
 use fm_labels::constants::ConstantLabels;
 use fm_labels::label_set::EncodeLabelSet;
 use fm_labels::written_labels::WrittenLabels;
+use fm_raw::EncodeError;
 use fm_writer::{FamilyHead, Sink, TextBlocks};
 use std::alloc::{AllocError, Global};
 

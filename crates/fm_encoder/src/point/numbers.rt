@@ -15,9 +15,9 @@ use crate::value::{
     CounterValueEncoder, EncodeCounterValue, EncodeGaugeValue, EncodeUnknownValue,
     GaugeValueEncoder, UnknownValueEncoder,
 };
-use fm_encode_error::EncodeError;
 use fm_exposition::Value;
 use fm_grammar::{MetricType, SampleKind};
+use fm_raw::EncodeError;
 use std::time::Duration;
 
 impl PointEncoder {

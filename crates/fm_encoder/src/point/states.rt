@@ -10,11 +10,11 @@ ghost use Rattle.fm_encoder.specs.Takes.{TakesPoints};
 ghost use Rattle.fm_encoder.specs.inside.Steps.{PushesSample, PushesSamples, TestsStates};
 
 use crate::point::PointEncoder;
-use fm_encode_error::EncodeError;
 use fm_exposition::Value;
 use fm_grammar::{MetricType, SampleKind};
 use fm_labels::gathered::read_labels_after;
 use fm_labels::label_set::EncodeLabelSet;
+use fm_raw::EncodeError;
 use fm_text::LabelText;
 
 impl PointEncoder {

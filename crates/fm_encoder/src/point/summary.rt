@@ -9,9 +9,9 @@ ghost use Rattle.fm_encoder.specs.Takes.{TakesPoints};
 ghost use Rattle.fm_encoder.specs.inside.Steps.{PushesSample, PushesSamples};
 
 use crate::point::PointEncoder;
-use fm_encode_error::EncodeError;
 use fm_exposition::Value;
 use fm_grammar::{MetricType, SampleKind};
+use fm_raw::EncodeError;
 use fm_raw::fixed::{FixedBuffer, FixedSum};
 use fm_raw::quantile::{QUANTILE_LABEL, Quantile};
 use fm_text::LabelText;

@@ -12,9 +12,9 @@ ghost use Rattle.fm_encoder.specs.inside.Steps.{PushesSamples};
 ghost use Rattle.fm_encoder.specs.inside.BucketSteps.{HasTotals};
 
 use crate::point::PointEncoder;
-use fm_encode_error::EncodeError;
 use fm_exposition::Value;
 use fm_grammar::SampleKind;
+use fm_raw::EncodeError;
 use fm_raw::fixed::FixedSum;
 use std::time::Duration;
 

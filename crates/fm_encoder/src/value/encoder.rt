@@ -1,15 +1,15 @@
 //! The encoders of one number, which differ in the calls that they have.
 ghost use Rattle.std.specs.Prelude.{◌≡◌, ◌⊎◌, pos, [], ◌∷◌, MatchResult, None, Some, Ok, Err};
 ghost use Rattle.fm_grammar.specs.Exposition.{Whole, Fixed as Millionths};
-ghost use Rattle.fm_encode_error.specs.declared.EncodeError.{EncodeError};
+ghost use Rattle.fm_raw.specs.declared.encode_error.EncodeError.{EncodeError};
 ghost use Rattle.fm_exposition.specs.Samples.{value_of};
 ghost use Rattle.fm_labels.specs.Refusals.{own_refusal, NoFault};
 ghost use Rattle.fm_encoder.specs.Takes.{TakesNumbers};
 ghost use Rattle.fm_encoder.specs.inside.Steps.{IsNumber};
 
-use fm_encode_error::EncodeError;
 use fm_exposition::Value;
 use fm_labels::first_refusal::{FirstRefusal, own_refusal};
+use fm_raw::EncodeError;
 use fm_raw::fixed::{Fixed, FixedSum};
 use std::marker::{Model, PhantomData};
 

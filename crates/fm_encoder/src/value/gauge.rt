@@ -4,7 +4,7 @@ ghost use Rattle.fm_grammar.specs.Exposition.{Value as Number, Whole, Fixed as M
 ghost use Rattle.fm_encoder.specs.Emits.{EmitsNumbers};
 
 use crate::value::encoder::{OfGauge, ValueEncoder};
-use fm_encode_error::EncodeError;
+use fm_raw::EncodeError;
 use fm_raw::fixed::Fixed;
 
 /// Takes the value of a gauge, which is one number.

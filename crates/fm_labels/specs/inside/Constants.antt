@@ -3,7 +3,7 @@ use Rattle.std.specs.Prelude.{◌≡◌, ℕ, List, [], Option, Some, None}
 use Rattle.fm_grammar.specs.declared.MetricType.{MetricType}
 use Rattle.fm_grammar.specs.declared.MetricType.TheVariants.{Histogram, GaugeHistogram, Summary}
 use Rattle.fm_grammar.specs.Exposition.{Label}
-use Rattle.fm_encode_error.specs.declared.EncodeError.{EncodeError}
+use Rattle.fm_raw.specs.declared.encode_error.EncodeError.{EncodeError}
 use Rattle.fm_labels.specs.Labels.{LabelsValid, LabelsFault, emitted_again}
 
 -- the labels, and why no point is accepted under them, if one of them is not valid

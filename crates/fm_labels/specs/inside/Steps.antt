@@ -2,8 +2,8 @@
 use Rattle.std.specs.Prelude.{◌≡◌, [], ◌++◌, Option, Some, None, Result, Ok, Err, ◌⊎◌}
 use Rattle.std.specs.Option.{option_to_list, option_map}
 use Rattle.fm_grammar.specs.Exposition.{Text}
-use Rattle.fm_encode_error.specs.declared.EncodeError.{EncodeError}
-use Rattle.fm_encode_error.specs.declared.EncodeError.TheVariants.{Memory, MalformedLabel}
+use Rattle.fm_raw.specs.declared.encode_error.EncodeError.{EncodeError}
+use Rattle.fm_raw.specs.declared.encode_error.EncodeError.TheVariants.{Memory, MalformedLabel}
 use Rattle.fm_labels.specs.Labels.{EmittedLabel, LabelValid, IsMalformed, written, NamePiece, ValuePiece}
 use Rattle.fm_labels.specs.LabelEncoders.{GatheredPieces}
 use Rattle.fm_labels.specs.Refusals.{own_refusal}

@@ -4,8 +4,8 @@ ghost use Rattle.fm_labels.specs.Refusals.{IsOutcome};
 
 use crate::first_refusal::FirstRefusal;
 use crate::label::{LabelEncoder, LabelSetEncoder};
-use fm_encode_error::EncodeError;
 use fm_grammar::MetricType;
+use fm_raw::EncodeError;
 use fm_text::LabelText;
 use std::alloc::{AllocError, Global};
 

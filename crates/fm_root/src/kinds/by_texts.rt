@@ -1,13 +1,12 @@
 //! Families by texts.
 ghost use Rattle.fm_root.specs.declared.kinds.by_texts.ByTexts.TheVariants.{Counters, FixedCounters, Gauges, FixedGauges, Histograms, GaugeHistograms};
 
-use fm_encode_error::EncodeError;
 use fm_encoder::{EncodeMetric, EncodePoint, MetricEncoder};
 use fm_family::TextFamily;
 use fm_histogram::{GaugeHistogram, Histogram};
 use fm_metrics::counter::Counter;
 use fm_metrics::gauge::Gauge;
-use fm_raw::{Fixed, MetricType, TypedMetric};
+use fm_raw::{EncodeError, Fixed, MetricType, TypedMetric};
 use std::sync::Wait;
 use std::time::Duration;
 

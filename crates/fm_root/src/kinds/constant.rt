@@ -1,14 +1,13 @@
 //! Metrics that never change.
 ghost use Rattle.fm_root.specs.declared.kinds.constant.Constant.TheVariants.{Info, Counter, FixedCounter, Gauge, FixedGauge, Unknown, FixedUnknown, Histogram, GaugeHistogram};
 
-use fm_encode_error::EncodeError;
 use fm_encoder::{EncodeMetric, MetricEncoder};
 use fm_histogram::{GaugeHistogramSnapshot, HistogramSnapshot};
 use fm_metrics::counter::ConstCounter;
 use fm_metrics::gauge::ConstGauge;
 use fm_metrics::info::Info;
 use fm_metrics::unknown::Unknown;
-use fm_raw::{Fixed, MetricType};
+use fm_raw::{EncodeError, Fixed, MetricType};
 use std::time::Duration;
 
 /// A metric that never changes.

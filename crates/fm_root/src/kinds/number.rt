@@ -1,11 +1,10 @@
 //! Counters and gauges.
 ghost use Rattle.fm_root.specs.declared.kinds.number.Number.TheVariants.{Counter, FixedCounter, Gauge, FixedGauge};
 
-use fm_encode_error::EncodeError;
 use fm_encoder::{EncodeMetric, MetricEncoder};
 use fm_metrics::counter::Counter;
 use fm_metrics::gauge::Gauge;
-use fm_raw::{Fixed, MetricType};
+use fm_raw::{EncodeError, Fixed, MetricType};
 use std::time::Duration;
 
 /// A counter or a gauge.

@@ -1,9 +1,8 @@
 //! Metrics of one of two kinds.
 ghost use Rattle.fm_root.specs.declared.kinds.one_of.OneOf.TheVariants.{First, Second};
 
-use fm_encode_error::EncodeError;
 use fm_encoder::{EncodeMetric, MetricEncoder};
-use fm_raw::MetricType;
+use fm_raw::{EncodeError, MetricType};
 use std::time::Duration;
 
 /// A metric of one of two types. A program with more own types than two has a `OneOf` in a `OneOf`.

@@ -7,8 +7,8 @@ ghost use Rattle.fm_encoder.specs.Takes.{TakesPoints};
 ghost use Rattle.fm_encoder.specs.inside.BucketSteps.{HasBuckets, PushesBuckets};
 
 use crate::point::PointEncoder;
-use fm_encode_error::EncodeError;
 use fm_grammar::{MetricType, SampleKind};
+use fm_raw::EncodeError;
 use fm_raw::bucket::Bucket;
 use fm_raw::fixed::FixedSum;
 use std::time::Duration;

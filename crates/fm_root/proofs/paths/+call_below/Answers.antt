@@ -3,7 +3,7 @@ use Rattle.std.proofs.lemmas.Result.{err_from_is_err_and}
 use Rattle.fm_registry.specs.Calls.{seen_path}
 use Rattle.fm_registry.proofs.GrowthLemmas.{Grows-same, Grows-then}
 use Rattle.fm_root.proofs.RootLemmas.{path-pushed}
-use Rattle.fm_root.proofs.PathLemmas.{ended, replied, refused, gone_on}
+use Rattle.fm_root.proofs.PathLemmas.{ended, unasked, replied, refused, gone_on}
 use Rattle.fm_root.proofs.paths.+call_below.Goals as goal
 
 pub returns-in_err-ask-in-Some-clause-grows : goal.returns-in_err-ask-in-Some-clause-grows
@@ -27,6 +27,11 @@ returns-in_err-run_call-in-Some-clause-calls g t c =
     let exit = err_from_is_err_and c.from_residual-in_err-run_call-in-Some.result c.from_residual-in_err-run_call-in-Some.ensures.1 in
     rw (exit.1, exit.2)
     (refused g.M.EncodeMetric.types _ _ _ _ c.args.path.now _ _ _ _ c.in-Some.ensures.cases.0 c.in_ok-ask-in-Some.ensures c.in_err-run_call-in-Some.ensures.runs)
+
+pub returns-in_err-push-in-Some-clause-calls : goal.returns-in_err-push-in-Some-clause-calls
+returns-in_err-push-in-Some-clause-calls g t c =
+    let exit = err_from_is_err_and c.from_residual-in_err-push-in-Some.result c.from_residual-in_err-push-in-Some.ensures.1 in
+    rw (exit.1, exit.2) (unasked _ _ _ _ c.args.path.now _ c.in-Some.ensures.cases.0)
 
 pub returns-in_ok-run_call-in-Some-clause-calls : goal.returns-in_ok-run_call-in-Some-clause-calls
 returns-in_ok-run_call-in-Some-clause-calls g t c =

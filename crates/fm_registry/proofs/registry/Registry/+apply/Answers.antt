@@ -1,4 +1,4 @@
-use Rattle.std.proofs.Common.{sym, ap, ◌∙◌}
+use Rattle.std.proofs.Common.{sym, ap, ◌∙◌, rules}
 use Rattle.std.specs.String.{string_bytes}
 use Rattle.fm_registry_model.specs.inside.Forests.{index_in}
 use Rattle.fm_registry_model.specs.Answer.{refusal_of}
@@ -11,6 +11,9 @@ use Rattle.fm_registry.proofs.registry.Registry.+apply.Goals as goal
 
 pub subsystem_at-requires : goal.subsystem_at-requires
 subsystem_at-requires g t c = (index_in-IsIndex _ _ _ (sym c.index_of.ensures ∙ c.in-Some-index_of.is)).there
+
+pub returns-in-None-clause-ok : goal.returns-in-None-clause-ok
+returns-in-None-clause-ok g t c = search rules
 
 pub returns-in-None-index_of-clause-reply : goal.returns-in-None-index_of-clause-reply
 returns-in-None-index_of-clause-reply g t c =

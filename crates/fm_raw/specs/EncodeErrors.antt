@@ -1,7 +1,7 @@
 -- The numbers of the errors.
 use Rattle.std.specs.Prelude.{ℕ}
-use Rattle.fm_encode_error.specs.declared.EncodeError.{EncodeError}
-use Rattle.fm_encode_error.specs.declared.EncodeError.TheVariants.{Memory, InvalidLabelName, ReservedLabel, DuplicateLabel, MalformedLabel, MissingValue, ValueTwice, ExemplarCountMismatch, BucketOverflow, KindMismatch, ExemplarTwice, ExemplarTooLong, MetricFault, Write, WriteZero}
+use Rattle.fm_raw.specs.declared.encode_error.EncodeError.{EncodeError}
+use Rattle.fm_raw.specs.declared.encode_error.EncodeError.TheVariants.{Memory, InvalidLabelName, ReservedLabel, DuplicateLabel, MalformedLabel, MissingValue, ValueTwice, ExemplarCountMismatch, BucketOverflow, KindMismatch, ExemplarTwice, ExemplarTooLong, MetricFault, Write, WriteZero}
 
 abbrev pub error_number : EncodeError → ℕ
 error_number Memory = 1

@@ -1,9 +1,7 @@
 //! `EncodeError`: why collecting or writing an exposition fails.
-#![tactic(auto)]
-
 ghost use Rattle.std.specs.Prelude.{◌≡◌};
-ghost use Rattle.fm_encode_error.specs.EncodeErrors.{error_number};
-ghost use Rattle.fm_encode_error.specs.declared.EncodeError.TheVariants.{Memory};
+ghost use Rattle.fm_raw.specs.EncodeErrors.{error_number};
+ghost use Rattle.fm_raw.specs.declared.encode_error.EncodeError.TheVariants.{Memory};
 
 use std::alloc::{AllocError, AllocFailed};
 use thiserror::Error;
