@@ -163,9 +163,8 @@ class Crate:
         words += ["--antt-project", f"{KIT}/rattle/logic/antt-project.json", "--logic-built", f"{KIT}/logic_built"]
         return [*words, "--links", f"{self.name}=never", "--jobs", "1"]
 
-    def checked_with(self, wrongs, crates, run, proved):
-        """What a check of the functions of these wrong bodies says of a copy in which they stand, and the functions of each. What is proved is kept for
-        the next."""
+    def checked_with(self, wrongs, crates, run):
+        """What a check of the functions of these wrong bodies says of a copy in which they stand, and the functions of each."""
         with tempfile.TemporaryDirectory(prefix="wrong-bodies-") as room:
             for part in ("src", "specs", "proofs"):
                 if os.path.isdir(f"{self.folder}/{part}"):
@@ -179,7 +178,7 @@ class Crate:
             only = [word for path in sorted(paths) for word in ("--only", path)] if "" not in paths else []
             how = {"stdin": subprocess.DEVNULL, "stdout": subprocess.PIPE, "stderr": subprocess.STDOUT, "errors": "replace"}
             half = [] if run.is_full else ["--margin"]
-            return subprocess.run([*self.words(crates, run), "--incremental", proved, *half, *only], cwd=room, **how).stdout, functions
+            return subprocess.run([*self.words(crates, run), *half, *only], cwd=room, **how).stdout, functions
 
     def unproved(self, crates, run):
         """The functions that its wrong bodies change, and those of them that aren't proved where what is right stands in the place of each."""
@@ -187,8 +186,7 @@ class Crate:
         for batch in self.batches():
             for wrong in batch:
                 wrong.pairs = [[old, old] for old, _ in wrong.pairs]
-            with tempfile.TemporaryDirectory(prefix="right-kept-") as proved:
-                said, functions = self.checked_with(batch, crates, run, proved)
+            said, functions = self.checked_with(batch, crates, run)
             found = [it for several in functions for it in several if it.name]
             tried += found
             for it in found:
@@ -206,18 +204,17 @@ class Crate:
     def tried(self, crates, run):
         """Each of its wrong bodies, with the least that is said of it: the kind of what refuses it and its text, or None."""
         answers = []
-        with tempfile.TemporaryDirectory(prefix="wrong-bodies-kept-") as proved:
-            for batch in self.batches():
-                key = kept.sum_of(self.rests_on(crates, run), kept.files_in([f"{self.folder}/src"]), batch)
-                found = not run.is_full and kept.given(key) or self.refusals_of(batch, crates, run, proved)
-                if all(it and it[0] < 2 for it in found):
-                    kept.keep(key, found)
-                answers += zip(batch, found)
+        for batch in self.batches():
+            key = kept.sum_of(self.rests_on(crates, run), kept.files_in([f"{self.folder}/src"]), batch)
+            found = not run.is_full and kept.given(key) or self.refusals_of(batch, crates, run)
+            if all(it and it[0] < 2 for it in found):
+                kept.keep(key, found)
+            answers += zip(batch, found)
         return answers
 
-    def refusals_of(self, batch, crates, run, proved):
+    def refusals_of(self, batch, crates, run):
         """The same of those that are tried together."""
-        said, functions = self.checked_with(batch, crates, run, proved)
+        said, functions = self.checked_with(batch, crates, run)
         named = [sorted(it for function in found for it in function.refusals(said)) if is_refusal(said) else [] for found in functions]
         return [it[0] if it else None for it in named]
 
