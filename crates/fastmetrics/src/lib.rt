@@ -12,7 +12,16 @@
 
 pub use fm_core::{encoder, format};
 pub use fm_laws as laws;
-pub use fm_raw as raw;
+
+pub mod raw {
+    //! Numbers, texts of names, units and metadata, buckets and quantiles.
+    pub use fm_raw::{
+        Atomic, CounterValue, Fixed, FixedBuffer, FixedSum, GaugeValue, Metadata, MetricError,
+        MetricType, Number, TryDefault, TypedMetric, Unit, UnknownValue, atomic, bucket, error,
+        fixed, is_label_name, is_snake_case, is_unit_text, metadata, name, number, quantile,
+        try_default, types, value,
+    };
+}
 
 pub mod metrics {
     //! The types of metrics: those whose value is fixed or asked for, and those that threads count with.
