@@ -13,7 +13,6 @@ mod many;
 mod pool;
 mod registries;
 mod roots;
-mod states;
 mod threads;
 
 fn main(rt: HostRuntime) -> anyhow::Result<()> {

@@ -1,5 +1,5 @@
-//! Labels and metrics of a program's own: requests, how many of them wait in a queue, a counter and a histogram with an exemplar, a summary,
-//! and a gauge with the timestamp of its value.
+//! Labels, states and metrics of a program's own: requests, how many of them wait in a queue, how far a job is, a counter and a
+//! histogram with an exemplar, a summary, and a gauge with the timestamp of its value.
 #![tactic(auto)]
 
 ghost use Rattle.std.specs.Prelude.{◌≡◌, [], ◌∷◌, pos, codes, decimal, string_bytes};
@@ -12,6 +12,7 @@ pub mod counters;
 pub mod histograms;
 pub mod readings;
 pub mod request;
+pub mod states;
 pub mod summaries;
 
 pub use counters::Returned;

@@ -1,6 +1,6 @@
 //! How far a job is.
 ghost use Rattle.std.specs.Prelude.{[], ◌∷◌, codes};
-ghost use Rattle.calling.specs.declared.states.Job.TheVariants.{Waiting, Running};
+ghost use Rattle.own_metric.specs.declared.states.Job.TheVariants.{Waiting, Running};
 
 use fastmetrics::metrics::state_set::{StateSet, StateSetValue};
 use fastmetrics::raw::MetricError;
