@@ -1,8 +1,8 @@
 //! The document of a registry, and whether all ways to it agree.
-use crate::stop::Stop;
 use fastmetrics::encoder::EncodeMetric;
 use fastmetrics::format::text::{EncodeError, Exposition, encode_exposition, read};
 use fastmetrics::registry::Root;
+use replay_metrics::stop::Stop;
 use std::alloc::Global;
 use std::sync::Wait;
 

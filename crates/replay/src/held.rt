@@ -1,16 +1,16 @@
 //! Metrics that calls change, and families of them.
-use crate::bounds::bounds_of;
 use crate::kind::{Kind, Registered};
-use crate::label::Labels;
-use crate::line::Line;
-use crate::live::{Factory, Live, LiveKind};
-use crate::numbers::{NumberKind, number_kind_of};
-use crate::operation::Operation;
-use crate::state_sets::{States, StatesFactory, states_kind_of};
-use crate::stop::Stop;
 use fastmetrics::metrics::family::{Family, MetricFactory};
 use fastmetrics::raw::MetricType;
 use fastmetrics::registry::OneOf;
+use replay_metrics::bounds::bounds_of;
+use replay_metrics::label::Labels;
+use replay_metrics::line::Line;
+use replay_metrics::live::{Factory, Live, LiveKind};
+use replay_metrics::numbers::{NumberKind, number_kind_of};
+use replay_metrics::operation::Operation;
+use replay_metrics::state_sets::{States, StatesFactory, states_kind_of};
+use replay_metrics::stop::Stop;
 use std::alloc::{AllocError, Global};
 use std::hash::{BuildHasherDefault, FoldHasher};
 use std::sync::Wait;

@@ -1,18 +1,18 @@
 //! Metrics of every kind that a script may register.
 ghost use Rattle.std.specs.Prelude.{⊤};
 
-use crate::const_states::{ConstStates, const_states_of};
-use crate::constant::{Constant, constant_of, is_constant};
 use crate::held::{Members, StatesMembers};
-use crate::line::Line;
-use crate::live::Live;
-use crate::point::Point;
-use crate::shapes::{point_of, told_states_of};
-use crate::state_sets::States;
-use crate::stop::Stop;
 use fastmetrics::encoder::{EncodeError, EncodeMetric, MetricEncoder};
 use fastmetrics::raw::MetricType;
 use fastmetrics::registry::OneOf;
+use replay_metrics::const_states::{ConstStates, const_states_of};
+use replay_metrics::constant::{Constant, constant_of, is_constant};
+use replay_metrics::line::Line;
+use replay_metrics::live::Live;
+use replay_metrics::point::Point;
+use replay_metrics::shapes::{point_of, told_states_of};
+use replay_metrics::state_sets::States;
+use replay_metrics::stop::Stop;
 use std::alloc::Global;
 use std::sync::Wait;
 use std::time::Duration;
@@ -74,7 +74,7 @@ impl<H: Wait + Clone + Send + Sync + Drop> EncodeMetric for Kind<H> {
 
     ghost may_fault = { λ _. ⊤ };
 
-    #[tactic(auto, using(crate::proofs::AnyMembers::any_members))]
+    #[tactic(auto, using(replay_metrics::proofs::AnyMembers::any_members))]
     fn encode(&self, encoder: &mut MetricEncoder) -> Result<(), EncodeError> {
         match self {
             Kind::Live(metric) => EncodeMetric::encode(metric, encoder),

@@ -59,37 +59,21 @@
 //! script ends the run with status 2.
 #![tactic(auto)]
 
-mod bounds;
-mod const_states;
-mod constant;
 mod document;
 mod held;
-mod histograms;
 mod kind;
-mod label;
-mod line;
-mod live;
-mod number;
-mod numbers;
-mod operation;
 mod places;
-mod point;
 mod reading;
-mod shapes;
-mod state_sets;
-mod states;
-mod stop;
 mod units;
-mod words;
 mod world;
 
 use kind::Registered;
-use line::Line;
+use replay_metrics::line::Line;
+use replay_metrics::stop::Stop;
 use std::alloc::{AllocError, Global};
 use std::io;
 use std::process::ExitCode;
 use std::sync::Wait;
-use stop::Stop;
 use world::World;
 
 // A world with an empty registry.

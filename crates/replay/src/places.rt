@@ -1,10 +1,10 @@
 //! Where the registries of a script are.
 use crate::held::Held;
-use crate::label::constant_labels;
-use crate::line::Line;
-use crate::stop::Stop;
 use fastmetrics::encoder::EncodeMetric;
 use fastmetrics::registry::{Registry, RegistryBuilder, Root};
+use replay_metrics::label::constant_labels;
+use replay_metrics::line::Line;
+use replay_metrics::stop::Stop;
 use std::alloc::Global;
 use std::sync::Wait;
 

@@ -1,8 +1,8 @@
 //! Documents that scripts have read.
 use crate::document::rewrite;
-use crate::line::Line;
-use crate::stop::Stop;
 use fastmetrics::format::text::{ReadError, read};
+use replay_metrics::line::Line;
+use replay_metrics::stop::Stop;
 use std::alloc::Global;
 
 // The text of a line's words after the first one.

@@ -1,6 +1,6 @@
 //! The units of scripts.
-use crate::stop::Stop;
 use fastmetrics::raw::Unit;
+use replay_metrics::stop::Stop;
 use std::alloc::Global;
 
 // The usual unit that a word names.

@@ -2,15 +2,15 @@
 use crate::document::document;
 use crate::held::{Held, held_of};
 use crate::kind::{Registered, kind_of};
-use crate::label::borrowed_labels;
-use crate::line::Line;
-use crate::operation::{Operation, operation_of};
 use crate::places::{builder_of, find, go, longer, path_of};
 use crate::reading::{read_again, read_beginnings};
-use crate::stop::Stop;
 use crate::units::unit_of;
 use fastmetrics::encoder::EncodeMetric;
 use fastmetrics::registry::{Metric, OneOf, Registry, Root};
+use replay_metrics::label::borrowed_labels;
+use replay_metrics::line::Line;
+use replay_metrics::operation::{Operation, operation_of};
+use replay_metrics::stop::Stop;
 use std::alloc::Global;
 use std::sync::Wait;
 

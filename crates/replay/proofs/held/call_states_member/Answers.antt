@@ -1,4 +1,4 @@
-use Rattle.replay.proofs.SameLabels.{labels_same}
+use Rattle.replay_metrics.proofs.SameLabels.{labels_same}
 use Rattle.replay.proofs.held.call_states_member.Goals as goal
 
 pub with_or_new-requires-clause-clones : goal.with_or_new-requires-clause-clones

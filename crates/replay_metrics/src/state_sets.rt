@@ -5,10 +5,10 @@ ghost use Rattle.fm_grammar.specs.declared.MetricType.TheVariants.{StateSet as S
 use crate::operation::Operation;
 use crate::states::{Named, OnOff, Progress, UpDown};
 use crate::stop::Stop;
-use fastmetrics::encoder::{EncodeError, EncodeMetric, EncodePoint, MetricEncoder, PointEncoder};
-use fastmetrics::metrics::family::MetricFactory;
-use fastmetrics::metrics::state_set::{StateSet, StateSetValue};
-use fastmetrics::raw::{MetricError, MetricType, TryDefault, TypedMetric};
+use fm_core::encoder::{EncodeError, EncodeMetric, EncodePoint, MetricEncoder, PointEncoder};
+use fm_family::MetricFactory;
+use fm_metrics::state_set::{StateSet, StateSetValue};
+use fm_raw::{MetricError, MetricType, TryDefault, TypedMetric};
 use std::alloc::{AllocError, Global};
 use std::sync::Wait;
 use std::time::Duration;

@@ -1,6 +1,6 @@
 use Rattle.std.proofs.Common.{◌≡◌, Ok, None}
 use Rattle.fm_encoder.specs.Emits.{EmitsMembers}
-use Rattle.replay.proofs.point.ManyEncodeMetric.encode.Given as goal
+use Rattle.replay_metrics.proofs.point.ManyEncodeMetric.encode.Given as goal
 
 abbrev pub invariant-loop-member : goal.invariant-loop-member
 invariant-loop-member l =

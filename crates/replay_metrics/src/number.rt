@@ -1,6 +1,6 @@
 //! The numbers and times of scripts.
 use crate::stop::Stop;
-use fastmetrics::raw::Fixed;
+use fm_raw::Fixed;
 use std::alloc::Global;
 use std::str::FromStr;
 use std::time::Duration;

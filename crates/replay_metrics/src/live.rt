@@ -9,11 +9,10 @@ use crate::histograms::{
 use crate::numbers::{Number, NumberKind};
 use crate::operation::Operation;
 use crate::stop::Stop;
-use fastmetrics::encoder::{EncodeError, EncodeMetric, EncodePoint, MetricEncoder, PointEncoder};
-use fastmetrics::metrics::family::MetricFactory;
-use fastmetrics::metrics::gauge_histogram::GaugeHistogram;
-use fastmetrics::metrics::histogram::Histogram;
-use fastmetrics::raw::{Fixed, MetricError, MetricType, TypedMetric};
+use fm_core::encoder::{EncodeError, EncodeMetric, EncodePoint, MetricEncoder, PointEncoder};
+use fm_family::MetricFactory;
+use fm_histogram::{GaugeHistogram, Histogram};
+use fm_raw::{Fixed, MetricError, MetricType, TypedMetric};
 use std::alloc::{AllocError, Global};
 use std::sync::Wait;
 use std::time::Duration;

@@ -7,10 +7,10 @@ use Rattle.std.specs.String.{string_bytes, string_eq}
 use Rattle.std.proofs.lemmas.Slice.Eq.{bytes_eq-Decides}
 use Rattle.std.proofs.lemmas.Bool.{eq-eqb}
 use Rattle.std.proofs.lemmas.Bool.Decides.{Decides-int_eq}
-use Rattle.replay.specs.declared.label.Value.{Value}
-use Rattle.replay.specs.declared.label.Value.TheVariants.{Text, Truth, Whole, Signed, Decimal, Absent, Nested}
-use Rattle.replay.specs.contracts.label.ValueClone.TheImpl.{ghosts as clones}
-use Rattle.replay.specs.contracts.label.ValuePartialEq.TheImpl.{ghosts as equals}
+use Rattle.replay_metrics.specs.declared.label.Value.{Value}
+use Rattle.replay_metrics.specs.declared.label.Value.TheVariants.{Text, Truth, Whole, Signed, Decimal, Absent, Nested}
+use Rattle.replay_metrics.specs.contracts.label.ValueClone.TheImpl.{ghosts as clones}
+use Rattle.replay_metrics.specs.contracts.label.ValuePartialEq.TheImpl.{ghosts as equals}
 
 pub value_same : (x y : Value) → clones.is_clone x y → equals.eq x y ≡ true
 value_same (Text s) (Text t) h = (bytes_eq-Decides (string_bytes s) (string_bytes t)).1 (sym h)

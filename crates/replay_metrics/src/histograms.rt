@@ -2,9 +2,9 @@
 use crate::number::{fixed, time};
 use crate::operation::Operation;
 use crate::stop::Stop;
-use fastmetrics::metrics::gauge_histogram::GaugeHistogram;
-use fastmetrics::metrics::histogram::{Bucket, Histogram};
-use fastmetrics::raw::{Fixed, FixedBuffer, FixedSum, MetricError};
+use fm_histogram::{GaugeHistogram, Histogram};
+use fm_raw::bucket::Bucket;
+use fm_raw::{Fixed, FixedBuffer, FixedSum, MetricError};
 use std::alloc::Global;
 use std::sync::Wait;
 use std::time::Duration;

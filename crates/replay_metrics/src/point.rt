@@ -2,11 +2,11 @@
 ghost use Rattle.std.specs.Prelude.{⊤};
 
 use crate::label::{Labels, Value};
-use fastmetrics::encoder::{EncodeError, EncodeMetric, LabeledExemplar, MetricEncoder};
-use fastmetrics::metrics::gauge::ConstGauge;
-use fastmetrics::metrics::summary::Quantile;
-use fastmetrics::raw::bucket::Bucket;
-use fastmetrics::raw::{Fixed, FixedSum, MetricType};
+use fm_core::encoder::{EncodeError, EncodeMetric, LabeledExemplar, MetricEncoder};
+use fm_metrics::ConstGauge;
+use fm_raw::bucket::Bucket;
+use fm_raw::quantile::Quantile;
+use fm_raw::{Fixed, FixedSum, MetricType};
 use std::alloc::Global;
 use std::time::Duration;
 

@@ -1,8 +1,8 @@
 //! Why a line of a script has no effect.
-use fastmetrics::format::text::{EncodeError, ReadError};
-use fastmetrics::raw::MetricError;
-use fastmetrics::raw::bucket::BucketError;
-use fastmetrics::registry::RegistryError;
+use fm_core::format::text::{EncodeError, ReadError};
+use fm_core::registry::RegistryError;
+use fm_raw::MetricError;
+use fm_raw::bucket::BucketError;
 use std::alloc::{AllocError, AllocFailed, Global};
 
 /// What stopped a line.

@@ -5,9 +5,9 @@ use crate::line::Line;
 use crate::state_sets::{StatesKind, states_kind_of};
 use crate::states::{Named, OnOff, Progress, UpDown};
 use crate::stop::Stop;
-use fastmetrics::encoder::{EncodeError, EncodeMetric, MetricEncoder};
-use fastmetrics::metrics::state_set::{ConstStateSet, StateSetValue};
-use fastmetrics::raw::{MetricError, MetricType};
+use fm_core::encoder::{EncodeError, EncodeMetric, MetricEncoder};
+use fm_metrics::state_set::{ConstStateSet, StateSetValue};
+use fm_raw::{MetricError, MetricType};
 use std::alloc::Global;
 use std::time::Duration;
 

@@ -1,14 +1,14 @@
 //! The labels of scripts.
 ghost use Rattle.std.specs.Prelude.{[], ◌∷◌, true, false, codes, decimal, string_bytes, if◌then◌else◌};
 ghost use Rattle.std.specs.Fmt.{signed_decimal};
-ghost use Rattle.fastmetrics.specs.Numbers.{fixed_text};
-ghost use Rattle.fastmetrics.specs.Labels.{ValuePiece};
-ghost use Rattle.replay.specs.declared.label.Value.TheVariants.{Text, Truth, Whole, Signed, Decimal, Absent, Nested};
+ghost use Rattle.fm_grammar.specs.Numbers.{fixed_text};
+ghost use Rattle.fm_labels.specs.Labels.{ValuePiece};
+ghost use Rattle.replay_metrics.specs.declared.label.Value.TheVariants.{Text, Truth, Whole, Signed, Decimal, Absent, Nested};
 
 use crate::number::{fixed, whole};
 use crate::stop::Stop;
-use fastmetrics::encoder::{EncodeError, EncodeLabelValue, LabelEncoder};
-use fastmetrics::raw::Fixed;
+use fm_core::encoder::{EncodeError, EncodeLabelValue, LabelEncoder};
+use fm_raw::Fixed;
 use std::alloc::Global;
 
 /// The value of a label.

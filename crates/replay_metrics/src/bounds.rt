@@ -1,12 +1,12 @@
 //! The bounds of histograms, buckets and quantiles.
 use crate::number::{fixed, fixed_list, whole};
 use crate::stop::Stop;
-use fastmetrics::metrics::summary::Quantile;
-use fastmetrics::raw::Fixed;
-use fastmetrics::raw::bucket::{
+use fm_raw::Fixed;
+use fm_raw::bucket::{
     Bound, Bucket, ExponentialBuckets, default_buckets, exponential_buckets,
     exponential_buckets_range, linear_buckets,
 };
+use fm_raw::quantile::Quantile;
 use std::alloc::Global;
 
 // Three words between commas.

@@ -1,7 +1,7 @@
 use Rattle.std.proofs.lemmas.Result.{err_from_is_err_and}
 use Rattle.fm_encoder.proofs.MemberLemmas.{EmitsMembers-nothing}
-use Rattle.replay.proofs.AnyMembers.{then_members, still_none}
-use Rattle.replay.proofs.point.ManyEncodeMetric.encode.Goals as goal
+use Rattle.replay_metrics.proofs.AnyMembers.{then_members, still_none}
+use Rattle.replay_metrics.proofs.point.ManyEncodeMetric.encode.Goals as goal
 
 pub loop-member-init : goal.loop-member-init
 loop-member-init c = (EmitsMembers-nothing c.args.encoder.now tt, λ none. none)

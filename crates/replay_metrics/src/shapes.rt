@@ -4,8 +4,8 @@ use crate::line::Line;
 use crate::number::{fixed, fixed_list, whole};
 use crate::point::{Point, Shape, Trace, many_of};
 use crate::stop::Stop;
-use fastmetrics::encoder::LabeledExemplar;
-use fastmetrics::raw::{FixedSum, MetricType};
+use fm_core::encoder::LabeledExemplar;
+use fm_raw::{FixedSum, MetricType};
 use std::alloc::Global;
 
 /// The type that a text names.

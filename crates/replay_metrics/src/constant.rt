@@ -5,12 +5,11 @@ use crate::label::Labels;
 use crate::line::Line;
 use crate::number::{fixed, whole};
 use crate::stop::Stop;
-use fastmetrics::encoder::{EncodeError, EncodeMetric, MetricEncoder};
-use fastmetrics::metrics::counter::ConstCounter;
-use fastmetrics::metrics::gauge::ConstGauge;
-use fastmetrics::metrics::info::Info;
-use fastmetrics::metrics::unknown::Unknown;
-use fastmetrics::raw::{Fixed, MetricType, UnknownValue};
+use fm_core::encoder::{EncodeError, EncodeMetric, MetricEncoder};
+use fm_metrics::info::Info;
+use fm_metrics::unknown::Unknown;
+use fm_metrics::{ConstCounter, ConstGauge};
+use fm_raw::{Fixed, MetricType, UnknownValue};
 use std::str::FromStr;
 use std::time::Duration;
 

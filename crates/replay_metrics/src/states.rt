@@ -1,10 +1,10 @@
 //! States that scripts may name.
 ghost use Rattle.std.specs.Prelude.{[], ◌∷◌, codes};
-ghost use Rattle.replay.specs.declared.states.OnOff.TheVariants as switch;
-ghost use Rattle.replay.specs.declared.states.UpDown.TheVariants as direction;
-ghost use Rattle.replay.specs.declared.states.Progress.TheVariants as progress;
+ghost use Rattle.replay_metrics.specs.declared.states.OnOff.TheVariants as switch;
+ghost use Rattle.replay_metrics.specs.declared.states.UpDown.TheVariants as direction;
+ghost use Rattle.replay_metrics.specs.declared.states.Progress.TheVariants as progress;
 
-use fastmetrics::metrics::state_set::StateSetValue;
+use fm_metrics::state_set::StateSetValue;
 
 /// States that have names.
 pub trait Named: Sized {

@@ -1,2 +1,0 @@
-mod AnyMembers
-mod SameLabels

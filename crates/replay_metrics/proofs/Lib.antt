@@ -1,0 +1,2 @@
+pub mod AnyMembers
+pub mod SameLabels
