@@ -14,8 +14,10 @@ are tried in two checks. What else the check would prove again is left out: each
 contract promises what is false, and the proof of each is gone. With --right all of this is tried with what is right in the place of each wrong body:
 each function must be proved, since one that isn't would show nothing.
 
-Much of what a wrong body costs is a search that fails, and that ends at its counts. So a search gets half of the counts that it has elsewhere, also
-with --right. It gets all with --full, which whoever adds a body tries once.
+Much of what a wrong body costs is searches that fail, each of which ends at its counts, and what the check then offers to write. So a search gets half
+of the counts that it has elsewhere; and where a body has a line `search: FOLDER GOAL..`, the folder of the function's proof below proofs/ and goals of
+it, each of these goals gets one `search rules` in place of all that the check tries, and nothing is offered. With --right all is tried so too. With
+--full these lines count for nothing, and a search gets all of its counts: whoever adds a body tries that once.
 
 One of which a check says only that the function's proof names what is gone shows nothing of the contract: it is NOT SHOWN, and fails as one does that
 is NOT REFUSED. It has to become another body, or one that a test refuses (`scripts/tested_bodies.py`).
@@ -46,7 +48,7 @@ class WrongBody:
     """A mistake in functions of a file: pairs of an old and a new text, one line each."""
 
     def __init__(self, crate, title):
-        self.crate, self.title, self.tests, self.seconds, self.file, self.pairs = crate, title, "", "", "", []
+        self.crate, self.title, self.tests, self.seconds, self.file, self.search, self.pairs = crate, title, "", "", "", [], []
         # The number of the copy that it stands in, or 0 in place of what is right.
         self.copy = 0
 
@@ -92,6 +94,20 @@ class WrongBody:
         lines = text_of(f"{folder}/{self.file}").split("\n")
         return Function(self.file, lines, next(i for i, line in enumerate(lines) if f"fn {name}" in line))
 
+    def answer_in(self, folder):
+        """Answers the goals that get one search, in a copy of the crate in which it stands."""
+        if not self.search:
+            return
+        proof = f"{self.search[0]}{f'_{self.copy}' if self.copy else ''}"
+        path = f"{folder}/proofs/{proof}/Answers.antt"
+        text = text_of(path) if os.path.isfile(path) else f"use Rattle.{self.crate.name}.proofs.{proof.replace('/', '.')}.Goals as goal\n"
+        if not re.search(r"^use .*\brules\b", text, re.M):
+            text = f"use Rattle.std.proofs.Common.{{rules}}\n{text}"
+        text += "".join(f"\npub {goal} : goal.{goal}\n{goal} c = search rules\n" for goal in self.search[1:])
+        os.makedirs(os.path.dirname(path), exist_ok=True)
+        with open(path, "w", encoding="utf-8") as file:
+            file.write(text)
+
 
 def listed(crate, name):
     """The bodies that a crate lists in a file of must-fail/."""
@@ -106,6 +122,8 @@ def listed(crate, name):
             found[-1].seconds = text
         elif word == "file:":
             found[-1].file = text
+        elif word == "search:":
+            found[-1].search = text.split()
         elif word == "old:":
             found[-1].pairs.append([text, ""])
         elif word == "new:":
@@ -173,6 +191,8 @@ class Crate:
                 if not wrong.copy:
                     wrong.stand_in(room)
             functions = [[wrong.stand_beside(room)] if wrong.copy else wrong.functions() for wrong in wrongs]
+            for wrong in wrongs if not run.is_full else []:
+                wrong.answer_in(room)
             leave_out(room, [it for found in functions for it in found])
             paths = {it.path for found in functions for it in found}
             only = [word for path in sorted(paths) for word in ("--only", path)] if "" not in paths else []
