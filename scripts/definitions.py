@@ -165,7 +165,7 @@ def starts():
     imports = imports_of_source(source.read_text())
     words = set(words_of(clauses_of(source, "encode").split("\n")))
     # What the clauses see of a registry, and what a metric declares.
-    registry = (TOP / "crates/fm_registry/src/registry.rt").read_text()
+    registry = (TOP / "crates/fm_core/src/registry/tree.rt").read_text()
     at = registry.index("Model for Registry<M> {")
     model = registry[at : registry.index("\n}\n", at)]
     value = next(l for l in model.split("\n") if "ghost Value" in l)
@@ -186,7 +186,8 @@ GHOST = re.compile(r"^    ghost (?!use )[\s\S]*?;$", re.M)
 def declared():
     """The lines of ghost members of impls of `Encode` traits, by file, and the definitions that they name."""
     lines, names = {}, []
-    crates = next(it for it in (TOP / "crates.txt").read_text().split("\n") if it.startswith("fastmetrics:")).split()[1:]
+    crates = re.search(r"^(fastmetrics)\b[^:]*:(.*)$", (TOP / "crates.txt").read_text(), re.M)
+    crates = [crates[1], *crates[2].split()]
     for path in sorted(it for crate in crates for it in TOP.glob(f"crates/{crate}/src/**/*.rt")):
         text = path.read_text()
         for found in IMPL.finditer(text):

@@ -36,13 +36,14 @@ def text_of(path):
 def libraries():
     """The library crates of crates.txt, in order."""
     names = [line.split(":")[0].split()[0] for line in text_of(f"{TOP}/crates.txt").split("\n") if ":" in line]
-    return [it for it in names if it.startswith("fm_") and os.path.isfile(f"{TOP}/crates/{it}/src/lib.rt")]
+    return [it for it in names if it.startswith(("fm_", "fastmetrics")) and os.path.isfile(f"{TOP}/crates/{it}/src/lib.rt")]
 
 
 def exported():
     """The names that `fastmetrics` re-exports, through the modules of other crates too."""
     found = set()
     for path in [f"{TOP}/crates/{it}/src/lib.rt" for it in ("fastmetrics", "fm_core", "fm_raw", "fm_laws")] + [
+        *(f"{TOP}/crates/fastmetrics/src/{it}.rt" for it in ("registry", "process")),
         f"{TOP}/crates/fm_core/src/format/text.rt",
         *(it for it in sources("fm_metrics") if not it.endswith("lib.rt")),
         f"{TOP}/crates/fm_raw/src/bucket.rt",

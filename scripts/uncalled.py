@@ -39,7 +39,7 @@ def libraries():
     """The crates that `fastmetrics` is made of, as crates.txt has them."""
     for line in (TOP / "crates.txt").read_text().split("\n"):
         head, _, rest = line.partition(":")
-        if head == "fastmetrics":
+        if head.split()[:1] == ["fastmetrics"]:
             return ["fastmetrics", *(name for name in rest.split() if (TOP / "crates" / name).exists())]
     sys.exit("crates.txt has no fastmetrics")
 

@@ -7,8 +7,12 @@
 //! - [`format`]: `format::text::encode` writes a registry's document, and `format::text::read` reads one back.
 //! - [`encoder`]: what metrics, points and labels of your own implement.
 //! - [`raw`]: numbers, units and metadata.
+//! - [`process`]: processor time, memory and open files of the process, from the files of `/proc`.
 //! - [`laws`]: theorems that a program has where it calls them.
 #![tactic(auto)]
+
+pub mod process;
+pub mod registry;
 
 pub use fm_core::{encoder, format};
 pub use fm_laws as laws;
@@ -81,15 +85,4 @@ pub mod metrics {
         //! Quantiles of summaries. A summary is a metric of a user's own, which emits its point by `encode_summary`.
         pub use fm_raw::quantile::{QUANTILE_LABEL, Quantile};
     }
-}
-
-pub mod registry {
-    //! Registries of metrics, with their subsystems, roots that need no box, and the registry that a whole program shares.
-    pub use fm_core::registry::{
-        GlobalRegistry, ListedMetric, MetricType, Register, Registry, RegistryBuilder,
-        RegistryCall, RegistryError, RegistrySubsystemBuilder, SetRegistryError, Subsystem, Unit,
-        add, add_with_unit, register, register_global, register_metric, register_with_unit,
-        set_global_registry, with_global_registry, with_global_registry_mut,
-    };
-    pub use fm_root::{ByTexts, Constant, Metric, Number, OneOf, Root, add_at, add_subsystem_at};
 }

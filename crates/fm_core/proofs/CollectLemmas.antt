@@ -20,8 +20,8 @@ use Rattle.fm_registry_model.proofs.NameLemmas.{printed_names-different}
 use Rattle.fm_encoder.specs.Points.{Member}
 use Rattle.fm_labels.specs.Refusals.{result_of}
 use Rattle.fm_encoder.proofs.FaultLemmas.{MetricHasFault-not_writing}
-use Rattle.fm_registry.specs.Seen.{listed_in}
-use Rattle.fm_registry.proofs.ListingLemmas.{listed_in-push}
+use Rattle.fm_core.specs.Seen.{listed_in}
+use Rattle.fm_core.proofs.ListingLemmas.{listed_in-push}
 use Rattle.fm_core.specs.Families.{Heading, FaultUnder}
 use Rattle.fm_core.specs.Admits.{Admits, AdmitsNext, FaultOf, Fault}
 use Rattle.fm_core.specs.inside.Documents.{AddsFamilies}

@@ -20,8 +20,8 @@ use Rattle.fm_raw.specs.declared.encode_error.EncodeError.TheVariants.{Memory}
 use Rattle.fm_writer.specs.Output.{Output, OutputText, appended, with_lines}
 use Rattle.fm_encoder.specs.Points.{Member}
 use Rattle.fm_encoder.specs.Gathered.{GatheredMembers}
-use Rattle.fm_registry.specs.Seen.{seen_listed}
-use Rattle.fm_registry.specs.declared.listed.ListedMetric.{ListedMetric}
+use Rattle.fm_core.specs.Seen.{seen_listed}
+use Rattle.fm_core.specs.declared.registry.listed.ListedMetric.{ListedMetric}
 use Rattle.fm_core.specs.Families.{Heading, FaultUnder}
 use Rattle.fm_core.specs.inside.Offered.{Offered}
 use Rattle.fm_core.specs.inside.Documents.{heading_rows, text_so_far, HasLines, AddsRows, AddsNextRows, AddsRowsOf}

@@ -7,7 +7,7 @@ use Rattle.fm_raw.specs.declared.encode_error.EncodeError.TheVariants.{Memory}
 use Rattle.fm_registry_model.specs.Texts.{Text, Labels}
 use Rattle.fm_registry_model.specs.Listing.{Listed}
 use Rattle.fm_encoder.specs.Points.{Member}
-use Rattle.fm_registry.specs.View.{seen_metric}
+use Rattle.fm_core.specs.View.{seen_metric}
 use Rattle.fm_core.specs.Admits.{AdmitsNext, FaultOf}
 
 -- the namespace and the labels of the current registry, the families so far, and the refusal

@@ -2,7 +2,7 @@
 use Rattle.std.specs.Prelude.{Result}
 use Rattle.fm_registry_model.specs.Tree.{Tree}
 use Rattle.fm_registry_model.specs.declared.RegistryError.{RegistryError}
-use Rattle.fm_registry.specs.HasHistory.{HasHistory}
+use Rattle.fm_core.specs.HasHistory.{HasHistory}
 
 -- the lock protected a registry that reads some history, and this was done there, with this result
 pub record RegistersLocked {M : Type 0} (IsDone : Tree M → Tree M → Result (Unit {0}) RegistryError → Type 0) (result : Result (Unit {0}) RegistryError) : Type 0 where

@@ -2,7 +2,9 @@
 ghost use Rattle.std.specs.Prelude.{◌≡◌, ◌≤◌};
 ghost use Rattle.lint.specs.Documents.{PrintsAgain};
 
-use fm_core::format::text::{EncodeError, ReadError, encode_exposition, read};
+use fm_raw::EncodeError;
+use fm_reader::{ReadError, read};
+use fm_writer::encode_exposition;
 use std::alloc::Global;
 use std::io::Write;
 use std::str;

@@ -5,7 +5,7 @@ use crate::line::Line;
 use crate::state_sets::{StatesKind, states_kind_of};
 use crate::states::{Named, OnOff, Progress, UpDown};
 use crate::stop::Stop;
-use fm_core::encoder::{EncodeError, EncodeMetric, MetricEncoder};
+use fm_encoder::{EncodeError, EncodeMetric, MetricEncoder};
 use fm_metrics::state_set::{ConstStateSet, StateSetValue};
 use fm_raw::{MetricError, MetricType};
 use std::alloc::Global;

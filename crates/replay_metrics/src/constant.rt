@@ -5,7 +5,7 @@ use crate::label::Labels;
 use crate::line::Line;
 use crate::number::{fixed, whole};
 use crate::stop::Stop;
-use fm_core::encoder::{EncodeError, EncodeMetric, MetricEncoder};
+use fm_encoder::{EncodeError, EncodeMetric, MetricEncoder};
 use fm_metrics::info::Info;
 use fm_metrics::unknown::Unknown;
 use fm_metrics::{ConstCounter, ConstGauge};

@@ -7,7 +7,7 @@ ghost use Rattle.replay_metrics.specs.declared.label.Value.TheVariants.{Text, Tr
 
 use crate::number::{fixed, whole};
 use crate::stop::Stop;
-use fm_core::encoder::{EncodeError, EncodeLabelValue, LabelEncoder};
+use fm_encoder::{EncodeError, EncodeLabelValue, LabelEncoder};
 use fm_raw::Fixed;
 use std::alloc::Global;
 

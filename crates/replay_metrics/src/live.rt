@@ -9,7 +9,7 @@ use crate::histograms::{
 use crate::numbers::{Number, NumberKind};
 use crate::operation::Operation;
 use crate::stop::Stop;
-use fm_core::encoder::{EncodeError, EncodeMetric, EncodePoint, MetricEncoder, PointEncoder};
+use fm_encoder::{EncodeError, EncodeMetric, EncodePoint, MetricEncoder, PointEncoder};
 use fm_family::MetricFactory;
 use fm_histogram::{GaugeHistogram, Histogram};
 use fm_raw::{Fixed, MetricError, MetricType, TypedMetric};

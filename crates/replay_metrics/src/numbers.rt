@@ -4,7 +4,7 @@ ghost use Rattle.std.specs.Prelude.{⊤};
 use crate::number::Told;
 use crate::operation::Operation;
 use crate::stop::Stop;
-use fm_core::encoder::{EncodeError, EncodeMetric, EncodePoint, MetricEncoder, PointEncoder};
+use fm_encoder::{EncodeError, EncodeMetric, EncodePoint, MetricEncoder, PointEncoder};
 use fm_metrics::{Counter, Gauge};
 use fm_raw::{CounterValue, Fixed, GaugeValue, MetricError, MetricType, TryDefault};
 use std::alloc::{AllocError, Global};

@@ -2,7 +2,7 @@
 ghost use Rattle.std.specs.Prelude.{⊤};
 
 use crate::label::{Labels, Value};
-use fm_core::encoder::{EncodeError, EncodeMetric, LabeledExemplar, MetricEncoder};
+use fm_encoder::{EncodeError, EncodeMetric, LabeledExemplar, MetricEncoder};
 use fm_metrics::ConstGauge;
 use fm_raw::bucket::Bucket;
 use fm_raw::quantile::Quantile;

@@ -4,7 +4,7 @@ use crate::line::Line;
 use crate::number::{fixed, fixed_list, whole};
 use crate::point::{Point, Shape, Trace, many_of};
 use crate::stop::Stop;
-use fm_core::encoder::LabeledExemplar;
+use fm_encoder::LabeledExemplar;
 use fm_raw::{FixedSum, MetricType};
 use std::alloc::Global;
 

@@ -5,7 +5,7 @@ ghost use Rattle.fm_grammar.specs.declared.MetricType.TheVariants.{StateSet as S
 use crate::operation::Operation;
 use crate::states::{Named, OnOff, Progress, UpDown};
 use crate::stop::Stop;
-use fm_core::encoder::{EncodeError, EncodeMetric, EncodePoint, MetricEncoder, PointEncoder};
+use fm_encoder::{EncodeError, EncodeMetric, EncodePoint, MetricEncoder, PointEncoder};
 use fm_family::MetricFactory;
 use fm_metrics::state_set::{StateSet, StateSetValue};
 use fm_raw::{MetricError, MetricType, TryDefault, TypedMetric};

@@ -1,8 +1,8 @@
 //! Why a line of a script has no effect.
-use fm_core::format::text::{EncodeError, ReadError};
-use fm_core::registry::RegistryError;
-use fm_raw::MetricError;
 use fm_raw::bucket::BucketError;
+use fm_raw::{EncodeError, MetricError};
+use fm_reader::ReadError;
+use fm_registry_model::RegistryError;
 use std::alloc::{AllocError, AllocFailed, Global};
 
 /// What stopped a line.

@@ -2,10 +2,10 @@
 
 ghost use Rattle.std.specs.Prelude.{◌≡◌};
 ghost use Rattle.std.specs.Fn.{FnOnceTakesAt, FnOnceTakesAtMut, FnOnceReturnsAt, FnOnceReturnsAtMut};
-ghost use Rattle.fm_registry.specs.HasHistory.{HasHistory};
+ghost use Rattle.fm_core.specs.HasHistory.{HasHistory};
 
+use crate::registry::Registry;
 use fm_encoder::EncodeMetric;
-use fm_registry::Registry;
 use std::marker::Model;
 use std::sync::atomic::AtomicBool;
 use std::sync::atomic::Ordering::SeqCst;
@@ -41,7 +41,7 @@ impl<M> Model for Protected<M> {
 
 impl<M> Protected<M> {
     ghost use Rattle.std.specs.Prelude.{◌≡◌};
-    ghost use Rattle.fm_registry.specs.HasHistory.{HasHistory};
+    ghost use Rattle.fm_core.specs.HasHistory.{HasHistory};
 
     // The registry. It counts as used: no other can be set.
     fn used(&self) -> &Registry<M>

@@ -1,14 +1,14 @@
 //! Registering metrics in the registry that the program shares.
 ghost use Rattle.std.specs.Prelude.{◌≡◌, Some, None};
-ghost use Rattle.fm_registry.specs.View.{asked_metric};
-ghost use Rattle.fm_registry.specs.HasHistory.{HasHistory};
-ghost use Rattle.fm_registry.specs.Registers.{Registers};
+ghost use Rattle.fm_core.specs.View.{asked_metric};
+ghost use Rattle.fm_core.specs.HasHistory.{HasHistory};
+ghost use Rattle.fm_core.specs.Registers.{Registers};
 ghost use Rattle.fm_core.specs.Locked.{RegistersLocked};
 
 use super::global::{GlobalRegistry, Protected};
+use crate::registry::{MetricType, RegistryError, Unit};
 use fm_encoder::EncodeMetric;
 use fm_encoder::metric_type::type_of;
-use fm_registry::{MetricType, RegistryError, Unit};
 use std::sync::Wait;
 use std::sync::atomic::Ordering::SeqCst;
 

@@ -5,7 +5,7 @@ ghost use Rattle.fm_registry_model.specs.declared.RegistryError.{RegistryError a
 ghost use Rattle.fm_core.specs.Locked.{RegistersLocked};
 
 use super::global::GlobalRegistry;
-use fm_registry::{Registry, RegistryError};
+use crate::registry::{Registry, RegistryError};
 use std::alloc::Global;
 use std::sync::Wait;
 use std::sync::atomic::Ordering::SeqCst;
@@ -16,7 +16,7 @@ use std::sync::atomic::Ordering::SeqCst;
 /// Implement it for each `M`, as `impl<M: Drop> Register<M> for MyMetrics<M>`, with metrics that `main` boxed: a method
 /// that boxes them itself, or a type with boxes, can't be proved.
 pub trait Register<M> {
-    ghost use Rattle.fm_registry.specs.HasHistory.{HasHistory};
+    ghost use Rattle.fm_core.specs.HasHistory.{HasHistory};
 
     /// Holds of the registry before and after a call, and of its result. By default it holds of all.
     ghost registers: { Self → Tree M → Tree M → Result (Unit {0}) Refusal → Type 0 } = { λ _ _ _ _. ⊤ };

@@ -1,7 +1,7 @@
 use Rattle.std.proofs.Common.{[], refl, subst}
 use Rattle.std.specs.String.{string_bytes}
-use Rattle.fm_registry.specs.HasHistory.{Grows}
-use Rattle.fm_registry.proofs.GrowthLemmas.{Grows-sound, Grows-lent}
+use Rattle.fm_core.specs.HasHistory.{Grows}
+use Rattle.fm_core.proofs.GrowthLemmas.{Grows-sound, Grows-lent}
 use Rattle.calling.proofs.registries.register_in_seconds.Goals as goal
 
 pub returns : goal.returns

@@ -5,7 +5,7 @@ use Rattle.std.proofs.lemmas.Result.{err_from_is_err_and}
 use Rattle.fm_grammar.specs.Exposition.{Exposition}
 use Rattle.fm_registry_model.specs.Listing.{Listed, own_metrics, IsListable}
 use Rattle.fm_registry_model.proofs.OrderLemmas.{listed_tree-fits}
-use Rattle.fm_registry.specs.Seen.{listed_in}
+use Rattle.fm_core.specs.Seen.{listed_in}
 use Rattle.fm_core.specs.Admits.{Admits, Fault}
 use Rattle.fm_core.proofs.CollectLemmas.{Admits-++, next_names, names_differ, Fault-in, IsListable-in, listed_in-next, refusal-not_writing, if_ended}
 use Rattle.fm_core.proofs.scrape.collect.Goals as goal

@@ -1,5 +1,5 @@
 use Rattle.std.proofs.Common.{◌≡◌, None, take}
-use Rattle.fm_registry.specs.Seen.{listed_in}
+use Rattle.fm_core.specs.Seen.{listed_in}
 use Rattle.fm_core.specs.Admits.{Admits}
 use Rattle.fm_core.proofs.scrape.collect.Given as goal
 

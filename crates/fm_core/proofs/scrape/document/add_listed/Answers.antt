@@ -1,4 +1,4 @@
-use Rattle.fm_registry.specs.Seen.{seen_listed}
+use Rattle.fm_core.specs.Seen.{seen_listed}
 use Rattle.fm_core.specs.inside.Documents.{heading_of}
 use Rattle.fm_core.proofs.DocumentLemmas.{family_added}
 use Rattle.fm_core.proofs.scrape.document.add_listed.Goals as goal

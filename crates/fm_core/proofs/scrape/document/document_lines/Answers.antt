@@ -4,7 +4,7 @@ use Rattle.std.proofs.lemmas.List.{take_all}
 use Rattle.std.proofs.lemmas.Result.{err_from_is_err_and}
 use Rattle.fm_registry_model.specs.Listing.{Listed, own_metrics, IsListable}
 use Rattle.fm_registry_model.proofs.OrderLemmas.{listed_tree-fits}
-use Rattle.fm_registry.specs.Seen.{listed_in}
+use Rattle.fm_core.specs.Seen.{listed_in}
 use Rattle.fm_grammar.specs.Exposition.{Text}
 use Rattle.fm_writer.specs.Output.{OutputText}
 use Rattle.fm_core.specs.Admits.{Admits, Fault}

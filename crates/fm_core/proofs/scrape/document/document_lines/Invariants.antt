@@ -1,5 +1,5 @@
 use Rattle.std.proofs.Common.{[], take}
-use Rattle.fm_registry.specs.Seen.{listed_in}
+use Rattle.fm_core.specs.Seen.{listed_in}
 use Rattle.fm_core.specs.inside.Documents.{text_so_far, HasLines, AddsRowsOf}
 use Rattle.fm_core.proofs.scrape.document.document_lines.Given as goal
 

@@ -1,0 +1,57 @@
+-- How contracts see a root: its tree, and the subsystem in which it registers.
+use Rattle.std.specs.Prelude.{◌≡◌, ◌⊎◌, ◌++◌, ◌∷◌, [], Result, Ok, Err, OnOk, OnErr, MatchResult}
+use Rattle.fm_grammar.specs.declared.MetricType.{MetricType}
+use Rattle.fm_registry_model.specs.Texts.{Text, Path, Labels}
+use Rattle.fm_registry_model.specs.Registration.{Registration}
+use Rattle.fm_registry_model.specs.declared.RegistryError.{RegistryError}
+use Rattle.fm_registry_model.specs.declared.RegistryError.TheVariants.{Memory}
+use Rattle.fm_registry_model.specs.History.{History, Subsystem}
+use Rattle.fm_registry_model.specs.Answer.{refusal_of, after}
+use Rattle.fm_registry_model.specs.Running.{IsReply}
+use Rattle.fm_registry_model.specs.Tree.{Tree, Reads}
+use Rattle.fm_core.specs.HasHistory.{Grows}
+use Rattle.fm_core.specs.Registers.{RegistersAt}
+
+-- the tree, and the path of the subsystem in which metrics are registered
+pub record RootState (M : Type 0) : Type 0 where
+  pub tree : Tree M
+  pub path : Path
+
+module _ {M : Type 0} where
+  -- there was no memory, and the root is as it was
+  abbrev pub IsUnchanged : RegistryError → RootState M → RootState M → Type 0
+  IsUnchanged e old new = (e ≡ Memory) × (new ≡ old)
+
+  -- A metric was registered in the root's subsystem with this result, which is that of the history of the tree: at `Ok` the tree
+  -- reads the history after the call, and at `Err` it is as it was. Nothing that was accepted is lost.
+  pub record Adds (Types : MetricType → Type 0) (asked : MetricType → Registration M) (old new : RootState M) (result : Result (Unit {0}) RegistryError) : Type 0 where
+    pub registers : RegistersAt old.path Types asked old.tree new.tree result
+    pub grows : Grows old.tree new.tree
+    pub path : new.path ≡ old.path
+
+  -- the same, unless there was no memory for the name and the help
+  abbrev pub AddsOrNot : (MetricType → Type 0) → (MetricType → Registration M) → RootState M → RootState M → Result (Unit {0}) RegistryError → Type 0
+  AddsOrNot Types asked old new result = ((result ≡ Err Memory) × (new ≡ old)) ⊎ Adds Types asked old new result
+
+  -- a clone of a metric was registered, as the metric that it converts to
+  pub record AddsClone {T : Type 0} (IsClone : T → Type 0) (Converts : T → M → Type 0) (Types : M → MetricType → Type 0) (asked : M → MetricType → Registration M) (old new : RootState M) (result : Result (Unit {0}) RegistryError) : Type 0 where
+    pub clone : T
+    pub is_clone : IsClone clone
+    pub metric : M
+    pub converts : Converts clone metric
+    pub adds : AddsOrNot (Types metric) (asked metric) old new result
+
+  -- A metric was made that is as `Begins` says, a clone of it was registered, and the metric is the result. At an error a clone was
+  -- refused with this error, or there was no memory; the root is as it was.
+  abbrev pub Makes : {T : Type 0} → (T → Type 0) → (T → T → Type 0) → (T → M → Type 0) → (M → MetricType → Type 0) → (M → MetricType → Registration M) → RootState M → RootState M → Result T RegistryError → Type 0
+  Makes {T} Begins IsClone Converts Types asked old new result = MatchResult result
+      (λ made. Begins made × AddsClone (IsClone made) Converts Types asked old new (Ok tt))
+      (λ e. IsUnchanged e old new ⊎ ((made : T) × AddsClone (IsClone made) Converts Types asked old new (Err e)))
+
+  -- The root goes on in the subsystem with this name, which is made with these labels if it isn't there; the result is that of the
+  -- history of the tree. At `Err` the root is as it was.
+  pub record Enters (name : Text) (labels : Labels) (old new : RootState M) (result : Result (Unit {0}) RegistryError) : Type 0 where
+    pub reply : (b : History M) → Reads old.tree b → IsReply (refusal_of result) b (Subsystem old.path name labels)
+    pub ok : OnOk result ((new.path ≡ old.path ++ name ∷ []) × ((b : History M) → Reads old.tree b → Reads new.tree (after b (Subsystem old.path name labels))))
+    pub err : OnErr result (new ≡ old)
+    pub grows : Grows old.tree new.tree

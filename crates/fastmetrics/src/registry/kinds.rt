@@ -1,0 +1,317 @@
+//! A metric of any of the library's usual kinds, or of a kind of the program's own.
+ghost use Rattle.std.specs.Prelude.{◌≡◌};
+ghost use Rattle.fastmetrics.specs.declared.registry.kinds.number.Number.TheVariants.{Counter, FixedCounter, Gauge, FixedGauge};
+ghost use Rattle.fastmetrics.specs.declared.registry.kinds.by_texts.ByTexts.TheVariants.{Counters, FixedCounters, Gauges, FixedGauges, Histograms, GaugeHistograms};
+ghost use Rattle.fastmetrics.specs.declared.registry.kinds.constant.Constant.TheVariants as constant;
+ghost use Rattle.fastmetrics.specs.declared.registry.kinds.Metric.TheVariants.{Number, Histogram, GaugeHistogram, ByTexts, Constant, Own};
+
+mod by_texts;
+mod constant;
+mod number;
+mod one_of;
+
+pub use by_texts::{ByTexts, OfTexts};
+pub use constant::Constant;
+use fm_encoder::{EncodeMetric, MetricEncoder};
+use fm_family::TextFamily;
+use fm_histogram::{GaugeHistogram, GaugeHistogramSnapshot, Histogram, HistogramSnapshot};
+use fm_metrics::counter::{ConstCounter, Counter};
+use fm_metrics::gauge::{ConstGauge, Gauge};
+use fm_metrics::info::Info;
+use fm_metrics::unknown::Unknown;
+use fm_raw::{EncodeError, Fixed, MetricType};
+pub use number::Number;
+pub use one_of::OneOf;
+use std::sync::Wait;
+use std::time::Duration;
+
+/// A metric of one of the library's usual kinds, or of the type `X`, which is the program's own. A program
+/// that has none leaves `X` out.
+///
+/// It declares and offers what the metric in it does.
+pub enum Metric<H: Wait, X = Number> {
+    /// A counter or a gauge.
+    Number(Number),
+    /// A histogram.
+    Histogram(Histogram<H>),
+    /// A gauge histogram.
+    GaugeHistogram(GaugeHistogram<H>),
+    /// A family by texts.
+    ByTexts(ByTexts<H>),
+    /// A metric that never changes.
+    Constant(Constant),
+    /// A metric of the program's own.
+    Own(X),
+}
+
+impl<H: Wait + Drop, X: Drop> Drop for Metric<H, X> {
+    fn drop(self) {
+        match self {
+            Metric::Number(_) => (),
+            Metric::Histogram(_) => (),
+            Metric::GaugeHistogram(_) => (),
+            Metric::ByTexts(_) => (),
+            Metric::Constant(_) => (),
+            Metric::Own(_) => (),
+        }
+    }
+}
+
+impl<H: Wait + Clone + Send + Sync + Drop, X: EncodeMetric> EncodeMetric for Metric<H, X> {
+    ghost types = { λ m t. elim m [
+      | Number x ↦ ⟦<Number as EncodeMetric>⟧.types x t
+      | Histogram x ↦ ⟦<Histogram<H> as EncodeMetric>⟧.types x t
+      | GaugeHistogram x ↦ ⟦<GaugeHistogram<H> as EncodeMetric>⟧.types x t
+      | ByTexts x ↦ ⟦<ByTexts<H> as EncodeMetric>⟧.types x t
+      | Constant x ↦ ⟦<Constant as EncodeMetric>⟧.types x t
+      | Own x ↦ X.types x t
+    ] };
+
+    ghost may_be_empty = { λ m. elim m [
+      | Number x ↦ ⟦<Number as EncodeMetric>⟧.may_be_empty x
+      | Histogram x ↦ ⟦<Histogram<H> as EncodeMetric>⟧.may_be_empty x
+      | GaugeHistogram x ↦ ⟦<GaugeHistogram<H> as EncodeMetric>⟧.may_be_empty x
+      | ByTexts x ↦ ⟦<ByTexts<H> as EncodeMetric>⟧.may_be_empty x
+      | Constant x ↦ ⟦<Constant as EncodeMetric>⟧.may_be_empty x
+      | Own x ↦ X.may_be_empty x
+    ] };
+
+    ghost stamps = { λ m s. elim m [
+      | Number x ↦ ⟦<Number as EncodeMetric>⟧.stamps x s
+      | Histogram x ↦ ⟦<Histogram<H> as EncodeMetric>⟧.stamps x s
+      | GaugeHistogram x ↦ ⟦<GaugeHistogram<H> as EncodeMetric>⟧.stamps x s
+      | ByTexts x ↦ ⟦<ByTexts<H> as EncodeMetric>⟧.stamps x s
+      | Constant x ↦ ⟦<Constant as EncodeMetric>⟧.stamps x s
+      | Own x ↦ X.stamps x s
+    ] };
+
+    ghost offers = { λ m s ms. elim m [
+      | Number x ↦ ⟦<Number as EncodeMetric>⟧.offers x s ms
+      | Histogram x ↦ ⟦<Histogram<H> as EncodeMetric>⟧.offers x s ms
+      | GaugeHistogram x ↦ ⟦<GaugeHistogram<H> as EncodeMetric>⟧.offers x s ms
+      | ByTexts x ↦ ⟦<ByTexts<H> as EncodeMetric>⟧.offers x s ms
+      | Constant x ↦ ⟦<Constant as EncodeMetric>⟧.offers x s ms
+      | Own x ↦ X.offers x s ms
+    ] };
+
+    ghost may_fault = { λ m. elim m [
+      | Number x ↦ ⟦<Number as EncodeMetric>⟧.may_fault x
+      | Histogram x ↦ ⟦<Histogram<H> as EncodeMetric>⟧.may_fault x
+      | GaugeHistogram x ↦ ⟦<GaugeHistogram<H> as EncodeMetric>⟧.may_fault x
+      | ByTexts x ↦ ⟦<ByTexts<H> as EncodeMetric>⟧.may_fault x
+      | Constant x ↦ ⟦<Constant as EncodeMetric>⟧.may_fault x
+      | Own x ↦ X.may_fault x
+    ] };
+
+    fn encode(&self, encoder: &mut MetricEncoder) -> Result<(), EncodeError> {
+        match self {
+            Metric::Number(metric) => metric.encode(encoder),
+            Metric::Histogram(metric) => metric.encode(encoder),
+            Metric::GaugeHistogram(metric) => metric.encode(encoder),
+            Metric::ByTexts(metric) => metric.encode(encoder),
+            Metric::Constant(metric) => metric.encode(encoder),
+            Metric::Own(metric) => metric.encode(encoder),
+        }
+    }
+
+    fn metric_type(&self) -> MetricType {
+        match self {
+            Metric::Number(metric) => metric.metric_type(),
+            Metric::Histogram(metric) => metric.metric_type(),
+            Metric::GaugeHistogram(metric) => metric.metric_type(),
+            Metric::ByTexts(metric) => metric.metric_type(),
+            Metric::Constant(metric) => metric.metric_type(),
+            Metric::Own(metric) => metric.metric_type(),
+        }
+    }
+
+    fn timestamp(&self) -> Option<Duration> {
+        match self {
+            Metric::Number(metric) => metric.timestamp(),
+            Metric::Histogram(metric) => metric.timestamp(),
+            Metric::GaugeHistogram(metric) => metric.timestamp(),
+            Metric::ByTexts(metric) => metric.timestamp(),
+            Metric::Constant(metric) => metric.timestamp(),
+            Metric::Own(metric) => metric.timestamp(),
+        }
+    }
+
+    fn is_empty(&self) -> bool {
+        match self {
+            Metric::Number(metric) => metric.is_empty(),
+            Metric::Histogram(metric) => metric.is_empty(),
+            Metric::GaugeHistogram(metric) => metric.is_empty(),
+            Metric::ByTexts(metric) => metric.is_empty(),
+            Metric::Constant(metric) => metric.is_empty(),
+            Metric::Own(metric) => metric.is_empty(),
+        }
+    }
+}
+
+impl<H: Wait, X> From<Counter<u64>> for Metric<H, X> {
+    ghost from_gives = { λ x metric. metric ≡ Number (Counter x) };
+
+    fn from(value: Counter<u64>) -> Metric<H, X> {
+        Metric::Number(Number::Counter(value))
+    }
+}
+
+impl<H: Wait, X> From<Counter<Fixed>> for Metric<H, X> {
+    ghost from_gives = { λ x metric. metric ≡ Number (FixedCounter x) };
+
+    fn from(value: Counter<Fixed>) -> Metric<H, X> {
+        Metric::Number(Number::FixedCounter(value))
+    }
+}
+
+impl<H: Wait, X> From<Gauge<i64>> for Metric<H, X> {
+    ghost from_gives = { λ x metric. metric ≡ Number (Gauge x) };
+
+    fn from(value: Gauge<i64>) -> Metric<H, X> {
+        Metric::Number(Number::Gauge(value))
+    }
+}
+
+impl<H: Wait, X> From<Gauge<Fixed>> for Metric<H, X> {
+    ghost from_gives = { λ x metric. metric ≡ Number (FixedGauge x) };
+
+    fn from(value: Gauge<Fixed>) -> Metric<H, X> {
+        Metric::Number(Number::FixedGauge(value))
+    }
+}
+
+impl<H: Wait, X> From<Histogram<H>> for Metric<H, X> {
+    ghost from_gives = { λ x metric. metric ≡ Histogram x };
+
+    fn from(value: Histogram<H>) -> Metric<H, X> {
+        Metric::Histogram(value)
+    }
+}
+
+impl<H: Wait, X> From<GaugeHistogram<H>> for Metric<H, X> {
+    ghost from_gives = { λ x metric. metric ≡ GaugeHistogram x };
+
+    fn from(value: GaugeHistogram<H>) -> Metric<H, X> {
+        Metric::GaugeHistogram(value)
+    }
+}
+
+impl<H: Wait, X> From<TextFamily<Counter<u64>, H>> for Metric<H, X> {
+    ghost from_gives = { λ x metric. metric ≡ ByTexts (Counters (record { family = x })) };
+
+    fn from(value: TextFamily<Counter<u64>, H>) -> Metric<H, X> {
+        Metric::ByTexts(ByTexts::Counters(OfTexts { family: value }))
+    }
+}
+
+impl<H: Wait, X> From<TextFamily<Counter<Fixed>, H>> for Metric<H, X> {
+    ghost from_gives = { λ x metric. metric ≡ ByTexts (FixedCounters (record { family = x })) };
+
+    fn from(value: TextFamily<Counter<Fixed>, H>) -> Metric<H, X> {
+        Metric::ByTexts(ByTexts::FixedCounters(OfTexts { family: value }))
+    }
+}
+
+impl<H: Wait, X> From<TextFamily<Gauge<i64>, H>> for Metric<H, X> {
+    ghost from_gives = { λ x metric. metric ≡ ByTexts (Gauges (record { family = x })) };
+
+    fn from(value: TextFamily<Gauge<i64>, H>) -> Metric<H, X> {
+        Metric::ByTexts(ByTexts::Gauges(OfTexts { family: value }))
+    }
+}
+
+impl<H: Wait, X> From<TextFamily<Gauge<Fixed>, H>> for Metric<H, X> {
+    ghost from_gives = { λ x metric. metric ≡ ByTexts (FixedGauges (record { family = x })) };
+
+    fn from(value: TextFamily<Gauge<Fixed>, H>) -> Metric<H, X> {
+        Metric::ByTexts(ByTexts::FixedGauges(OfTexts { family: value }))
+    }
+}
+
+impl<H: Wait, X> From<TextFamily<Histogram<H>, H>> for Metric<H, X> {
+    ghost from_gives = { λ x metric. metric ≡ ByTexts (Histograms (record { family = x })) };
+
+    fn from(value: TextFamily<Histogram<H>, H>) -> Metric<H, X> {
+        Metric::ByTexts(ByTexts::Histograms(OfTexts { family: value }))
+    }
+}
+
+impl<H: Wait, X> From<TextFamily<GaugeHistogram<H>, H>> for Metric<H, X> {
+    ghost from_gives = { λ x metric. metric ≡ ByTexts (GaugeHistograms (record { family = x })) };
+
+    fn from(value: TextFamily<GaugeHistogram<H>, H>) -> Metric<H, X> {
+        Metric::ByTexts(ByTexts::GaugeHistograms(OfTexts { family: value }))
+    }
+}
+
+impl<H: Wait, X> From<Info<Vec<(String, String)>>> for Metric<H, X> {
+    ghost from_gives = { λ x metric. metric ≡ Constant (constant.Info x) };
+
+    fn from(value: Info<Vec<(String, String)>>) -> Metric<H, X> {
+        Metric::Constant(Constant::Info(value))
+    }
+}
+
+impl<H: Wait, X> From<ConstCounter<u64>> for Metric<H, X> {
+    ghost from_gives = { λ x metric. metric ≡ Constant (constant.Counter x) };
+
+    fn from(value: ConstCounter<u64>) -> Metric<H, X> {
+        Metric::Constant(Constant::Counter(value))
+    }
+}
+
+impl<H: Wait, X> From<ConstCounter<Fixed>> for Metric<H, X> {
+    ghost from_gives = { λ x metric. metric ≡ Constant (constant.FixedCounter x) };
+
+    fn from(value: ConstCounter<Fixed>) -> Metric<H, X> {
+        Metric::Constant(Constant::FixedCounter(value))
+    }
+}
+
+impl<H: Wait, X> From<ConstGauge<i64>> for Metric<H, X> {
+    ghost from_gives = { λ x metric. metric ≡ Constant (constant.Gauge x) };
+
+    fn from(value: ConstGauge<i64>) -> Metric<H, X> {
+        Metric::Constant(Constant::Gauge(value))
+    }
+}
+
+impl<H: Wait, X> From<ConstGauge<Fixed>> for Metric<H, X> {
+    ghost from_gives = { λ x metric. metric ≡ Constant (constant.FixedGauge x) };
+
+    fn from(value: ConstGauge<Fixed>) -> Metric<H, X> {
+        Metric::Constant(Constant::FixedGauge(value))
+    }
+}
+
+impl<H: Wait, X> From<Unknown<i64>> for Metric<H, X> {
+    ghost from_gives = { λ x metric. metric ≡ Constant (constant.Unknown x) };
+
+    fn from(value: Unknown<i64>) -> Metric<H, X> {
+        Metric::Constant(Constant::Unknown(value))
+    }
+}
+
+impl<H: Wait, X> From<Unknown<Fixed>> for Metric<H, X> {
+    ghost from_gives = { λ x metric. metric ≡ Constant (constant.FixedUnknown x) };
+
+    fn from(value: Unknown<Fixed>) -> Metric<H, X> {
+        Metric::Constant(Constant::FixedUnknown(value))
+    }
+}
+
+impl<H: Wait, X> From<HistogramSnapshot> for Metric<H, X> {
+    ghost from_gives = { λ x metric. metric ≡ Constant (constant.Histogram x) };
+
+    fn from(value: HistogramSnapshot) -> Metric<H, X> {
+        Metric::Constant(Constant::Histogram(value))
+    }
+}
+
+impl<H: Wait, X> From<GaugeHistogramSnapshot> for Metric<H, X> {
+    ghost from_gives = { λ x metric. metric ≡ Constant (constant.GaugeHistogram x) };
+
+    fn from(value: GaugeHistogramSnapshot) -> Metric<H, X> {
+        Metric::Constant(Constant::GaugeHistogram(value))
+    }
+}

@@ -1,0 +1,209 @@
+//! Registry calls made one after the other.
+ghost use Rattle.std.specs.Prelude.{◌≡◌, OnOk, OnErr, IfOk, None, true, [], map};
+ghost use Rattle.std.specs.String.{string_bytes};
+ghost use Rattle.fm_grammar.specs.LabelPairs.{labels_of};
+ghost use Rattle.fm_registry_model.specs.Answer.{refusal_of, asking_refusal, subsystem_refusal, after, IsReturned};
+ghost use Rattle.fm_registry_model.specs.History.{Subsystem as AskSubsystem};
+ghost use Rattle.fm_registry_model.specs.Texts.{has_text};
+ghost use Rattle.fm_registry_model.specs.Tree.{Reads, names_in};
+ghost use Rattle.fm_registry_model.specs.Steps.{with_subsystem};
+ghost use Rattle.fm_registry_model.specs.Running.{IsReply};
+ghost use Rattle.fm_registry_model.specs.inside.Paths.{path_of};
+ghost use Rattle.fm_core.specs.inside.Request.{call_at};
+ghost use Rattle.fm_core.specs.Calls.{RunsCall, RunsCalls};
+ghost use Rattle.fm_core.specs.HasHistory.{HasHistory, Grows};
+
+use super::Registry;
+use fm_encoder::EncodeMetric;
+use fm_raw::{MetricType, Unit};
+use fm_registry_model::RegistryError;
+
+/// A call at the registry that a path of subsystem names leads to, starting from the registry that runs the call.
+#[derive(Drop)]
+pub enum RegistryCall<M = Box<dyn EncodeMetric>> {
+    /// Registers a metric there.
+    Register {
+        path: Vec<String>,
+        name: String,
+        help: String,
+        unit: Option<Unit>,
+        metric: M,
+    },
+    /// Creates a subsystem with this name and these labels there, if it does not exist.
+    Subsystem {
+        path: Vec<String>,
+        name: String,
+        labels: Vec<(String, String)>,
+    },
+}
+
+// A call at one registry, without its path.
+#[derive(Drop)]
+enum Request<M> {
+    Register {
+        name: String,
+        help: String,
+        metric_type: MetricType,
+        unit: Option<Unit>,
+        metric: M,
+    },
+    Subsystem {
+        name: String,
+        labels: Vec<(String, String)>,
+    },
+}
+
+impl<M: Drop> Registry<M> {
+    // Creates a subsystem if it does not exist. Stated of the tree alone.
+    fn ask_here(&mut self, name: String, labels: Vec<(String, String)>) -> Result<(), RegistryError>
+        ensures answer { IsReturned (refusal_of result)
+            (subsystem_refusal self.old.facts.depth self.old.facts.metrics
+            (names_in self.old.children) (string_bytes name) (labels_of labels.items)) }
+        ensures there { has_text (names_in self.old.children) (string_bytes name) ≡ true
+            → refusal_of result
+            ≡ asking_refusal self.old.facts.depth (string_bytes name) (labels_of labels.items) }
+        ensures ok { OnOk result
+            (self.new ≡ with_subsystem self.old (string_bytes name) (labels_of labels.items)) }
+        ensures err { OnErr result (self.new ≡ self.old) }
+    {
+        match self.add_subsystem(name, labels) {
+            Ok(_) => Ok(()),
+            Err(e) => Err(e),
+        }
+    }
+
+    // The same, stated for every history that the tree reads.
+    fn ask_subsystem(
+        &mut self,
+        name: String,
+        labels: Vec<(String, String)>,
+    ) -> Result<(), RegistryError>
+        ensures reply { (b : _) → Reads self.old b
+            → IsReply (refusal_of result) b
+            (AskSubsystem [] (string_bytes name) (labels_of labels.items)) }
+        ensures ok { OnOk result
+            ((b : _) → Reads self.old b
+            → Reads self.new
+            (after b (AskSubsystem [] (string_bytes name) (labels_of labels.items)))) }
+        ensures err { OnErr result (self.new ≡ self.old) }
+    {
+        self.ask_here(name, labels)
+    }
+
+    // Applies a request to this registry.
+    fn apply_here(&mut self, request: Request<M>) -> Result<(), RegistryError>
+        ensures reply { (b : _) → Reads self.old b
+            → IsReply (refusal_of result) b (call_at [] request) }
+        ensures ok { OnOk result
+            ((b : _) → Reads self.old b
+            → Reads self.new (after b (call_at [] request))) }
+        ensures err { OnErr result (self.new ≡ self.old) }
+    {
+        match request {
+            Request::Register {
+                name,
+                help,
+                metric_type,
+                unit,
+                metric,
+            } => self.add_metric(name, help, metric_type, unit, metric),
+            Request::Subsystem { name, labels } => self.ask_subsystem(name, labels),
+        }
+    }
+
+    // Applies a request at the end of a path, whose names are in reverse order.
+    fn apply(&mut self, mut path: Vec<String>, request: Request<M>) -> Result<(), RegistryError>
+        ensures reply { (b : _) → Reads self.old b
+            → IsReply (refusal_of result) b (call_at (path_of path.items) request) }
+        ensures ok { OnOk result
+            ((b : _) → Reads self.old b
+            → Reads self.new (after b (call_at (path_of path.items) request))) }
+        ensures err { OnErr result (self.new ≡ self.old) }
+    {
+        match path.pop() {
+            None => self.apply_here(request),
+            Some(name) => match self.index_of(name.as_str()) {
+                None => Err(RegistryError::NoSuchSubsystem { name }),
+                Some(index) => self.subsystem_at(index).apply(path, request),
+            },
+        }
+    }
+}
+
+impl<M: EncodeMetric> Registry<M> {
+    /// Makes one call, and returns its reply: that of `register_metric` or of a subsystem builder at the registry that the
+    /// path leads to, or `NoSuchSubsystem` with the first name on the path that does not exist. A call that fails changes
+    /// nothing.
+    pub fn run_call(&mut self, call: RegistryCall<M>) -> Result<(), RegistryError>
+        ensures runs { RunsCall M.types call self.old self.new result }
+        ensures grows { Grows self.old self.new }
+        ensures sound { HasHistory self.old → HasHistory self.new }
+    {
+        self.apply_call(call)
+    }
+
+    // Makes one call.
+    fn apply_call(&mut self, call: RegistryCall<M>) -> Result<(), RegistryError>
+        ensures { RunsCall M.types call self.old self.new result }
+    {
+        match call {
+            RegistryCall::Register {
+                mut path,
+                name,
+                help,
+                unit,
+                metric,
+            } => {
+                let metric_type = metric.metric_type();
+                path.reverse();
+                let request = Request::Register {
+                    name,
+                    help,
+                    metric_type,
+                    unit,
+                    metric,
+                };
+                self.apply(path, request)
+            }
+            RegistryCall::Subsystem {
+                mut path,
+                name,
+                labels,
+            } => {
+                path.reverse();
+                self.apply(path, Request::Subsystem { name, labels })
+            }
+        }
+    }
+}
+
+impl Registry {
+    /// Makes the calls in turn, also after a call that fails, and returns the reply to each.
+    ///
+    /// A call gets the reply that `register_metric` or a subsystem builder gives at that registry, or `NoSuchSubsystem`
+    /// with the first name on its path that does not exist. A call that fails changes nothing. The list of replies is
+    /// allocated first: if that fails, no call is made and `run` returns `Memory`, its only error. A call gets no reply
+    /// `Memory` where these methods allocate nothing: for the errors that they find without memory, and for a subsystem
+    /// that exists.
+    pub fn run(
+        &mut self,
+        calls: Vec<RegistryCall>,
+    ) -> Result<Vec<Result<(), RegistryError>>, RegistryError>
+        ensures replies { IfOk result
+            (λ replies. RunsCalls (λ m t. types m t) calls.items
+            self.old self.new (map refusal_of replies.items)) }
+        ensures answer { IsReturned (refusal_of result) None }
+        ensures err { OnErr result (self.new ≡ self.old) }
+        ensures grows { Grows self.old self.new }
+        ensures sound { HasHistory self.old → HasHistory self.new }
+    {
+        let Ok(mut replies) = Vec::with_capacity(*calls.allocator(), calls.len()) else {
+            return Err(RegistryError::Memory);
+        };
+        for call in calls {
+            let reply = self.run_call(call);
+            replies.push_reserved(reply);
+        }
+        Ok(replies)
+    }
+}

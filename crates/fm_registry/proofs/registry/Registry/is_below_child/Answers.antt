@@ -1,6 +1,0 @@
-use Rattle.fm_registry_model.specs.Taken.{is_below}
-use Rattle.fm_registry.proofs.TailLemmas.{any_child}
-use Rattle.fm_registry.proofs.registry.Registry.is_below_child.Goals as goal
-
-pub returns-in-Some : goal.returns-in-Some
-returns-in-Some g c = rw (← c.self.view_is, c.in-Some.is, c.is_below_any.ensures, c.deref.ensures.value) (any_child {M = g.row.M.Denot} (λ name. is_below name c.args.tail.now) c.in-Some.subsystems.items)

@@ -1,9 +1,0 @@
-use Rattle.std.proofs.Common.{◌∙◌, ◌++◌, ap}
-use Rattle.fm_registry.specs.Seen.{listed_in}
-use Rattle.fm_registry_model.specs.Listing.{listed_tree}
-use Rattle.fm_registry_model.proofs.OrderLemmas.{shown-order}
-use Rattle.fm_registry.proofs.registry.Registry.listing.Goals as goal
-
-pub returns-clause-history : goal.returns-clause-history
-returns-clause-history g c = λ has b shows.
-    c.in_ok-list_into.ensures ∙ ap (λ xs. listed_in xs ++ listed_tree c.args.self.now) c.new-list.ensures.items ∙ shown-order c.args.self.now has.history b has.reads shows

@@ -1,2 +1,0 @@
-mod PathLemmas
-mod RootLemmas
