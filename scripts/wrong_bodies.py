@@ -16,8 +16,10 @@ each function must be proved, since one that isn't would show nothing.
 
 Much of what a wrong body costs is searches that fail, each of which ends at its counts, and what the check then offers to write. So a search gets half
 of the counts that it has elsewhere; and where a body has a line `search: FOLDER GOAL..`, the folder of the function's proof below proofs/ and goals of
-it, each of these goals gets one `search rules` in place of all that the check tries, and nothing is offered. With --right all is tried so too. With
---full these lines count for nothing, and a search gets all of its counts: whoever adds a body tries that once.
+it, the first of these goals gets one `search rules` in place of all that the check tries, and nothing is offered. The others, which the body breaks too,
+aren't tried, nor are those of a line `left: FOLDER GOAL..`: one goal that can't be proved refuses a body. With --right each goal of a line `search:` gets
+that search, and lines `left:` count for nothing, since what is right may not have such a goal. With --full neither line counts, and a search gets all of
+its counts: whoever adds a body tries that once.
 
 One of which a check says only that the function's proof names what is gone shows nothing of the contract: it is NOT SHOWN, and fails as one does that
 is NOT REFUSED. It has to become another body, or one that a test refuses (`scripts/tested_bodies.py`).
@@ -48,7 +50,7 @@ class WrongBody:
     """A mistake in functions of a file: pairs of an old and a new text, one line each."""
 
     def __init__(self, crate, title):
-        self.crate, self.title, self.tests, self.seconds, self.file, self.search, self.pairs = crate, title, "", "", "", [], []
+        self.crate, self.title, self.tests, self.seconds, self.file, self.search, self.left, self.pairs = crate, title, "", "", "", [], [], []
         # The number of the copy that it stands in, or 0 in place of what is right.
         self.copy = 0
 
@@ -94,16 +96,24 @@ class WrongBody:
         lines = text_of(f"{folder}/{self.file}").split("\n")
         return Function(self.file, lines, next(i for i, line in enumerate(lines) if f"fn {name}" in line))
 
-    def answer_in(self, folder):
-        """Answers the goals that get one search, in a copy of the crate in which it stands."""
-        if not self.search:
+    def answers(self, is_right):
+        """The goals that get one search, or an answer that names nothing, so that they aren't tried; and the folder of their proof."""
+        searched, left = self.search[1:], []
+        if not is_right:
+            searched, left = searched[:1], searched[1:] + self.left[1:]
+        return {**dict.fromkeys(left, "not_tried"), **dict.fromkeys(searched, "search rules")}, (self.search or self.left or [""])[0]
+
+    def answer_in(self, folder, is_right):
+        """Answers goals in a copy of the crate in which it stands."""
+        answers, where = self.answers(is_right)
+        if not answers:
             return
-        proof = f"{self.search[0]}{f'_{self.copy}' if self.copy else ''}"
+        proof = f"{where}{f'_{self.copy}' if self.copy else ''}"
         path = f"{folder}/proofs/{proof}/Answers.antt"
         text = text_of(path) if os.path.isfile(path) else f"use Rattle.{self.crate.name}.proofs.{proof.replace('/', '.')}.Goals as goal\n"
         if not re.search(r"^use .*\brules\b", text, re.M):
             text = f"use Rattle.std.proofs.Common.{{rules}}\n{text}"
-        text += "".join(f"\npub {goal} : goal.{goal}\n{goal} c = search rules\n" for goal in self.search[1:])
+        text += "".join(f"\npub {goal} : goal.{goal}\n{goal} c = {answer}\n" for goal, answer in answers.items())
         os.makedirs(os.path.dirname(path), exist_ok=True)
         with open(path, "w", encoding="utf-8") as file:
             file.write(text)
@@ -124,6 +134,8 @@ def listed(crate, name):
             found[-1].file = text
         elif word == "search:":
             found[-1].search = text.split()
+        elif word == "left:":
+            found[-1].left = text.split()
         elif word == "old:":
             found[-1].pairs.append([text, ""])
         elif word == "new:":
@@ -181,7 +193,7 @@ class Crate:
         words += ["--antt-project", f"{KIT}/rattle/logic/antt-project.json", "--logic-built", f"{KIT}/logic_built"]
         return [*words, "--links", f"{self.name}=never", "--jobs", "1"]
 
-    def checked_with(self, wrongs, crates, run):
+    def checked_with(self, wrongs, crates, run, is_right=False):
         """What a check of the functions of these wrong bodies says of a copy in which they stand, and the functions of each."""
         with tempfile.TemporaryDirectory(prefix="wrong-bodies-") as room:
             for part in ("src", "specs", "proofs"):
@@ -192,7 +204,7 @@ class Crate:
                     wrong.stand_in(room)
             functions = [[wrong.stand_beside(room)] if wrong.copy else wrong.functions() for wrong in wrongs]
             for wrong in wrongs if not run.is_full else []:
-                wrong.answer_in(room)
+                wrong.answer_in(room, is_right)
             leave_out(room, [it for found in functions for it in found])
             paths = {it.path for found in functions for it in found}
             only = [word for path in sorted(paths) for word in ("--only", path)] if "" not in paths else []
@@ -206,7 +218,7 @@ class Crate:
         for batch in self.batches():
             for wrong in batch:
                 wrong.pairs = [[old, old] for old, _ in wrong.pairs]
-            said, functions = self.checked_with(batch, crates, run)
+            said, functions = self.checked_with(batch, crates, run, is_right=True)
             found = [it for several in functions for it in several if it.name]
             tried += found
             for it in found:
