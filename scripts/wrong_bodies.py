@@ -275,9 +275,6 @@ class Run:
     def __init__(self, log, room, is_full=False):
         self.log, self.room, self.proved, self.has_ended, self.is_full = log, room, set(), False, is_full
 
-    def is_over(self):
-        return not self.log or re.search(r"^\d+ passed, \d+ failed", text_of(self.log), re.M) is not None
-
     def rlibs(self, crate):
         """The folder of a library that is proved."""
         return f"{self.room}/{crate.name}" if self.log else f"{crate.folder}/out/rlib"
@@ -286,13 +283,13 @@ class Run:
         """Notes the crates as they are proved, and links their libraries, until the run ends."""
         is_over = False
         while not is_over:
-            is_over = self.is_over()
             said = text_of(self.log) if self.log else ""
-            for name, crate in crates.items():
-                if name not in self.proved and (not self.log or re.search(rf"^rt: {name} (proved$|is kept:)", said, re.M)):
-                    if self.log and os.path.isdir(f"{crate.folder}/out/rlib"):
-                        shutil.copytree(f"{crate.folder}/out/rlib", self.rlibs(crate), copy_function=os.link)
-                    self.proved.add(name)
+            is_over = not self.log or re.search(r"^\d+ passed, \d+ failed", said, re.M) is not None
+            found = re.findall(r"^rt: (\w+) (?:proved$|is kept:)", said, re.M) if self.log else crates
+            for crate in (crates[it] for it in found if it in crates and it not in self.proved):
+                if self.log and os.path.isdir(f"{crate.folder}/out/rlib"):
+                    shutil.copytree(f"{crate.folder}/out/rlib", self.rlibs(crate), copy_function=os.link)
+                self.proved.add(crate.name)
             time.sleep(0 if is_over else 1)
         self.has_ended = True
 

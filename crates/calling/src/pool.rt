@@ -4,7 +4,7 @@ ghost use Rattle.std.specs.Prelude.{◌≡◌, ℕ, ◌+◌, ◌<◌, ◌≤◌,
 use fastmetrics::format::text::encode;
 use fastmetrics::metrics::counter::ConstCounter;
 use fastmetrics::metrics::tally::{Share, Tally, TallyError, TallyKey};
-use fastmetrics::registry::Registry;
+use fastmetrics::registry::{Registry, add};
 use std::alloc::Global;
 use std::io::Write;
 use std::marker::Brand;
@@ -176,25 +176,33 @@ pub fn count_all<K: TallyKey + Send + Sync, R: Threads + Wait + Sync>(
     Ok(Received { total, so_far })
 }
 
-/// Writes the sum of four batches as a counter.
-pub fn show<R: Threads + Wait + Sync, W: Write>(
-    rt: &R,
-    alloc: Global,
-    out: &mut W,
-) -> anyhow::Result<()> {
+// Counts four batches.
+fn count_four<R: Threads + Wait + Sync>(rt: &R, alloc: Global) -> Result<Received, TallyError> {
     let batches = [
         vec![in alloc; 1_500, 640, 64]?,
         vec![in alloc; 9_000]?,
         vec![in alloc; 0, 1_500, 1_500, 1_024]?,
         Vec::new(alloc),
     ];
-    let received = count_all::<Brand, _>(rt, alloc, Blank::new(6), &batches)?;
+    count_all::<Brand, _>(rt, alloc, Blank::new(6), &batches)
+}
 
+/// Writes the sum of four batches as a counter.
+pub fn show<R: Threads + Wait + Sync, W: Write>(
+    rt: &R,
+    alloc: Global,
+    out: &mut W,
+) -> anyhow::Result<()> {
+    let received = count_four(rt, alloc)?;
     let mut registry = Registry::default();
-    let name = String::from_str(alloc, "received_bytes")?;
-    let help = String::from_str(alloc, "Bytes that were received")?;
-    let counter = ConstCounter::new(received.total);
-    registry.register(name, help, Box::new(alloc, counter)?)?;
+    let counter = Box::new(alloc, ConstCounter::new(received.total))?;
+    add(
+        alloc,
+        &mut registry,
+        "received_bytes",
+        "Bytes that were received",
+        counter,
+    )?;
     encode(alloc, out, &registry)?;
     Ok(())
 }

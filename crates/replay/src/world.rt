@@ -35,7 +35,7 @@ impl<H: Wait + Drop, X: Drop> Drop for World<H, X> {
     }
 }
 
-impl<H: Wait + Copy + Send + Sync + Drop, X: EncodeMetric + From<Registered<H>>> World<H, X> {
+impl<H: Wait + Copy + Send + Sync + Drop, X> World<H, X> {
     /// A world with an empty registry.
     pub fn new(wait: H, alloc: Global) -> World<H, X> {
         World {
@@ -46,7 +46,9 @@ impl<H: Wait + Copy + Send + Sync + Drop, X: EncodeMetric + From<Registered<H>>>
             metrics: Vec::new(alloc),
         }
     }
+}
 
+impl<H: Wait + Copy + Send + Sync + Drop, X: EncodeMetric + From<Registered<H>>> World<H, X> {
     /// Forgets the registry and all ids.
     pub fn forget(&mut self) {
         self.subsystems.clear();

@@ -67,7 +67,7 @@ impl<H: Wait + Copy + Send + Sync + Drop> Root<H> {
     }
 }
 
-impl<H: Wait + Copy + Send + Sync + Drop, X: EncodeMetric> Root<H, X> {
+impl<H: Wait + Copy + Send + Sync + Drop, X> Root<H, X> {
     /// A root also for metrics of the program's own, with the namespace and the constant labels of the builder, and no metrics. It
     /// takes no memory.
     pub fn with_own(builder: RegistryBuilder, wait: H, alloc: Global) -> Root<H, X>
@@ -79,6 +79,15 @@ impl<H: Wait + Copy + Send + Sync + Drop, X: EncodeMetric> Root<H, X> {
         Root { at, wait }
     }
 
+    /// Goes back to the root itself. It takes no memory.
+    pub fn leave(&mut self)
+        ensures { self.new.at ≡ record self.old.at { path = [] } }
+    {
+        self.at.leave();
+    }
+}
+
+impl<H: Wait + Copy + Send + Sync + Drop, X: EncodeMetric> Root<H, X> {
     /// Goes on in the subsystem with this name below the current one. If it isn't there, it is made, with these labels besides those
     /// of the registries above it. From now on metrics are registered there.
     ///
@@ -88,13 +97,6 @@ impl<H: Wait + Copy + Send + Sync + Drop, X: EncodeMetric> Root<H, X> {
             ⊎ Enters name.now (map shown_label labels.now) self.old.at self.new.at result }
     {
         self.at.enter(name, labels)
-    }
-
-    /// Goes back to the root itself. It takes no memory.
-    pub fn leave(&mut self)
-        ensures { self.new.at ≡ record self.old.at { path = [] } }
-    {
-        self.at.leave();
     }
 
     /// Registers a metric in the current subsystem, with or without a unit. It has the errors of `Registry::register_metric`, in the
