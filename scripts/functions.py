@@ -22,6 +22,11 @@ def text_of(path):
         return file.read()
 
 
+def messages(said):
+    """What a check says, a line for each message: its further lines begin with blanks."""
+    return re.sub(r"\n +", " ", said).split("\n")
+
+
 def head_at(lines, at):
     """The head of a block that begins in a line, on one line."""
     end = next(i for i in range(at, len(lines)) if lines[i].endswith("{"))
@@ -60,6 +65,18 @@ def leave_out(folder, kept):
         is_kept = any(it.may_have(path) for it in kept)
         if not is_kept and "+" not in path and {"Answers.antt", "Invariants.antt", "Proof.antt"} & set(files):
             shutil.rmtree(path)
+
+
+def leave_goals(folder, functions):
+    """Has a check of a copy of a crate try no goals of these functions but those that their proofs answer."""
+    for function in {it.first: it for it in functions}.values():
+        path = f"{folder}/{function.file}"
+        lines = text_of(path).split("\n")
+        at = next(i for i in range(function.first, function.last + 1) if FUNCTION.match(lines[i]))
+        lines[function.first : at] = ["" if it.lstrip().startswith("#[tactic(") else it for it in lines[function.first : at]]
+        lines[at] = re.sub(r"^ *", r"\g<0>#[tactic(none)] ", lines[at])
+        with open(path, "w", encoding="utf-8") as file:
+            file.write("\n".join(lines))
 
 
 class Function:
@@ -104,10 +121,10 @@ class Function:
         """What a check says that it can't prove or refuses of this function: goals first, and last that its proof names what isn't there, which says little."""
         proof = rf"(?:\./)?proofs/(?:\S+/)?{f'{self.owner}/' if self.owner else ''}\+?{self.name}/\w+\.antt:\d+:\d+: error"
         found = []
-        for line in said.split("\n"):
-            here = re.match(rf"note: (?:\./)?{self.file}:(\d+):\d+: it is not proved ", line)
+        for message in messages(said):
+            here = re.match(rf"note: (?:\./)?{self.file}:(\d+):\d+: it is not proved ", message)
             if here and self.first <= int(here[1]) - 1 <= self.last:
-                found.append((0, line))
-            elif self.name and re.match(proof, line):
-                found.append((2 if NAMING.search(line) else 1, line))
+                found.append((0, message))
+            elif self.name and re.match(proof, message):
+                found.append((2 if NAMING.search(message) else 1, message))
         return found

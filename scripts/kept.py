@@ -41,7 +41,7 @@ def sum_of(files, sources, bodies):
         found.update(f"{name_of(path)}\n".encode())
         found.update(hashlib.sha256(data).digest())
     for body in bodies:
-        found.update(json.dumps([body.crate.name, body.title, body.tests, body.file, body.pairs, body.search, body.left]).encode())
+        found.update(json.dumps([body.crate.name, body.title, body.tests, body.file, body.pairs, body.goal]).encode())
     return found.hexdigest()
 
 

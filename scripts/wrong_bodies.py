@@ -11,15 +11,15 @@ is proved from its own body and from the contracts of what it calls; only functi
 where the check names something of its own function: a goal that is not proved, or an error in the function's own proof. A second wrong body of a
 function stands in a copy of the function, under a name of its own, with a copy of its proof; where there can be none, as of a trait's method, the two
 are tried in two checks. What else the check would prove again is left out: each other function of that copy calls one that never returns, since its
-contract promises what is false, and the proof of each is gone. With --right all of this is tried with what is right in the place of each wrong body:
-each function must be proved, since one that isn't would show nothing.
+contract promises what is false, and the proof of each is gone.
 
-Much of what a wrong body costs is searches that fail, each of which ends at its counts, and what the check then offers to write. So a search gets half
-of the counts that it has elsewhere; and where a body has a line `search: FOLDER GOAL..`, the folder of the function's proof below proofs/ and goals of
-it, the first of these goals gets one `search rules` in place of all that the check tries, and nothing is offered. The others, which the body breaks too,
-aren't tried, nor are those of a line `left: FOLDER GOAL..`: one goal that can't be proved refuses a body. With --right each goal of a line `search:` gets
-that search, and lines `left:` count for nothing, since what is right may not have such a goal. With --full neither line counts, and a search gets all of
-its counts: whoever adds a body tries that once.
+One goal that can't be proved refuses a body. So a body has a line that names the folder of its function's proof, below proofs/, and one goal that it
+breaks, which is tried alone, by what proves it where the body is right: `search: FOLDER GOAL` or `grind: FOLDER GOAL`, by the first or the second of
+what a check tries by itself; `answer: FOLDER GOAL`, by the answer that the function's Answers.antt gives. With `own: FOLDER GOAL`, a goal that only the
+wrong body has, both tactics are tried. A body without such a line gets all that a check tries, and the answers that it offers to write, which take
+several times as long. Each tactic gets half of its counts. With --right these goals are tried by the same with what is right in the body's place,
+and must be proved, or where there is no such line the function; a goal that only the wrong body has isn't tried. With --full no line counts, and a
+search gets all of its counts: whoever adds a body tries both once.
 
 One of which a check says only that the function's proof names what is gone shows nothing of the contract: it is NOT SHOWN, and fails as one does that
 is NOT REFUSED. It has to become another body, or one that a test refuses (`scripts/tested_bodies.py`).
@@ -40,17 +40,24 @@ import threading
 import time
 
 import kept
-from functions import ROOTS, Function, leave_out, text_of
+from functions import NAMING, ROOTS, Function, leave_goals, leave_out, messages, text_of
 
 TOP = os.path.dirname(os.path.dirname(os.path.realpath(__file__)))
 KIT = os.path.dirname(subprocess.run(["rt", "doc"], stdout=subprocess.PIPE, text=True, check=True).stdout.strip())
+
+
+# What a check tries by itself of a goal that has no answer, in its order, and the same with half of the counts.
+TACTICS = {"search": "search rules", "grind": "grind (arith, common_steps)"}
+HALF = {"search": "search rules fits 500", "grind": "grind (arith, common_steps) steps 2000000"}
 
 
 class WrongBody:
     """A mistake in functions of a file: pairs of an old and a new text, one line each."""
 
     def __init__(self, crate, title):
-        self.crate, self.title, self.tests, self.seconds, self.file, self.search, self.left, self.pairs = crate, title, "", "", "", [], [], []
+        self.crate, self.title, self.tests, self.seconds, self.file, self.pairs = crate, title, "", "", "", []
+        # The goal that is tried alone: the word of its line, the folder of its proof and its name; or nothing.
+        self.goal = []
         # The number of the copy that it stands in, or 0 in place of what is right.
         self.copy = 0
 
@@ -96,27 +103,48 @@ class WrongBody:
         lines = text_of(f"{folder}/{self.file}").split("\n")
         return Function(self.file, lines, next(i for i, line in enumerate(lines) if f"fn {name}" in line))
 
-    def answers(self, is_right):
-        """The goals that get one search, or an answer that names nothing, so that they aren't tried; and the folder of their proof."""
-        searched, left = self.search[1:], []
-        if not is_right:
-            searched, left = searched[:1], searched[1:] + self.left[1:]
-        return {**dict.fromkeys(left, "not_tried"), **dict.fromkeys(searched, "search rules")}, (self.search or self.left or [""])[0]
+    def proof(self):
+        """The folder of the proof of its goal, below proofs/."""
+        return f"{self.goal[1]}{f'_{self.copy}' if self.copy else ''}"
 
-    def answer_in(self, folder, is_right):
-        """Answers goals in a copy of the crate in which it stands."""
-        answers, where = self.answers(is_right)
-        if not answers:
-            return
-        proof = f"{where}{f'_{self.copy}' if self.copy else ''}"
-        path = f"{folder}/proofs/{proof}/Answers.antt"
-        text = text_of(path) if os.path.isfile(path) else f"use Rattle.{self.crate.name}.proofs.{proof.replace('/', '.')}.Goals as goal\n"
-        if not re.search(r"^use .*\brules\b", text, re.M):
-            text = f"use Rattle.std.proofs.Common.{{rules}}\n{text}"
-        text += "".join(f"\npub {goal} : goal.{goal}\n{goal} c = {answer}\n" for goal, answer in answers.items())
+    def ask(self, room):
+        """Leaves, in a copy of the crate in which it stands, one goal to try, where it has a line that names one."""
+        word, _, goal = self.goal
+        path = f"{room}/proofs/{self.proof()}/Answers.antt"
+        uses = f"use Rattle.{self.crate.name}.proofs.{self.proof().replace('/', '.')}.Goals as goal\n"
+        answers = [f"pub {name} : goal.{goal}\n{name} c = {tactic}" for name, tactic in self.tries()]
+        if word == "answer":
+            is_other = lambda it: re.search(r"^pub (\S+) : goal\.\1$", it, re.M) and f"pub {goal} : goal." not in it
+            uses, answers = "", [it for it in text_of(path).rstrip("\n").split("\n\n") if not is_other(it)]
+        else:
+            uses = f"use Rattle.std.proofs.Common.{{rules, arith}}\nuse Rattle.std.proofs.lemmas.Grind.{{common_steps}}\n{uses}\n"
         os.makedirs(os.path.dirname(path), exist_ok=True)
         with open(path, "w", encoding="utf-8") as file:
-            file.write(text)
+            file.write(uses + "\n\n".join(answers) + "\n")
+
+    def tries(self):
+        """What tries its goal, with a name of the goal for each."""
+        word, _, goal = self.goal
+        return [(goal, HALF["search"]), (f"{goal}-too", HALF["grind"])] if word == "own" else [(goal, TACTICS.get(word))]
+
+    def is_proved(self, functions, said):
+        """Whether a check proved its goal, or, where it has no line that names one, its functions."""
+        if self.goal:
+            is_over = re.search(r"^(?:only=|logic=).*\Z", said.rstrip("\n"), re.M)
+            return is_over and not re.search(rf"^(?:\./)?proofs/{re.escape(self.proof())}/Answers\.antt:\d+:\d+: error", said, re.M)
+        paths = [f"{it.owner}::{it.name}" if it.owner else it.name for it in functions if it.name]
+        return all(set(re.findall(rf"^fn \S*\b{it}: (.*?)(?:, may wait)?$", said, re.M)) == {"proved"} for it in paths)
+
+    def refusals(self, functions, said):
+        """What a check says of its goal, or, where it has no line that names one, of its functions."""
+        if not self.goal:
+            return sorted(it for function in functions for it in function.refusals(said))
+        found = []
+        for name, tactic in self.tries():
+            here = rf"(?:\./)?proofs/{re.escape(self.proof())}/Answers\.antt:\d+:\d+: error: `{re.escape(name)}`: "
+            is_shown = lambda it: re.match(here + "`(?:search|grind)`[: ]", it) if tactic else not NAMING.search(it)
+            found += [(1 if is_shown(it) else 2, it) for it in messages(said) if re.match(here, it)][:1]
+        return [max(found)] if len(found) == len(self.tries()) else []
 
 
 def listed(crate, name):
@@ -132,10 +160,8 @@ def listed(crate, name):
             found[-1].seconds = text
         elif word == "file:":
             found[-1].file = text
-        elif word == "search:":
-            found[-1].search = text.split()
-        elif word == "left:":
-            found[-1].left = text.split()
+        elif word.rstrip(":") in (*TACTICS, "answer", "own"):
+            found[-1].goal = [word.rstrip(":"), *text.split()]
         elif word == "old:":
             found[-1].pairs.append([text, ""])
         elif word == "new:":
@@ -193,7 +219,7 @@ class Crate:
         words += ["--antt-project", f"{KIT}/rattle/logic/antt-project.json", "--logic-built", f"{KIT}/logic_built"]
         return [*words, "--links", f"{self.name}=never", "--jobs", "1"]
 
-    def checked_with(self, wrongs, crates, run, is_right=False):
+    def checked_with(self, wrongs, crates, run):
         """What a check of the functions of these wrong bodies says of a copy in which they stand, and the functions of each."""
         with tempfile.TemporaryDirectory(prefix="wrong-bodies-") as room:
             for part in ("src", "specs", "proofs"):
@@ -203,9 +229,11 @@ class Crate:
                 if not wrong.copy:
                     wrong.stand_in(room)
             functions = [[wrong.stand_beside(room)] if wrong.copy else wrong.functions() for wrong in wrongs]
-            for wrong in wrongs if not run.is_full else []:
-                wrong.answer_in(room, is_right)
             leave_out(room, [it for found in functions for it in found])
+            for wrong, found in zip(wrongs, functions):
+                if wrong.goal and not run.is_full:
+                    wrong.ask(room)
+                    leave_goals(room, found)
             paths = {it.path for found in functions for it in found}
             only = [word for path in sorted(paths) for word in ("--only", path)] if "" not in paths else []
             how = {"stdin": subprocess.DEVNULL, "stdout": subprocess.PIPE, "stderr": subprocess.STDOUT, "errors": "replace"}
@@ -213,18 +241,16 @@ class Crate:
             return subprocess.run([*self.words(crates, run), *half, *only], cwd=room, **how).stdout, functions
 
     def unproved(self, crates, run):
-        """The functions that its wrong bodies change, and those of them that aren't proved where what is right stands in the place of each."""
-        tried, bad = [], []
+        """How many goals and functions its wrong bodies name, and the bodies of which it isn't proved where what is right stands in the place of each."""
+        tried, bad = 0, []
         for batch in self.batches():
+            # What is right has no goal that only a wrong body has.
+            batch = [it for it in batch if it.goal[:1] != ["own"]]
             for wrong in batch:
                 wrong.pairs = [[old, old] for old, _ in wrong.pairs]
-            said, functions = self.checked_with(batch, crates, run, is_right=True)
-            found = [it for several in functions for it in several if it.name]
-            tried += found
-            for it in found:
-                path = f"{it.owner}::{it.name}" if it.owner else it.name
-                if set(re.findall(rf"^fn \S*\b{path}: (.*?)(?:, may wait)?$", said, re.M)) != {"proved"}:
-                    bad.append(it)
+            said, functions = self.checked_with(batch, crates, run) if batch else ("", [])
+            tried += len(batch)
+            bad += [wrong for wrong, found in zip(batch, functions) if not wrong.is_proved(found, said)]
         return tried, bad
 
     def rests_on(self, crates, run):
@@ -244,10 +270,10 @@ class Crate:
             answers += zip(batch, found)
         return answers
 
-    def refusals_of(self, batch, crates, run):
+    def refusals_of(self, wrongs, crates, run):
         """The same of those that are tried together."""
-        said, functions = self.checked_with(batch, crates, run)
-        named = [sorted(it for function in found for it in function.refusals(said)) if is_refusal(said) else [] for found in functions]
+        said, functions = self.checked_with(wrongs, crates, run)
+        named = [wrong.refusals(found, said) if is_refusal(said) else [] for wrong, found in zip(wrongs, functions)]
         return [it[0] if it else None for it in named]
 
 
@@ -316,13 +342,13 @@ def work(left, crates, run, waits, lock, counts):
 
 
 def said_of_what_is_right(left, crates):
-    """Prints the functions that aren't proved with what is right in them, and then 'N proved, M not proved'."""
+    """Prints the wrong bodies whose goals aren't proved with what is right in their place, and then 'N proved, M not proved'."""
     counts = [0, 0]
     for crate in left:
         tried, bad = crate.unproved(crates, Run(None, None))
         for it in bad:
-            print(f"{crate.name}, {it.path}: NOT PROVED", flush=True)
-        counts = [counts[0] + len(tried) - len(bad), counts[1] + len(bad)]
+            print(f"what is right in the place of {crate.name}, {it.title}: NOT PROVED", flush=True)
+        counts = [counts[0] + tried - len(bad), counts[1] + len(bad)]
     print(f"{counts[0]} proved, {counts[1]} not proved")
     return 1 if counts[1] else 0
 
