@@ -16,10 +16,10 @@ contract promises what is false, and the proof of each is gone.
 One goal that can't be proved refuses a body. So a body has a line that names the folder of its function's proof, below proofs/, and one goal that it
 breaks, which is tried alone, by what proves it where the body is right: `search: FOLDER GOAL` or `grind: FOLDER GOAL`, by the first or the second of
 what a check tries by itself; `answer: FOLDER GOAL`, by the answer that the function's Answers.antt gives. With `own: FOLDER GOAL`, a goal that only the
-wrong body has, both tactics are tried. A body without such a line gets all that a check tries, and the answers that it offers to write, which take
-several times as long. Each tactic gets half of its counts. With --right these goals are tried by the same with what is right in the body's place,
-and must be proved, or where there is no such line the function; a goal that only the wrong body has isn't tried. With --full no line counts, and a
-search gets all of its counts: whoever adds a body tries both once.
+wrong body has, both tactics are tried, with half of their counts. A body without such a line gets all that a check tries, with half of the counts too,
+and the answers that it offers to write, which take several times as long. With --right these goals are tried by the same with what is right in the
+body's place, and must be proved, or where there is no such line the function; a goal that only the wrong body has isn't tried. With --full no line
+counts, and each tactic gets all of its counts: whoever adds a body tries both once.
 
 One of which a check says only that the function's proof names what is gone shows nothing of the contract: it is NOT SHOWN, and fails as one does that
 is NOT REFUSED. It has to become another body, or one that a test refuses (`scripts/tested_bodies.py`).
@@ -111,16 +111,17 @@ class WrongBody:
         """Leaves, in a copy of the crate in which it stands, one goal to try, where it has a line that names one."""
         word, _, goal = self.goal
         path = f"{room}/proofs/{self.proof()}/Answers.antt"
-        uses = f"use Rattle.{self.crate.name}.proofs.{self.proof().replace('/', '.')}.Goals as goal\n"
-        answers = [f"pub {name} : goal.{goal}\n{name} c = {tactic}" for name, tactic in self.tries()]
         if word == "answer":
             is_other = lambda it: re.search(r"^pub (\S+) : goal\.\1$", it, re.M) and f"pub {goal} : goal." not in it
-            uses, answers = "", [it for it in text_of(path).rstrip("\n").split("\n\n") if not is_other(it)]
+            parts = [it for it in text_of(path).rstrip("\n").split("\n\n") if not is_other(it)]
         else:
-            uses = f"use Rattle.std.proofs.Common.{{rules, arith}}\nuse Rattle.std.proofs.lemmas.Grind.{{common_steps}}\n{uses}\n"
+            goals = f"Rattle.{self.crate.name}.proofs.{self.proof().replace('/', '.')}.Goals as goal"
+            uses = ["Rattle.std.proofs.Common.{rules, arith}", "Rattle.std.proofs.lemmas.Grind.{common_steps}", goals]
+            parts = ["\n".join(f"use {it}" for it in uses)]
+            parts += [f"pub {name} : goal.{goal}\n{name} c = {tactic}" for name, tactic in self.tries()]
         os.makedirs(os.path.dirname(path), exist_ok=True)
         with open(path, "w", encoding="utf-8") as file:
-            file.write(uses + "\n\n".join(answers) + "\n")
+            file.write("\n\n".join(parts) + "\n")
 
     def tries(self):
         """What tries its goal, with a name of the goal for each."""
@@ -167,6 +168,11 @@ def listed(crate, name):
         elif word == "new:":
             found[-1].pairs[-1][1] = text
     return found
+
+
+def has_goal_of_both(wrong):
+    """Whether a body has a line that names a goal which what is right has too."""
+    return wrong.goal and wrong.goal[0] != "own"
 
 
 class Crate:
@@ -231,7 +237,7 @@ class Crate:
             functions = [[wrong.stand_beside(room)] if wrong.copy else wrong.functions() for wrong in wrongs]
             leave_out(room, [it for found in functions for it in found])
             for wrong, found in zip(wrongs, functions):
-                if wrong.goal and not run.is_full:
+                if wrong.goal:
                     wrong.ask(room)
                     leave_goals(room, found)
             paths = {it.path for found in functions for it in found}
@@ -243,12 +249,12 @@ class Crate:
     def unproved(self, crates, run):
         """How many goals and functions its wrong bodies name, and the bodies of which it isn't proved where what is right stands in the place of each."""
         tried, bad = 0, []
-        for batch in self.batches():
-            # What is right has no goal that only a wrong body has.
-            batch = [it for it in batch if it.goal[:1] != ["own"]]
+        # What is right has no goal that only a wrong body has; and a function is proved only where those that it calls are.
+        parts = [[it for it in batch if is_in(it)] for batch in self.batches() for is_in in (has_goal_of_both, lambda it: not it.goal)]
+        for batch in filter(None, parts):
             for wrong in batch:
                 wrong.pairs = [[old, old] for old, _ in wrong.pairs]
-            said, functions = self.checked_with(batch, crates, run) if batch else ("", [])
+            said, functions = self.checked_with(batch, crates, run)
             tried += len(batch)
             bad += [wrong for wrong, found in zip(batch, functions) if not wrong.is_proved(found, said)]
         return tried, bad
@@ -272,6 +278,8 @@ class Crate:
 
     def refusals_of(self, wrongs, crates, run):
         """The same of those that are tried together."""
+        for wrong in wrongs if run.is_full else []:
+            wrong.goal = []
         said, functions = self.checked_with(wrongs, crates, run)
         named = [wrong.refusals(found, said) if is_refusal(said) else [] for wrong, found in zip(wrongs, functions)]
         return [it[0] if it else None for it in named]
