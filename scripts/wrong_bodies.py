@@ -18,8 +18,8 @@ breaks, which is tried alone, by what proves it where the body is right: `search
 what a check tries by itself; `answer: FOLDER GOAL`, by the answer that the function's Answers.antt gives. With `own: FOLDER GOAL`, a goal that only the
 wrong body has, both tactics are tried, with half of their counts. A body without such a line gets all that a check tries, with half of the counts too,
 and the answers that it offers to write, which take several times as long. With --right these goals are tried by the same with what is right in the
-body's place, and must be proved, or where there is no such line the function; a goal that only the wrong body has isn't tried. With --full no line
-counts, and each tactic gets all of its counts: whoever adds a body tries both once.
+body's place, and must be proved; with `own:` or no such line the whole function must be, by all that a check tries, with half of the counts. With
+--full no line counts, and each tactic gets all of its counts: whoever adds a body tries both once.
 
 One of which a check says only that the function's proof names what is gone shows nothing of the contract: it is NOT SHOWN, and fails as one does that
 is NOT REFUSED. It has to become another body, or one that a test refuses (`scripts/tested_bodies.py`).
@@ -170,11 +170,6 @@ def listed(crate, name):
     return found
 
 
-def has_goal_of_both(wrong):
-    """Whether a body has a line that names a goal which what is right has too."""
-    return wrong.goal and wrong.goal[0] != "own"
-
-
 class Crate:
     """A crate of crates.txt: its name, and the libraries that its line names."""
 
@@ -248,9 +243,13 @@ class Crate:
 
     def unproved(self, crates, run):
         """How many goals and functions its wrong bodies name, and the bodies of which it isn't proved where what is right stands in the place of each."""
-        tried, bad = 0, []
-        # What is right has no goal that only a wrong body has; and a function is proved only where those that it calls are.
-        parts = [[it for it in batch if is_in(it)] for batch in self.batches() for is_in in (has_goal_of_both, lambda it: not it.goal)]
+        tried, bad, parts = 0, [], []
+        for batch in self.batches():
+            for wrong in batch:
+                # What is right has no goal that only a wrong body has.
+                wrong.goal = wrong.goal if wrong.goal[:1] != ["own"] else []
+            # A function is proved only where those that it calls are: so those of which one goal is tried stand apart.
+            parts += [[it for it in batch if bool(it.goal) == has_goal] for has_goal in (True, False)]
         for batch in filter(None, parts):
             for wrong in batch:
                 wrong.pairs = [[old, old] for old, _ in wrong.pairs]
