@@ -7,10 +7,10 @@ use fastmetrics::format::text::EncodeError;
 use fastmetrics::metrics::counter::Counter;
 use fastmetrics::raw::TryDefault;
 use fastmetrics::registry::{
-    GlobalRegistry, Registry, RegistryError, register_metric, set_global_registry,
+    GlobalRegistry, Registry, RegistryBuilder, RegistryError, register_metric, set_global_registry,
     with_global_registry, with_global_registry_mut,
 };
-use std::alloc::Global;
+use std::alloc::{AllocError, Global};
 use std::io::Write;
 use std::sync::Wait;
 
@@ -47,6 +47,31 @@ pub fn shared_body<R: Wait>(
     )
 }
 
+// The builder of a registry whose metrics are printed after `myapp_`.
+fn named(alloc: Global) -> Result<RegistryBuilder, RegistryError> {
+    let namespace = String::from_str(alloc, "myapp")?;
+    Registry::builder().with_namespace(namespace)
+}
+
+// The name and the help of the counter.
+fn texts(alloc: Global) -> Result<(String, String), AllocError> {
+    let name = String::from_str(alloc, "requests")?;
+    let help = String::from_str(alloc, "Requests to the server")?;
+    Ok((name, help))
+}
+
+// Writes the document of the registry that the program shares.
+fn write_shared<R: Wait, W: Write>(
+    rt: &R,
+    alloc: Global,
+    global: &GlobalRegistry,
+    out: &mut W,
+) -> anyhow::Result<()> {
+    let body = shared_body(rt, alloc, global)?;
+    out.write_all(body.as_slice())?;
+    Ok(())
+}
+
 /// Sets the registry that the program shares, counts in it, and writes its document.
 pub fn show<R: Wait + Copy + Drop, W: Write>(
     rt: R,
@@ -54,17 +79,13 @@ pub fn show<R: Wait + Copy + Drop, W: Write>(
     out: &mut W,
 ) -> anyhow::Result<()> {
     let global: GlobalRegistry = GlobalRegistry::new();
-    let namespace = String::from_str(alloc, "myapp")?;
-    let registry = Registry::builder().with_namespace(namespace)?.build()?;
-    set_global_registry(&rt, &global, registry)?;
+    set_global_registry(&rt, &global, named(alloc)?.build()?)?;
 
     let requests = Counter::<u64>::try_default(rt, alloc)?;
     let metric: Box<dyn EncodeMetric> = Box::new(alloc, requests.clone()?)?;
-    let name = String::from_str(alloc, "requests")?;
-    let help = String::from_str(alloc, "Requests to the server")?;
+    let (name, help) = texts(alloc)?;
     register_metric(&rt, &global, name, help, None, metric)?;
 
     requests.inc();
-    out.write_all(shared_body(&rt, alloc, &global)?.as_slice())?;
-    Ok(())
+    write_shared(&rt, alloc, &global, out)
 }

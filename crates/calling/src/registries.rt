@@ -62,6 +62,33 @@ pub fn register_queries(
     )
 }
 
+// The call that makes the subsystem of the database.
+fn make_database(alloc: Global) -> Result<RegistryCall, AllocError> {
+    let name = String::from_str(alloc, "database")?;
+    Ok(RegistryCall::Subsystem {
+        path: Vec::new(alloc),
+        name,
+        labels: Vec::new(alloc),
+    })
+}
+
+// The call that registers a metric of the queries there.
+fn register_in_database(
+    alloc: Global,
+    metric: Box<dyn EncodeMetric>,
+) -> Result<RegistryCall, AllocError> {
+    let path = vec![in alloc; String::from_str(alloc, "database")?]?;
+    let name = String::from_str(alloc, "queries")?;
+    let help = String::from_str(alloc, "Queries to the database")?;
+    Ok(RegistryCall::Register {
+        path,
+        name,
+        help,
+        unit: None,
+        metric,
+    })
+}
+
 /// Makes two calls in turn, a subsystem and a metric in it, and returns the first refusal. It needs no proof, even if the path
 /// is long.
 pub fn run_two(
@@ -72,19 +99,8 @@ pub fn run_two(
     requires { HasHistory registry.old }
     ensures { HasHistory registry.new }
 {
-    let subsystem = RegistryCall::Subsystem {
-        path: Vec::new(alloc),
-        name: String::from_str(alloc, "database")?,
-        labels: Vec::new(alloc),
-    };
-    let register = RegistryCall::Register {
-        path: vec![in alloc; String::from_str(alloc, "database")?]?,
-        name: String::from_str(alloc, "queries")?,
-        help: String::from_str(alloc, "Queries to the database")?,
-        unit: None,
-        metric,
-    };
-    let calls = vec![in alloc; subsystem, register]?;
+    let (make, register) = (make_database(alloc)?, register_in_database(alloc, metric)?);
+    let calls = vec![in alloc; make, register]?;
     for reply in registry.run(calls)? {
         reply?;
     }

@@ -3,14 +3,13 @@ ghost use Rattle.std.specs.Prelude.{⊤};
 
 use crate::label::Labels;
 use crate::line::Line;
-use crate::number::{fixed, whole};
+use crate::number::Told;
 use crate::stop::Stop;
 use fm_encoder::{EncodeError, EncodeMetric, MetricEncoder};
 use fm_metrics::info::Info;
 use fm_metrics::unknown::Unknown;
 use fm_metrics::{ConstCounter, ConstGauge};
 use fm_raw::{Fixed, MetricType, UnknownValue};
-use std::str::FromStr;
 use std::time::Duration;
 
 /// A metric that never changes.
@@ -34,16 +33,8 @@ pub enum Constant {
 }
 
 // The counter of a line, with a time of creation where there is one.
-fn counter<N: FromStr + Drop>(line: &Line) -> Result<ConstCounter<N>, Stop>
-where
-    N::Err: Drop,
-{
-    let total = whole(line.argument(0)?)?;
-    counter_of(line, total)
-}
-
-// The counter with this total, and with a time of creation where a line has one.
-fn counter_of<N: Drop>(line: &Line, total: N) -> Result<ConstCounter<N>, Stop> {
+fn counter<N: Told + Drop>(line: &Line) -> Result<ConstCounter<N>, Stop> {
+    let total = N::read(line.argument(0)?)?;
     match line.time("created")? {
         Some(created) => Ok(ConstCounter::with_created(total, created)),
         None => Ok(ConstCounter::new(total)),
@@ -51,24 +42,13 @@ fn counter_of<N: Drop>(line: &Line, total: N) -> Result<ConstCounter<N>, Stop> {
 }
 
 // The gauge of a line.
-fn gauge<N: FromStr>(line: &Line) -> Result<ConstGauge<N>, Stop>
-where
-    N::Err: Drop,
-{
-    Ok(ConstGauge::new(whole(line.argument(0)?)?))
+fn gauge<N: Told>(line: &Line) -> Result<ConstGauge<N>, Stop> {
+    Ok(ConstGauge::new(N::read(line.argument(0)?)?))
 }
 
 // The metric of no known type of a line.
-fn unknown<N: FromStr + UnknownValue>(line: &Line) -> Result<Unknown<N>, Stop>
-where
-    N::Err: Drop,
-{
-    Ok(Unknown::new(whole(line.argument(0)?)?))
-}
-
-// The number with a fraction of a line.
-fn fixed_of(line: &Line) -> Result<Fixed, Stop> {
-    fixed(line.argument(0)?)
+fn unknown<N: Told + UnknownValue>(line: &Line) -> Result<Unknown<N>, Stop> {
+    Ok(Unknown::new(N::read(line.argument(0)?)?))
 }
 
 /// Whether a line's kind is one of those here.
@@ -81,17 +61,17 @@ pub fn constant_of(line: &Line) -> Result<Constant, Stop> {
     match line.kind() {
         "info" => Ok(Constant::Info(Info::new(line.labels.clone()?))),
         "const_counter" => counter(line).map(Constant::Counter),
-        "const_counter_f64" => counter_of(line, fixed_of(line)?).map(Constant::FixedCounter),
+        "const_counter_f64" => counter(line).map(Constant::FixedCounter),
         "const_counter_u32" => counter(line).map(Constant::CounterU32),
         "const_counter_usize" => counter(line).map(Constant::CounterUsize),
         "const_gauge" => gauge(line).map(Constant::Gauge),
-        "const_gauge_f64" => Ok(Constant::FixedGauge(ConstGauge::new(fixed_of(line)?))),
+        "const_gauge_f64" => gauge(line).map(Constant::FixedGauge),
         "const_gauge_i32" => gauge(line).map(Constant::GaugeI32),
         "const_gauge_isize" => gauge(line).map(Constant::GaugeIsize),
         "const_gauge_u32" => gauge(line).map(Constant::GaugeU32),
         "const_gauge_u64" => gauge(line).map(Constant::GaugeU64),
         "unknown" => unknown(line).map(Constant::Unknown),
-        "unknown_f64" => Ok(Constant::FixedUnknown(Unknown::new(fixed_of(line)?))),
+        "unknown_f64" => unknown(line).map(Constant::FixedUnknown),
         "unknown_i32" => unknown(line).map(Constant::UnknownI32),
         "unknown_u32" => unknown(line).map(Constant::UnknownU32),
         _ => Err(Stop::Mistake("no such kind")),
