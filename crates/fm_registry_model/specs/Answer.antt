@@ -23,6 +23,8 @@ pub data Refusal : Type 0 where
   NoSuchSubsystem : Text → Refusal
   TooDeep : Text → Refusal
   NameTaken : Text → Refusal
+  ReservedLabel : Text → Refusal
+  NoRandomKeys : Refusal
 
 -- an error as a refusal, with its text as bytes
 abbrev pub seen_error : errors.RegistryError → Refusal
@@ -38,6 +40,8 @@ seen_error (errors.TheVariants.DuplicateLabel name) = DuplicateLabel (string_byt
 seen_error (errors.TheVariants.NoSuchSubsystem name) = NoSuchSubsystem (string_bytes name)
 seen_error (errors.TheVariants.TooDeep name) = TooDeep (string_bytes name)
 seen_error (errors.TheVariants.NameTaken name) = NameTaken (string_bytes name)
+seen_error (errors.TheVariants.ReservedLabel name) = ReservedLabel (string_bytes name)
+seen_error errors.TheVariants.NoRandomKeys = NoRandomKeys
 
 -- the refusal that a result contains
 abbrev pub refusal_of : {T : Type 0} → Result T errors.RegistryError → Option Refusal

@@ -13,7 +13,7 @@ pub mod names;
 use std::alloc::{AllocError, AllocFailed};
 use thiserror::Error;
 
-/// Why a registry refuses a call. Each kind except `Memory` has the text that caused it.
+/// Why a registry refuses a call. Each kind except `Memory` and `NoRandomKeys` has the text that caused it.
 #[derive(Clone, Debug, PartialEq, Eq, Drop, Error)]
 pub enum RegistryError {
     /// The name of a metric is not in snake case.
@@ -53,10 +53,16 @@ pub enum RegistryError {
     /// another subsystem's name would begin with a subsystem's name and an underscore.
     #[error("NameTaken")]
     NameTaken { name: String },
+    /// A label has a name that the metric's type reserves: `le` in both kinds of histogram, `quantile` in a summary.
+    #[error("ReservedLabel")]
+    ReservedLabel { name: String },
+    /// The system gave no random keys for the hashes of label values.
+    #[error("NoRandomKeys")]
+    NoRandomKeys,
 }
 
 impl RegistryError {
-    /// The error's number, from 1 to 12.
+    /// The error's number, from 1 to 14.
     pub fn number(&self) -> u8
         ensures { result ≡ error_number self.now }
     {
@@ -73,6 +79,8 @@ impl RegistryError {
             RegistryError::NoSuchSubsystem { .. } => 10,
             RegistryError::TooDeep { .. } => 11,
             RegistryError::NameTaken { .. } => 12,
+            RegistryError::ReservedLabel { .. } => 13,
+            RegistryError::NoRandomKeys => 14,
         }
     }
 }
