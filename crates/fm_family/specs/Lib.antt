@@ -1,4 +1,5 @@
 pub use Rattle.fm_encoder.specs.Emits
 pub mod Members
+pub mod VecMembers
 pub mod MemberLends
 pub mod inside

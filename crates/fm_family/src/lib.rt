@@ -6,6 +6,7 @@ pub mod family;
 pub mod members;
 pub mod pairs;
 pub mod texts;
+pub mod vec;
 
 pub use factory::{DefaultFactory, MetricFactory};
 pub use family::Family;

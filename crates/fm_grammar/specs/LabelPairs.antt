@@ -1,5 +1,5 @@
 -- How contracts see labels that are pairs of texts.
-use Rattle.std.specs.Prelude.{List, map}
+use Rattle.std.specs.Prelude.{List, [], ◌∷◌, map}
 use Rattle.std.specs.String.{string_bytes}
 use Rattle.std.specs.Borrow.{Bor}
 use Rattle.std.specs.declared.string.String.{String}
@@ -16,3 +16,8 @@ labels_of pairs = map label_of pairs
 -- a label borrowed as two texts
 abbrev pub shown_label : Bor Text × Bor Text → Label
 shown_label pair = record { name = pair.0.now; value = pair.1.now }
+
+-- labels with these names and these values, in order
+abbrev pub labels_with : List Text → List Text → List Label
+labels_with (name ∷ names) (value ∷ values) = record { name = name; value = value } ∷ labels_with names values
+labels_with _ _ = []

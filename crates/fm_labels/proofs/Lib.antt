@@ -6,3 +6,6 @@ pub mod LabelSetLemmas
 pub mod OwnLabels
 pub mod WrittenLemmas
 pub mod ConstantLemmas
+pub mod LabelValueLemmas
+pub mod LabelHashLemmas
+pub mod NamedLemmas

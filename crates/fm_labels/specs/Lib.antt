@@ -4,5 +4,7 @@ pub mod Labels
 pub mod OwnLabels
 pub mod Refusals
 pub mod LabelEncoders
+pub mod LabelValues
 pub mod WrittenLabels
 pub mod inside
+pub mod ReservedNames

@@ -1,4 +1,5 @@
 -- What public contracts don't cite: the words of private functions.
 pub mod Constants
 pub mod FreeLabels
+pub mod JoinedValues
 pub mod Steps

@@ -16,6 +16,7 @@ use fm_text::LabelText;
 use std::marker::Model;
 
 mod gathering;
+mod named;
 
 /// A source of the name of a label.
 pub trait EncodeLabelName {

@@ -12,6 +12,7 @@ pub mod RunLemmas
 pub mod DepthLemmas
 pub mod OrderLemmas
 pub mod RootLemmas
+pub mod NameListLemmas
 pub mod ListableLemmas
 pub mod MetricLemmas
 pub mod NameLemmas

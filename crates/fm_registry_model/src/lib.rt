@@ -6,6 +6,7 @@ ghost use Rattle.std.specs.Prelude.{◌≡◌};
 ghost use Rattle.fm_registry_model.specs.RegistryErrors.{error_number};
 ghost use Rattle.fm_registry_model.specs.declared.RegistryError.TheVariants.{Memory};
 
+pub mod label_names;
 pub mod labels;
 pub mod lists;
 pub mod names;

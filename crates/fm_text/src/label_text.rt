@@ -1,6 +1,7 @@
 //! Labels that are kept in one text.
-ghost use Rattle.std.specs.Prelude.{◌≡◌, ◌++◌, ◌≤◌, ◌<◌, ◌↔◌, IsTrue, [], length, drop, map, Contains, OnOk, OnErr, IfOk, Some, None, IsSome, true, is_some, codes, IfSome};
+ghost use Rattle.std.specs.Prelude.{◌≡◌, ◌++◌, ◌∷◌, ◌≤◌, ◌<◌, ◌↔◌, IsTrue, [], length, drop, map, Contains, OnOk, OnErr, IfOk, Some, None, IsSome, true, is_some, codes, IfSome};
 ghost use Rattle.std.specs.List.{Any};
+ghost use Rattle.std.specs.Str.{IsUtf8};
 ghost use Rattle.fm_grammar.specs.Spelling.{label_list_text, escaped};
 ghost use Rattle.fm_grammar.specs.LabelPairs.{labels_of, shown_label};
 ghost use Rattle.fm_text.specs.inside.Grown.{Grown};
@@ -18,13 +19,14 @@ use std::alloc::{AllocError, Global};
 use std::marker::Model;
 
 // Appends a name or a value, and returns where it is.
-fn append_part(text: &mut GrowingText, part: &str) -> Result<Part, AllocError>
+fn append_part(text: &mut GrowingText, part: &[u8]) -> Result<Part, AllocError>
+    requires { IsUtf8 part.now }
     ensures grown { OnOk result (Grown text.old text.new part.now) }
     ensures part { IfOk result (λ p. IsPart text.new p × (part_in text.new p ≡ part.now)) }
     ensures kept { OnErr result (text.new ≡ text.old) }
 {
     let start = text.as_slice().len();
-    text.append(part.as_bytes())?;
+    text.append(part)?;
     Ok(Part {
         start,
         end: text.as_slice().len(),
@@ -290,14 +292,50 @@ impl LabelText {
         Ok(())
     }
 
+    // Gives the current label this value. Fails if memory runs out, and then changes nothing.
+    fn set_value_bytes(&mut self, value: &[u8]) -> Result<(), AllocError>
+        requires text { IsUtf8 value.now }
+        ensures set { OnOk result (self.new ≡ record self.old { value = Some value.now }) }
+        ensures kept { OnErr result (self.new ≡ self.old) }
+    {
+        let part = append_part(&mut self.text, value)?;
+        self.is_listed = may_take_value(self.is_listed, self.name, self.value, value);
+        self.value = Some(part);
+        Ok(())
+    }
+
     /// Gives the current label this value. Fails if memory runs out, and then changes nothing.
     pub fn set_value(&mut self, value: &str) -> Result<(), AllocError>
         ensures set { OnOk result (self.new ≡ record self.old { value = Some value.now }) }
         ensures kept { OnErr result (self.new ≡ self.old) }
     {
-        let part = append_part(&mut self.text, value)?;
-        self.is_listed = may_take_value(self.is_listed, self.name, self.value, value.as_bytes());
-        self.value = Some(part);
+        self.set_value_bytes(value.as_bytes())
+    }
+
+    // Drops the current label.
+    fn drop_current(&mut self)
+        ensures { self.new ≡ record self.old { name = None; value = None } }
+    {
+        self.name = None;
+        self.value = None;
+        self.is_listed = false;
+    }
+
+    /// Adds a label with this name and this value as the last, where there is no current label. Fails if memory runs out, and
+    /// then changes nothing.
+    pub fn add(&mut self, name: &str, value: &[u8]) -> Result<(), AllocError>
+        requires idle { (self.old.name ≡ None) × (self.old.value ≡ None) }
+        requires text { IsUtf8 value.now }
+        ensures added { OnOk result (self.new ≡ record self.old {
+          labels = self.old.labels ++ record { name = name.now; value = value.now } ∷ [];
+        }) }
+        ensures kept { OnErr result (self.new ≡ self.old) }
+    {
+        self.set_name(name)?;
+        if self.set_value_bytes(value).is_err() || self.end_label().is_err() {
+            self.drop_current();
+            return Err(AllocError);
+        }
         Ok(())
     }
 

@@ -1,14 +1,14 @@
 use Rattle.std.proofs.Common.{ap, ◌∙◌, Some}
 use Rattle.fm_text.specs.inside.LabelTexts.{LabelsState}
 use Rattle.fm_text.proofs.LabelTextLemmas.{held_valued, shown_valued}
-use Rattle.fm_text.proofs.label_text.LabelText.set_value.Goals as goal
+use Rattle.fm_text.proofs.label_text.LabelText.set_value_bytes.Goals as goal
 
 pub invariant_of-self-2 : goal.invariant_of-self-2
 invariant_of-self-2 c =
     let inside = c.self.inside in
     let e = c.in_ok-part.ensures in
     let next = c.may_take_value-self-inside in
-    held_valued inside.is_listed next.result inside.text _ _ inside.spans.items inside.name inside.value c.in_ok-part.part (rw c.as_bytes.ensures.value at next.ensures) e.grown e.part.0 e.part.1 c.self.invariant
+    held_valued inside.is_listed next.result inside.text _ _ inside.spans.items inside.name inside.value c.in_ok-part.part next.ensures e.grown e.part.0 e.part.1 c.self.invariant
 
 pub returns-clause-set : goal.returns-clause-set
 returns-clause-set c =

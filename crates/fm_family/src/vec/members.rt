@@ -1,0 +1,241 @@
+//! The members of a family whose label names are declared.
+ghost use Rattle.std.specs.Prelude.{◌≡◌, ◌<◌, ◌≤◌, ◌↔◌, ◌++◌, IfOk, IfErr, IfSome, OnOk, OnErr, IsTrue, Some, None, Err, Any, [], ◌∷◌, length, MatchOption, option_copied, slice_get, is_some, swap, take};
+ghost use Rattle.std.specs.List.Retain.{IsFiltered};
+ghost use Rattle.std.specs.List.{IsDistinct, AllByRecursion};
+ghost use Rattle.std.specs.Map.{lookup, keys_of, values_of};
+ghost use Rattle.indexmap.specs.IndexMap.{shift_remove_entry};
+ghost use Rattle.fm_raw.specs.declared.error.MetricError.TheVariants.{Memory, TooManyMembers};
+ghost use Rattle.fm_encoder.specs.Emits.{EmitsMembers};
+ghost use Rattle.fm_labels.specs.LabelValues.{shown_texts, values_eq};
+ghost use Rattle.fm_family.specs.Members.{OffersFirst, MayFault, CalledAtMember};
+ghost use Rattle.fm_family.specs.VecMembers.{FindsOrAdds, named_labels};
+ghost use Rattle.fm_family.specs.inside.Indexed.{HoldsMetric};
+
+use crate::factory::MetricFactory;
+use crate::vec::hashing::{LabelHashing, SoughtValues};
+use fm_labels::label_values::LabelValues;
+use fm_raw::MetricError;
+use indexmap::IndexMap;
+use std::alloc::Global;
+use std::marker::Model;
+
+/// Metrics with pairwise different lists of values, in the order in which they were made.
+pub struct VecMembers<M> {
+    // How many values each member has.
+    count: usize,
+    // How many members there may be.
+    limit: usize,
+    members: IndexMap<LabelValues, M, LabelHashing>,
+}
+
+impl<M: Drop> Drop for VecMembers<M> {
+    fn drop(self) {
+        let VecMembers {
+            count: _,
+            limit: _,
+            members: _,
+        } = self;
+    }
+}
+
+impl<M> Model for VecMembers<M> {
+    ghost use Rattle.fm_family.specs.VecMembers.{VecState};
+    ghost use Rattle.fm_family.specs.inside.VecCode.{vec_code, AreCounted};
+
+    ghost Value = { VecState M };
+
+    ghost coded = { vec_code M.code };
+
+    ghost view = { λ v. record { count = v.count; limit = v.limit; entries = v.members.entries } };
+
+    ghost invariant = { λ v. AreCounted v.count v.limit v.members.entries };
+}
+
+impl<M> VecMembers<M> {
+    /// No members, of which there may be so many, with so many values each. It takes no memory.
+    pub fn new(alloc: Global, hashing: LabelHashing, count: usize, limit: usize) -> VecMembers<M>
+        ensures { result ≡ record { count = count; limit = limit; entries = [] } }
+    {
+        VecMembers {
+            count,
+            limit,
+            members: IndexMap::with_hasher(alloc, hashing),
+        }
+    }
+
+    /// How many values each member has.
+    pub fn count(&self) -> usize
+        ensures { result ≡ self.now.count }
+    {
+        self.count
+    }
+
+    /// How many members there are. No two of them have the same values.
+    pub fn len(&self) -> usize
+        ensures count { result ≡ length self.now.entries }
+        ensures different { IsDistinct values_eq (keys_of self.now.entries) }
+        ensures within { length self.now.entries ≤ self.now.limit }
+        ensures values { AllByRecursion (λ entry. length entry.0 ≡ self.now.count) self.now.entries }
+    {
+        self.members.len()
+    }
+
+    /// Whether there is no member.
+    pub fn is_empty(&self) -> bool
+        ensures { IsTrue result ↔ (self.now.entries ≡ []) }
+    {
+        self.members.is_empty()
+    }
+
+    /// The metric of these values, if there is one. It takes no memory.
+    pub fn get(&self, values: &[&str]) -> Option<&M>
+        ensures { option_copied result ≡ lookup (values_eq (shown_texts values.now)) self.now.entries }
+    {
+        self.members.get(SoughtValues { values })
+    }
+
+    // The index of the metric of these values, if there is one.
+    fn index_of(&self, values: &[&str]) -> Option<usize>
+        ensures found { is_some result ≡ is_some (lookup (values_eq (shown_texts values.now)) self.now.entries) }
+        ensures within { IfSome result (λ i. i < length self.now.entries) }
+        ensures value { IfSome result (λ i. slice_get (values_of self.now.entries) i
+            ≡ lookup (values_eq (shown_texts values.now)) self.now.entries) }
+    {
+        self.members.get_index_of(SoughtValues { values })
+    }
+
+    // The metric at an index.
+    pub(crate) fn at(&self, index: usize) -> &M
+        requires { index < length self.now.entries }
+        ensures { HoldsMetric self.now.entries index result.now }
+    {
+        &self.members[index]
+    }
+}
+
+impl<M> VecMembers<M> {
+    // The values and the metric at an index, if there is one.
+    pub(crate) fn entry(&self, index: usize) -> Option<(&LabelValues, &M)>
+        ensures shown { MatchOption result (length self.now.entries ≤ index)
+            (λ pair. slice_get self.now.entries index ≡ Some (pair.0.now, pair.1.now)) }
+        ensures long { IfSome result (λ pair. length pair.0.now ≡ self.now.count) }
+    {
+        self.members.get_index(index)
+    }
+}
+
+impl<M: Drop> VecMembers<M> {
+    // Adds a member as the last, of which there is room, and whose values are new. Fails if memory runs out, and then the members stay as they
+    // were.
+    fn add(&mut self, values: LabelValues, metric: M) -> Result<(), MetricError>
+        requires new { lookup (values_eq values) self.old.entries ≡ None }
+        requires count { length values ≡ self.old.count }
+        requires room { length self.old.entries < self.old.limit }
+        ensures counts { (self.new.count ≡ self.old.count) × (self.new.limit ≡ self.old.limit) }
+        ensures added { OnOk result (self.new.entries ≡ self.old.entries ++ (values, metric) ∷ []) }
+        ensures kept { OnErr result (self.new.entries ≡ self.old.entries) }
+        ensures memory { IfErr result (λ e. e ≡ Memory) }
+    {
+        match self.members.insert(values, metric) {
+            Ok(_) => Ok(()),
+            Err(_) => Err(MetricError::Memory),
+        }
+    }
+
+    // The index of the metric of these values. If there is none, the factory makes one, which is added as the last.
+    pub(crate) fn index_or_new<MF: MetricFactory<M>>(
+        &mut self,
+        alloc: Global,
+        values: &[&str],
+        factory: &MF,
+    ) -> Result<usize, MetricError>
+        requires ready { MF.is_ready factory.now }
+        requires count { length values.now ≡ self.old.count }
+        ensures counts { (self.new.count ≡ self.old.count) × (self.new.limit ≡ self.old.limit) }
+        ensures finds { FindsOrAdds (MF.promises factory.now) self.old.limit (shown_texts values.now)
+            self.old.entries self.new.entries (HoldsMetric self.new.entries) result }
+        ensures within { IfOk result (λ i. i < length self.new.entries) }
+        ensures full { lookup (values_eq (shown_texts values.now)) self.old.entries ≡ None
+            → self.old.limit ≤ length self.old.entries → result ≡ Err TooManyMembers }
+    {
+        if let Some(index) = self.index_of(values) {
+            return Ok(index);
+        }
+        let index = self.len();
+        if index >= self.limit {
+            return Err(MetricError::TooManyMembers);
+        }
+        let metric = factory.new_metric()?;
+        let key = LabelValues::new(alloc, values)?;
+        self.add(key, metric)?;
+        Ok(index)
+    }
+
+    /// Removes the metric of these values, and returns whether there was one. The others keep their order and their values. It takes no
+    /// memory, and time in proportion to the number of members.
+    pub fn remove(&mut self, values: &[&str]) -> bool
+        ensures found { result ≡ is_some (lookup (values_eq (shown_texts values.now)) self.old.entries) }
+        ensures removed { self.new ≡ record self.old {
+          entries = shift_remove_entry (values_eq (shown_texts values.now)) self.old.entries;
+        } }
+    {
+        self.members.shift_remove(SoughtValues { values }).is_some()
+    }
+
+    /// Removes each member. It takes no memory, and keeps the memory that it has for new ones.
+    pub fn clear(&mut self)
+        ensures { self.new ≡ record self.old { entries = [] } }
+    {
+        self.members.clear();
+    }
+
+    /// Has so many values in each member from now on: members with another number of them are removed.
+    pub fn expect(&mut self, count: usize)
+        ensures count { self.new.count ≡ count }
+        ensures limit { self.new.limit ≡ self.old.limit }
+        ensures kept { self.old.count ≡ count → self.new ≡ self.old }
+    {
+        if self.count != count {
+            self.members.clear();
+            self.count = count;
+        }
+    }
+
+    // Exchanges the members at two indices.
+    fn exchange(&mut self, first: usize, second: usize)
+        requires first { first < length self.old.entries }
+        requires second { second < length self.old.entries }
+        ensures { self.new ≡ record self.old { entries = swap self.old.entries first second } }
+    {
+        self.members.swap_indices(first, second);
+    }
+
+    // Keeps the first members only, at most this many.
+    fn truncate(&mut self, len: usize)
+        ensures { self.new ≡ record self.old { entries = take len self.old.entries } }
+    {
+        self.members.truncate(len);
+    }
+
+    /// Removes each metric at which `keep` returns `false`. The others keep their order and their values.
+    ///
+    /// `keep` is called once for each metric, in their order, with its values. It takes no memory, and time in proportion to the
+    /// number of members.
+    pub fn retain<F: FnMut(&LabelValues, &M) -> bool>(&mut self, mut keep: F)
+        requires { F.IsAlwaysCallable keep }
+        ensures counts { (self.new.count ≡ self.old.count) × (self.new.limit ≡ self.old.limit) }
+        ensures retained { IsFiltered (CalledAtMember F.FnMut) keep self.old.entries self.new.entries }
+    {
+        let mut retained = 0;
+        for index in 0..self.len() {
+            let Some((values, metric)) = self.members.get_index(index) else {
+                unreachable!()
+            };
+            if keep(values, metric) {
+                self.exchange(retained, index);
+                retained += 1;
+            }
+        }
+        self.truncate(retained);
+    }
+}

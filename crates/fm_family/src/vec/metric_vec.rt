@@ -1,0 +1,258 @@
+//! Families by label names that threads share.
+ghost use Rattle.std.specs.Prelude.{◌≡◌, ◌⊎◌, IfOk, IfErr, Err, None, ⊤};
+ghost use Rattle.std.specs.Arc.{arc_value};
+ghost use Rattle.std.specs.Fn.{FnOnceReturnsAt};
+ghost use Rattle.fm_raw.specs.declared.error.MetricError.TheVariants.{Memory, TooManyMembers, WrongValueCount};
+ghost use Rattle.fm_registry_model.specs.Answer.{refusal_of};
+ghost use Rattle.fm_registry_model.specs.LabelNames.{shown_texts, IsOrMemory};
+ghost use Rattle.fm_labels.specs.ReservedNames.{family_names_refusal};
+ghost use Rattle.fm_family.specs.VecMembers.{OffersNamed, HasOtherCount};
+
+use crate::factory::MetricFactory;
+use crate::vec::hashing::LabelHashing;
+use crate::vec::members::VecMembers;
+use crate::vec::names::tested_label_names;
+use fm_encoder::{EncodeMetric, EncodePoint, MetricEncoder};
+use fm_labels::label_values::LabelValues;
+use fm_raw::{EncodeError, MetricError, MetricType, TypedMetric};
+use fm_registry_model::RegistryError;
+use fm_registry_model::label_names::LabelNames;
+use std::alloc::{AllocError, Global};
+use std::fmt::{self, Debug, Formatter};
+use std::sync::{Arc, RwLock, Wait};
+use std::time::Duration;
+
+// What the clones of a family share.
+#[derive(Drop)]
+struct Shared<M, MF> {
+    names: LabelNames,
+    core: RwLock<VecMembers<M>>,
+    factory: MF,
+}
+
+/// Metrics of one type with the same label names, protected by a lock. The names are given once, when the family is made; a member is
+/// found by its values. The clones of a family share the members. The factory `MF` makes a metric when its values are first used. The
+/// exposition has the members in the order in which they were made.
+///
+/// A call waits while another thread makes or removes a metric, and a call that makes or removes one waits for all others.
+/// Neither the factory nor a closure that borrows a metric may call the same family: it would wait for ever.
+pub struct MetricVec<M, MF, H: Wait> {
+    shared: Arc<Shared<M, MF>, Global>,
+    alloc: Global,
+    wait: H,
+}
+
+impl<M: Drop, MF: Drop, H: Wait + Drop> Drop for MetricVec<M, MF, H> {
+    fn drop(self) {
+        let MetricVec {
+            shared: _,
+            alloc: _,
+            wait: _,
+        } = self;
+    }
+}
+
+impl<M: TypedMetric + Drop, MF: Drop, H: Wait + Drop> MetricVec<M, MF, H> {
+    /// A family without members, with these label names, of which there may be so many.
+    ///
+    /// The first name that is no label name (`InvalidLabelName`) or that was there before (`DuplicateLabel`) is the error's, then one that
+    /// the type of the metrics keeps for itself (`ReservedLabel`). Fails with `Memory` if memory runs out.
+    pub fn new(
+        wait: H,
+        alloc: Global,
+        names: &[&str],
+        factory: MF,
+        hashing: LabelHashing,
+        limit: usize,
+    ) -> Result<Self, RegistryError>
+        ensures answer { IsOrMemory (refusal_of result)
+            (family_names_refusal M.TYPE (shown_texts names.now)) }
+        ensures names { IfOk result (λ v. (arc_value v.shared).names ≡ shown_texts names.now) }
+        ensures factory { IfOk result (λ v. (arc_value v.shared).factory ≡ factory) }
+    {
+        let names = tested_label_names(alloc, M::TYPE, names)?;
+        let core = RwLock::new(VecMembers::new(alloc, hashing, names.count(), limit));
+        let shared = Arc::new(alloc, Shared { names, core, factory })?;
+        Ok(MetricVec { shared, alloc, wait })
+    }
+}
+
+impl<M: Drop, MF: Drop, H: Wait + Drop> MetricVec<M, MF, H> {
+    /// The label names, in order.
+    pub fn names(&self) -> &LabelNames
+        ensures { result.now ≡ (arc_value self.now.shared).names }
+    {
+        &self.shared.names
+    }
+
+    /// How many members there are. It waits while another thread makes or removes a member, and takes no memory. Other
+    /// threads may have changed the number before the caller reads it.
+    pub fn len(&self) -> usize {
+        let core = self.shared.core.read(&self.wait);
+        core.len()
+    }
+
+    // Fails with `WrongValueCount` unless there are as many values as names.
+    fn test_count(&self, values: &[&str]) -> Result<(), MetricError>
+        ensures wrong { HasOtherCount (arc_value self.now.shared).names values.now
+            → result ≡ Err WrongValueCount }
+        ensures right { IfErr result (λ _. HasOtherCount (arc_value self.now.shared).names values.now) }
+    {
+        if values.len() != self.shared.names.count() {
+            return Err(MetricError::WrongValueCount);
+        }
+        Ok(())
+    }
+
+    /// Removes the member of these values, and returns whether there was one. Fails with `WrongValueCount` unless there are as many
+    /// values as names.
+    ///
+    /// The others keep their order and their values. A handle that was cloned out of the metric before counts on, and is no longer in
+    /// the exposition. If the values are used again, their metric is new, and the last member. The call waits for all other calls of
+    /// this family, and takes no memory.
+    pub fn remove(&self, values: &[&str]) -> Result<bool, MetricError>
+        ensures wrong { HasOtherCount (arc_value self.now.shared).names values.now
+            → result ≡ Err WrongValueCount }
+        ensures right { IfErr result (λ _. HasOtherCount (arc_value self.now.shared).names values.now) }
+    {
+        self.test_count(values)?;
+        let mut core = self.shared.core.write(&self.wait);
+        Ok(core.remove(values))
+    }
+
+    /// Removes each member, as `remove` does.
+    ///
+    /// The call waits for all other calls of this family, and takes no memory.
+    pub fn clear(&self) {
+        let mut core = self.shared.core.write(&self.wait);
+        core.clear();
+    }
+
+    /// Removes each member at which `keep` returns `false`, as `remove` does.
+    ///
+    /// `keep` is called once for each member, in their order, with its values, and may not call the same family: it would wait for
+    /// ever. The call waits for all other calls of this family, which wait until it returns. It takes no memory.
+    pub fn retain<F: FnMut(&LabelValues, &M) -> bool>(&self, keep: F)
+        requires { F.IsAlwaysCallable keep }
+    {
+        let mut core = self.shared.core.write(&self.wait);
+        core.retain(keep);
+    }
+}
+
+impl<M: Drop, MF: MetricFactory<M> + Drop, H: Wait + Drop> MetricVec<M, MF, H> {
+    /// Calls `f` with the metric of these values, and returns its result. If there is none, the factory makes one, which is added as
+    /// the last member.
+    ///
+    /// Fails with `WrongValueCount` unless there are as many values as names. If there is no member of these values, it fails with
+    /// `TooManyMembers` where there are as many members as the limit allows, with the factory's error, or with `Memory` if memory runs
+    /// out. At an error the members stay as they were. If the metric exists, the call takes no memory, and locks for reading only.
+    pub fn with<R, F: FnOnce(&M) -> R>(&self, values: &[&str], f: F) -> Result<R, MetricError>
+        requires ready { MF.is_ready (arc_value self.now.shared).factory }
+        requires callable { F.IsAlwaysCallable f }
+        ensures called { IfOk result (λ r. (metric : M) × FnOnceReturnsAt F.FnOnce f metric r) }
+        ensures wrong { HasOtherCount (arc_value self.now.shared).names values.now
+            → result ≡ Err WrongValueCount }
+        ensures refused { IfErr result (λ e. HasOtherCount (arc_value self.now.shared).names values.now
+            ⊎ ((e ≡ Memory) ⊎ ((e ≡ TooManyMembers)
+            ⊎ MF.promises (arc_value self.now.shared).factory (Err e)))) }
+    {
+        self.test_count(values)?;
+        let shared = &*self.shared;
+        let core = shared.core.read(&self.wait);
+        if let Some(metric) = core.get(values) {
+            return Ok(f(metric));
+        }
+        drop(core);
+        let mut core = shared.core.write(&self.wait);
+        core.expect(values.len());
+        let index = core.index_or_new(self.alloc, values, &shared.factory)?;
+        Ok(f(core.at(index)))
+    }
+}
+
+impl<M: Clone + Drop, MF: MetricFactory<M> + Drop, H: Wait + Drop> MetricVec<M, MF, H> {
+    /// A handle of the metric of these values, to be kept where it is used often: it counts without a look-up. If there is no metric,
+    /// one is made as `with` does. Fails as `with` does.
+    pub fn with_label_values(&self, values: &[&str]) -> Result<M, MetricError>
+        requires { MF.is_ready (arc_value self.now.shared).factory }
+        ensures cloned { IfOk result (λ handle. (metric : M) × M.is_clone metric handle) }
+        ensures wrong { HasOtherCount (arc_value self.now.shared).names values.now
+            → result ≡ Err WrongValueCount }
+        ensures refused { IfErr result (λ e. HasOtherCount (arc_value self.now.shared).names values.now
+            ⊎ ((e ≡ Memory) ⊎ ((e ≡ TooManyMembers)
+            ⊎ MF.promises (arc_value self.now.shared).factory (Err e)))) }
+    {
+        let handle = self.with(values, |metric| metric.clone())?;
+        Ok(handle?)
+    }
+}
+
+/// Another handle of the same family. Cloning takes memory, and fails if memory runs out.
+impl<M: Drop, MF: Drop, H: Wait + Clone> Clone for MetricVec<M, MF, H> {
+    ghost is_clone = { λ f g. arc_value g.shared ≡ arc_value f.shared };
+
+    fn clone(&self) -> Result<Self, AllocError> {
+        let shared = self.shared.clone()?;
+        let wait = self.wait.clone()?;
+        Ok(MetricVec {
+            shared,
+            alloc: self.alloc,
+            wait,
+        })
+    }
+}
+
+/// Shows the name of the type only, since the members are protected by the lock.
+impl<M, MF, H: Wait> Debug for MetricVec<M, MF, H> {
+    fn fmt<W: fmt::Write>(&self, f: &mut Formatter<W>) -> fmt::Result {
+        f.debug_struct("MetricVec").finish_non_exhaustive()
+    }
+}
+
+/// The type of the members.
+impl<M: TypedMetric, MF, H: Wait> TypedMetric for MetricVec<M, MF, H> {
+    ghost TYPE = { M.TYPE };
+
+    const TYPE: MetricType = M::TYPE;
+
+    const WITH_TIMESTAMP: bool = M::WITH_TIMESTAMP;
+}
+
+/// It offers members with just its label names, in order, and with values that differ from each other, each with points that a metric of
+/// the members' type may offer. It has no fault of its own. A family without members is empty.
+impl<
+    M: EncodePoint + TypedMetric + Send + Sync + Drop,
+    MF: Send + Sync + Drop,
+    H: Wait + Send + Sync + Drop,
+> EncodeMetric for MetricVec<M, MF, H> {
+    ghost types = { λ _ t. t ≡ M.TYPE };
+
+    ghost may_be_empty = { λ _. ⊤ };
+
+    ghost offers = { λ v _. OffersNamed (arc_value v.shared).names M.points };
+
+    ghost may_fault = { λ _. (metric : M) × M.may_fault metric };
+
+    fn encode(&self, encoder: &mut MetricEncoder) -> Result<(), EncodeError> {
+        let shared = &*self.shared;
+        let core = shared.core.read(&self.wait);
+        if core.count() != shared.names.count() {
+            return Ok(());
+        }
+        core.encode_members(&shared.names, encoder)
+    }
+
+    fn metric_type(&self) -> MetricType {
+        M::TYPE
+    }
+
+    fn timestamp(&self) -> Option<Duration> {
+        None
+    }
+
+    fn is_empty(&self) -> bool {
+        let core = self.shared.core.read(&self.wait);
+        core.is_empty()
+    }
+}
