@@ -14,6 +14,8 @@ pub mod OrderLemmas
 pub mod RootLemmas
 pub mod NameListLemmas
 pub mod ListableLemmas
+pub mod FittingLemmas
+pub mod FittingTreeLemmas
 pub mod MetricLemmas
 pub mod NameLemmas
 pub mod BelowLemmas
