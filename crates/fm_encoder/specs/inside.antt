@@ -4,3 +4,4 @@ pub mod Gathering
 pub mod BucketSteps
 pub mod Joined
 pub mod Samples
+pub mod Plain

@@ -6,3 +6,4 @@ pub mod BoundLemmas
 pub mod ShownLemmas
 pub mod TakenLemmas
 pub mod SumLemmas
+pub mod PlainLemmas

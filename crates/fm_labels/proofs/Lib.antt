@@ -9,3 +9,4 @@ pub mod ConstantLemmas
 pub mod LabelValueLemmas
 pub mod LabelHashLemmas
 pub mod NamedLemmas
+pub mod FittingLemmas

@@ -15,15 +15,15 @@ use Rattle.fm_grammar.specs.Exposition.{Text, Label}
 use Rattle.fm_grammar.specs.LabelPairs.{labels_with}
 use Rattle.fm_grammar.specs.Names.{IsLabelName, AllDifferent}
 use Rattle.fm_registry_model.specs.LabelNames.{AreLabelNames}
-use Rattle.fm_labels.specs.Labels.{EmittedLabel, NamePiece, ValuePiece, IsReserved, label_names, LabelsValid, LabelsFault, NameFault, NamesFit, IsTakenName, emitted_again, all_written}
+use Rattle.fm_labels.specs.Labels.{EmittedLabel, NamePiece, ValuePiece, IsReserved, label_names, LabelsValid, LabelsFault, NameFault, NamesAreFree, IsTakenName, emitted_again, all_written}
 
 module _ (type : MetricType) (before : List Label) where
   -- no names
-  pub free_none : NamesFit type before []
+  pub free_none : NamesAreFree type before []
   free_none = record { free = tt; fresh = tt }
 
   -- a further name that may follow
-  pub free_more : (names : List Text) (name : Text) → NamesFit type before names → ¬ (IsReserved type name) → ¬ (Contains (label_names before) name) → NamesFit type before (names ++ name ∷ [])
+  pub free_more : (names : List Text) (name : Text) → NamesAreFree type before names → ¬ (IsReserved type name) → ¬ (Contains (label_names before) name) → NamesAreFree type before (names ++ name ∷ [])
   free_more names name h free fresh = record {
     free = all_push (λ n. ¬ (IsReserved type n)) names name h.free free;
     fresh = all_push (λ n. ¬ (Contains (label_names before) n)) names name h.fresh fresh;
@@ -77,7 +77,7 @@ names_of-push : (before : List Label) (l : Label) → label_names (before ++ l �
 names_of-push before l = map-append (λ (label : Label). label.name) before (l ∷ [])
 
 -- after a label with another name the other names may follow still
-fits_after : (type : MetricType) (before : List Label) (l : Label) (names : List Text) → NamesFit type before names → AllByRecursion (λ other. other ≢ l.name) names → NamesFit type (before ++ l ∷ []) names
+fits_after : (type : MetricType) (before : List Label) (l : Label) (names : List Text) → NamesAreFree type before names → AllByRecursion (λ other. other ≢ l.name) names → NamesAreFree type (before ++ l ∷ []) names
 fits_after type before l names fit differ = record { free = fit.free; fresh = by names fit.fresh differ }
   where
     by : (names : List Text) → AllByRecursion (λ name. ¬ (Contains (label_names before) name)) names → AllByRecursion (λ other. other ≢ l.name) names → AllByRecursion (λ name. ¬ (Contains (label_names (before ++ l ∷ [])) name)) names
@@ -86,12 +86,12 @@ fits_after type before l names fit differ = record { free = fit.free; fresh = by
         ((λ there. ⊎_elim (λ h. fresh.0 h) (λ same. differ.0 (sym same)) (Contains-push_cases (label_names before) l.name n (subst (λ ns. Contains ns n) (names_of-push before l) there))), by names fresh.1 differ.1)
 
 -- labels with names that were tested and that may follow are valid
-pub named_valid : (type : MetricType) (before : List Label) (names values : List Text) → AreLabelNames names → NamesFit type before names → LabelsValid type before (emitted_again (labels_with names values))
+pub named_valid : (type : MetricType) (before : List Label) (names values : List Text) → AreLabelNames names → NamesAreFree type before names → LabelsValid type before (emitted_again (labels_with names values))
 named_valid type before [] values are fit = tt
 named_valid type before (n ∷ names) [] are fit = tt
 named_valid type before (n ∷ names) (v ∷ values) are fit =
     let label : Label = record { name = n; value = v } in
-    let rest : NamesFit type before names = record { free = fit.free.1; fresh = fit.fresh.1 } in
+    let rest : NamesAreFree type before names = record { free = fit.free.1; fresh = fit.fresh.1 } in
     (inr (n, v, refl, record { valid = are.valid.0; free = fit.free.0; fresh = fit.fresh.0 }),
     named_valid type (before ++ label ∷ []) names values (record { valid = are.valid.1; different = are.different.1 }) (fits_after type before label names rest are.different.0))
 
@@ -120,7 +120,7 @@ named_fault k type before (n ∷ names) (v ∷ values) long (name, (suc i, withi
 -- the labels that an encoder took, or which of their names it refused
 pub takes_named : (names values : List Text) (old new : GatheredLabels) (result : Result (Unit {0}) EncodeError) → length values ≡ length names
     → new.metric_type ≡ old.metric_type → ((k : EncodeError) → old.refused ≡ Some k → new ≡ old)
-    → (new.refused ≡ None → AreLabelNames names × NamesFit old.metric_type old.labels names × (new.labels ≡ old.labels ++ labels_with names values))
+    → (new.refused ≡ None → AreLabelNames names × NamesAreFree old.metric_type old.labels names × (new.labels ≡ old.labels ++ labels_with names values))
     → ((k : EncodeError) → old.refused ≡ None → new.refused ≡ Some k → (k ≡ Memory) ⊎ IsTakenName k old.metric_type old.labels names)
     → result ≡ result_of new.refused → TakesLabels (emitted_again (labels_with names values)) NoFault old new result
 takes_named names values old new result long same kept taken refused returned = record {

@@ -1,3 +1,2 @@
-mod ValidLemmas
 mod FaultLemmas
 mod FormedLemmas

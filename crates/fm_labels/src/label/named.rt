@@ -4,7 +4,7 @@ ghost use Rattle.fm_raw.specs.declared.encode_error.EncodeError.{EncodeError};
 ghost use Rattle.std.specs.String.{string_bytes};
 ghost use Rattle.fm_grammar.specs.LabelPairs.{labels_with};
 ghost use Rattle.fm_registry_model.specs.LabelNames.{AreLabelNames};
-ghost use Rattle.fm_labels.specs.Labels.{emitted_again, NamesFit, IsTakenName};
+ghost use Rattle.fm_labels.specs.Labels.{emitted_again, NamesAreFree, IsTakenName};
 ghost use Rattle.fm_labels.specs.LabelEncoders.{TakesLabels};
 ghost use Rattle.fm_labels.specs.Refusals.{NoFault, result_of};
 
@@ -43,7 +43,7 @@ impl LabelEncoder {
     // Why labels with these names may not follow, if one of them may not: the type reserves a name, or a label before has it.
     fn taken_name(&self, names: &LabelNames) -> Option<EncodeError>
         ensures taken { IfSome result (λ k. IsTakenName k self.now.metric_type self.now.labels names.now) }
-        ensures free { IfNone result (NamesFit self.now.metric_type self.now.labels names.now) }
+        ensures free { IfNone result (NamesAreFree self.now.metric_type self.now.labels names.now) }
     {
         for name in names.as_slice() {
             let name = name.as_str();
@@ -64,7 +64,7 @@ impl LabelEncoder {
         ensures kept { (k : EncodeError) → self.old.refused ≡ Some k → self.new ≡ self.old }
         ensures pieces { self.new.refused ≡ None → self.new.pieces ≡ [] }
         ensures labels { self.new.refused ≡ None → AreLabelNames names.now
-            × NamesFit self.old.metric_type self.old.labels names.now
+            × NamesAreFree self.old.metric_type self.old.labels names.now
             × (self.new.labels ≡ self.old.labels ++ labels_with names.now values.now) }
         ensures refused { (k : EncodeError) → self.old.refused ≡ None → self.new.refused ≡ Some k
             → (k ≡ EncodeError.Memory) ⊎ IsTakenName k self.old.metric_type self.old.labels names.now }

@@ -3,7 +3,7 @@ use Rattle.fm_grammar.specs.Names.{IsSnakeCase}
 use Rattle.fm_grammar.proofs.Runs.{all_weaker}
 use Rattle.fm_encoder.specs.Points.{Context, Member, MembersValid, MembersFault}
 use Rattle.fm_laws.specs.Ranges.{PointNumbersFit, NumbersFit}
-use Rattle.fm_laws.proofs.ValidLemmas.{members_valid}
+use Rattle.fm_encoder.proofs.ValidLemmas.{members_valid}
 use Rattle.fm_laws.proofs.FaultLemmas.{SomeFault, MemberForms, members_or_fault}
 use Rattle.fm_laws.proofs.FormedLemmas.{member_forms}
 use Rattle.fm_laws.proofs.valid_is_without_fault.Goals as goal

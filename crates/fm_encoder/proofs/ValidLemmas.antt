@@ -10,7 +10,7 @@ use Rattle.fm_raw.specs.declared.encode_error.EncodeError.{EncodeError}
 use Rattle.fm_raw.specs.declared.encode_error.EncodeError.TheVariants.{InvalidLabelName, ReservedLabel, DuplicateLabel, MissingValue, ValueTwice}
 use Rattle.fm_raw.specs.declared.bucket.bound.Bucket.{Bucket}
 use Rattle.fm_labels.specs.Labels.{EmittedLabel, NamePiece, ValuePiece, NameFits, NameFault, LabelValid, LabelFault, LabelsValid, LabelsFault, all_written}
-use Rattle.fm_encoder.specs.Points.{EmittedExemplar, Point, UnknownPoint, GaugePoint, CounterPoint, StateSetPoint, InfoPoint, HistogramPoint, GaugeHistogramPoint, SummaryPoint, Member, Setting, Context, NumberValid, NumberFault, ExemplarValid, ExemplarFault, BucketsValid, BucketsFault, PartsValid, PartsFault, PointValid, PointFault, SlotsDiffer, MemberValid, MemberFault, MembersValid, MembersFault, common_emitted, common_written}
+use Rattle.fm_encoder.specs.Points.{EmittedExemplar, Point, UnknownPoint, GaugePoint, CounterPoint, StateSetPoint, InfoPoint, HistogramPoint, GaugeHistogramPoint, SummaryPoint, Member, Setting, Context, NumberValid, NumberFault, ExemplarValid, ExemplarFault, BucketsValid, BucketsFault, PartsValid, PartsFault, PointFault, SlotsDiffer, type_of, MemberFault, MembersValid, MembersFault, common_emitted, common_written}
 
 -- elements of short lists
 
@@ -106,18 +106,18 @@ slots_valid setting common (HistogramPoint buckets slots count sum created) vali
 slots_valid setting common (GaugeHistogramPoint buckets slots count sum) valid differ = differ valid.0
 slots_valid setting common _ valid differ = differ
 
-point_valid : (k : EncodeError) (setting : Setting) (common : List Label) (point : Point) → PointValid setting common point → ¬ (PointFault k setting common point)
-point_valid k setting common point valid (inl (inl (is, mismatch))) = mismatch valid.type
-point_valid k setting common point valid (inl (inr (is, differ))) = slots_valid setting common point valid.parts differ
-point_valid k setting common point valid (inr fault) = parts_valid k setting common point valid.parts fault
+pub point_valid : (k : EncodeError) (setting : Setting) (common : List Label) (point : Point) → type_of point ≡ setting.metric_type → PartsValid setting common point → ¬ (PointFault k setting common point)
+point_valid k setting common point type parts (inl (inl (is, mismatch))) = mismatch type
+point_valid k setting common point type parts (inl (inr (is, differ))) = slots_valid setting common point parts differ
+point_valid k setting common point type parts (inr fault) = parts_valid k setting common point parts fault
 
 -- members
 
-member_valid : (k : EncodeError) (context : Context) (member : Member) → MemberValid context member → ¬ (MemberFault k context member)
-member_valid k context member valid (inl fault) = labels_valid k _ [] (common_emitted context member) valid.0 fault
-member_valid k context member valid (inr fault) = point_valid k context.setting (common_written context member) member.point valid.1 fault
+pub member_valid : (k : EncodeError) (context : Context) (member : Member) → LabelsValid context.setting.metric_type [] (common_emitted context member) → type_of member.point ≡ context.setting.metric_type → PartsValid context.setting (common_written context member) member.point → ¬ (MemberFault k context member)
+member_valid k context member labels type parts (inl fault) = labels_valid k _ [] (common_emitted context member) labels fault
+member_valid k context member labels type parts (inr fault) = point_valid k context.setting (common_written context member) member.point type parts fault
 
 pub members_valid : (k : EncodeError) (context : Context) (members : List Member) → MembersValid context members → ¬ (MembersFault k context members)
 members_valid k context [] valid fault = fault
-members_valid k context (member ∷ members) valid (inl fault) = member_valid k context member valid.0 fault
+members_valid k context (member ∷ members) valid (inl fault) = member_valid k context member valid.0.0 valid.0.1.type valid.0.1.parts fault
 members_valid k context (member ∷ members) valid (inr fault) = members_valid k context members valid.1 fault
