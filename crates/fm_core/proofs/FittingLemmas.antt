@@ -1,0 +1,56 @@
+-- Registries whose metrics all fit: what a registration keeps, and where a fault is.
+use Rattle.std.proofs.Common.{◌≡◌, ℕ, zero, suc, List, [], ◌∷◌, length, Option, Result, Ok, Err, OnOk, inl, inr, refl, sym, subst, arith}
+use Rattle.std.specs.List.{Any, AllByRecursion}
+use Rattle.fm_grammar.specs.declared.MetricType.{MetricType}
+use Rattle.fm_grammar.proofs.Runs.{all_weaker}
+use Rattle.fm_raw.specs.declared.encode_error.EncodeError.{EncodeError}
+use Rattle.fm_registry_model.specs.Texts.{Path}
+use Rattle.fm_registry_model.specs.Registration.{Registration}
+use Rattle.fm_registry_model.specs.History.{History}
+use Rattle.fm_registry_model.specs.Tree.{Tree, Shows}
+use Rattle.fm_registry_model.specs.Listing.{Listed, IsListable, order}
+use Rattle.fm_registry_model.specs.Fitting.{FitsAt, HasFittingHistory}
+use Rattle.fm_registry_model.specs.declared.RegistryError.{RegistryError}
+use Rattle.fm_registry_model.proofs.FittingTreeLemmas.{fitting-registered, shown_fits, shown_listable}
+use Rattle.fm_encoder.specs.Points.{Member}
+use Rattle.fm_core.specs.HasHistory.{HasHistory}
+use Rattle.fm_core.specs.Registers.{RegistersAt}
+use Rattle.fm_core.specs.Admits.{FaultOf, Fault}
+
+module _ {M : Type 0} (Fits : Listed M → Type 0) where
+  -- it reads a history
+  pub fitting_history : (t : Tree M) → HasFittingHistory Fits t → HasHistory t
+  fitting_history t h = record { history = h.history; reads = h.reads }
+
+  -- a registration of a metric that fits, whichever type it declares, or one that was refused
+  pub fitting_registers : (path : Path) (Types : MetricType → Type 0) (asked : MetricType → Registration M) (old new : Tree M) (r : Result (Unit {0}) RegistryError) → RegistersAt path Types asked old new r
+      → ((t : MetricType) → Types t → FitsAt Fits old path (asked t)) → HasFittingHistory Fits old → HasFittingHistory Fits new
+  fitting_registers path Types asked old new (Ok x) registers fits h =
+      fitting-registered Fits old new path (asked registers.metric_type) h (fits registers.metric_type registers.declared) registers.ok
+  fitting_registers path Types asked old new (Err e) registers fits h = subst (HasFittingHistory Fits) (sym registers.err) h
+
+any-first : {X : Type 0} (P : X → Type 0) (x : X) (xs : List X) → P x → Any P (x ∷ xs)
+any-first P x xs here = (0, x, omega arith, refl, here)
+
+any-later : {X : Type 0} (P : X → Type 0) (x : X) (xs : List X) → Any P xs → Any P (x ∷ xs)
+any-later P x xs (i, y, within, is, here) = (suc i, y, omega (arith, within), is, here)
+
+module _ {M : Type 0} (k : EncodeError) (Offers : M → Option ℕ → List Member → Type 0) (Stamps : M → Option ℕ → Type 0) (MayFault : M → Type 0) (P : Listed M → Type 0) where
+  -- a fault among listed metrics is that of one of them
+  some_fault : (ls : List (Listed M)) → AllByRecursion (λ l. FaultOf k Offers Stamps MayFault l → P l) ls → Fault k Offers Stamps MayFault ls → Any P ls
+  some_fault [] each fault = absurd fault
+  some_fault (l ∷ ls) each (inl fault) = any-first P l ls (each.0 fault)
+  some_fault (l ∷ ls) each (inr fault) = any-later P l ls (some_fault ls each.1 fault)
+
+  both_hold : (Q R : Listed M → Type 0) (ls : List (Listed M)) → AllByRecursion Q ls → AllByRecursion R ls → AllByRecursion (λ l. Q l × R l) ls
+  both_hold Q R [] q r = tt
+  both_hold Q R (l ∷ ls) q r = ((q.0, r.0), both_hold Q R ls q.1 r.1)
+
+  -- where fitting metrics have this fault only as P says, a fault of the registry is that of a metric as P says
+  pub fault_of_fitting : (Fits : Listed M → Type 0) → ((l : Listed M) → IsListable l → Fits l → FaultOf k Offers Stamps MayFault l → P l)
+      → (t : Tree M) (b : History M) → HasFittingHistory Fits t → Shows t b → Fault k Offers Stamps MayFault (order b) → Any P (order b)
+  fault_of_fitting Fits each t b h shows fault =
+      some_fault (order b)
+      (all_weaker (λ l. IsListable l × Fits l) (λ l. FaultOf k Offers Stamps MayFault l → P l) (λ l both. each l both.0 both.1) (order b)
+      (both_hold IsListable Fits (order b) (shown_listable Fits t b h shows) (shown_fits Fits t b h shows)))
+      fault
