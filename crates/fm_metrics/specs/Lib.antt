@@ -4,5 +4,6 @@ pub use Rattle.fm_encoder.specs.States
 pub mod Constants
 pub mod NumberOrder
 pub mod Counters
+pub mod Gauges
 pub mod StateSets
 pub mod CurrentState

@@ -5,6 +5,7 @@ ghost use Rattle.fm_grammar.specs.declared.MetricType.TheVariants.{Gauge as Gaug
 ghost use Rattle.fm_raw.specs.declared.error.MetricError.TheVariants.{Memory};
 ghost use Rattle.fm_encoder.specs.Points.{GaugePoint};
 ghost use Rattle.fm_metrics.specs.Constants.{constant_value};
+ghost use Rattle.fm_metrics.specs.Gauges.{gauge_value, guarded_value};
 
 use fm_encoder::{EncodeGaugeValue, EncodeMetric, EncodePoint, MetricEncoder, PointEncoder};
 use fm_raw::{
@@ -78,6 +79,40 @@ impl<N: GaugeValue> Gauge<N> {
         ensures { N.in_range result }
     {
         self.value.get()
+    }
+
+    /// Adds one, and subtracts one again when what it returns is dropped.
+    pub fn track_in_progress(&self) -> InProgress<'_, N>
+        ensures { guarded_value result ≡ gauge_value self.now }
+    {
+        let _before = self.value.inc();
+        InProgress { value: &self.value }
+    }
+
+    /// Adds one, calls `f`, subtracts one again, and returns what `f` returned. It takes no memory and doesn't wait, but for what `f`
+    /// does.
+    pub fn during<R, F: FnOnce() -> R>(&self, f: F) -> R
+        requires { F.IsAlwaysCallable f }
+        ensures { F.post f result }
+    {
+        let _in_progress = self.track_in_progress();
+        f()
+    }
+}
+
+/// Something that is in progress, for which a gauge was raised by one. The gauge is lowered by one when this is dropped: at every way
+/// out of a scope, an early return by `?` too. To lower it sooner, `drop` this.
+///
+/// Each is one atomic step, which wraps at the ends of the type, takes no memory and doesn't wait.
+#[must_use = "the gauge is lowered as soon as this is dropped"]
+pub struct InProgress<'a, N: GaugeValue = i64> {
+    value: &'a N::Atomic,
+}
+
+impl<N: GaugeValue> Drop for InProgress<'_, N> {
+    fn drop(self) {
+        let InProgress { value } = self;
+        let _before = value.dec();
     }
 }
 

@@ -13,7 +13,7 @@ pub mod unknown;
 
 pub use counter::{ConstCounter, Counter};
 pub use exemplar_counter::ExemplarCounter;
-pub use gauge::{ConstGauge, Gauge};
+pub use gauge::{ConstGauge, Gauge, InProgress};
 pub use info::Info;
 pub use labeled::Labeled;
 pub use state_set::{ConstStateSet, StateSet, StateSetValue};
