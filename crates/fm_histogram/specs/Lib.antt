@@ -5,4 +5,5 @@ pub use Rattle.fm_encoder.specs.Emits
 pub mod Histogram
 pub mod Shown
 pub mod Shared
+pub mod Timers
 pub mod inside

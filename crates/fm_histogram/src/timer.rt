@@ -1,7 +1,6 @@
 //! Timers, which measure a duration for a histogram.
-ghost use Rattle.std.specs.Prelude.{◌≡◌, ◌⊎◌, IfErr};
-ghost use Rattle.fm_raw.specs.declared.error.MetricError.TheVariants.{CountFull};
-ghost use Rattle.fm_histogram.specs.declared.timer.TimerError.TheVariants.{Clock as ClockFault, Metric as MetricFault};
+ghost use Rattle.std.specs.Prelude.{IfErr};
+ghost use Rattle.fm_histogram.specs.Timers.{IsTimerFault};
 
 use crate::histogram::Histogram;
 use fm_raw::MetricError;
@@ -21,12 +20,27 @@ pub enum TimerError {
     Metric(MetricError),
 }
 
-/// A duration that is measured for a histogram, from the start until `stop`. A timer that is dropped counts nothing.
-#[derive(Drop)]
+/// A duration that is measured for a histogram, from the start until `stop`, or until the timer is dropped: at every way out of a
+/// scope, an early return by `?` too. It is counted once, as `Histogram::observe_duration` does; `discard` counts nothing.
+///
+/// A timer that is dropped counts nothing where `stop` would fail. To count, it waits while another thread has the histogram's lock.
+/// It takes no memory.
+#[must_use = "the time is counted as soon as this is dropped"]
 pub struct Timer<'a, H: Wait, C: Clock> {
     histogram: &'a Histogram<H>,
     clock: &'a C,
     started: Instant,
+}
+
+impl<H: Wait, C: Clock> Drop for Timer<'_, H, C> {
+    fn drop(self) {
+        let Timer {
+            histogram,
+            clock,
+            started,
+        } = self;
+        let _counted = count_since(histogram, clock, started);
+    }
 }
 
 impl<H: Wait> Histogram<H> {
@@ -39,21 +53,66 @@ impl<H: Wait> Histogram<H> {
             started,
         })
     }
+
+    /// Calls `f` once, and returns what it returned, with the time that it took by this clock, which is counted as a timer's is. Where
+    /// the time can't be counted, the second result says why, as `Timer::stop` does, and nothing was counted: `Clock` also where the
+    /// clock can't be read before `f` is called.
+    pub fn time<R, C: Clock, F: FnOnce() -> R>(
+        &self,
+        clock: &C,
+        f: F,
+    ) -> (R, Result<Duration, TimerError>)
+        requires { F.IsAlwaysCallable f }
+        ensures returned { F.post f result.0 }
+        ensures fault { IfErr result.1 IsTimerFault }
+    {
+        let timer = self.start_timer(clock);
+        let returned = f();
+        match timer {
+            Ok(timer) => (returned, timer.stop()),
+            Err(fault) => (returned, Err(TimerError::Clock(fault))),
+        }
+    }
 }
 
 impl<H: Wait, C: Clock> Timer<'_, H, C> {
     /// Counts the time since the start, as `Histogram::observe_duration` does, and returns it: no time, where the clock went back. It
     /// fails with `Clock` as reading the clock does, and with `CountFull`, and then counts nothing.
     pub fn stop(self) -> Result<Duration, TimerError>
-        ensures { IfErr result (λ e. (e ≡ MetricFault CountFull) ⊎ ((fault : _) × (e ≡ ClockFault fault))) }
+        ensures { IfErr result IsTimerFault }
     {
-        let elapsed = match self.started.elapsed(self.clock) {
-            Ok(elapsed) => elapsed,
-            Err(fault) => return Err(TimerError::Clock(fault)),
-        };
-        match self.histogram.observe_duration(elapsed) {
-            Ok(()) => Ok(elapsed),
-            Err(fault) => Err(TimerError::Metric(fault)),
-        }
+        let Timer {
+            histogram,
+            clock,
+            started,
+        } = self;
+        count_since(histogram, clock, started)
+    }
+
+    /// Ends the timer, and counts nothing.
+    pub fn discard(self) {
+        let Timer {
+            histogram: _,
+            clock: _,
+            started: _,
+        } = self;
+    }
+}
+
+// Counts the time since the start, and returns it.
+fn count_since<H: Wait, C: Clock>(
+    histogram: &Histogram<H>,
+    clock: &C,
+    started: Instant,
+) -> Result<Duration, TimerError>
+    ensures { IfErr result IsTimerFault }
+{
+    let elapsed = match started.elapsed(clock) {
+        Ok(elapsed) => elapsed,
+        Err(fault) => return Err(TimerError::Clock(fault)),
+    };
+    match histogram.observe_duration(elapsed) {
+        Ok(()) => Ok(elapsed),
+        Err(fault) => Err(TimerError::Metric(fault)),
     }
 }
