@@ -4,6 +4,7 @@ pub use Rattle.fm_grammar.specs.Document
 pub use Rattle.fm_grammar.specs.Law
 pub mod Samples
 pub mod Same
+pub mod Finding
 pub mod Rows
 pub mod Written
 pub mod inside

@@ -4,6 +4,7 @@
 pub mod code_points;
 mod equality;
 pub mod exposition;
+mod finding;
 pub mod make;
 pub mod parts;
 pub mod store;
