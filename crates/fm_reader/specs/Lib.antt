@@ -1,2 +1,3 @@
 pub mod ReadErrors
+pub mod Differences
 pub mod inside

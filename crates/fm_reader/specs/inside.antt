@@ -2,6 +2,7 @@
 pub mod Numbers
 pub mod Plain
 pub mod Cuts
+pub mod Remaining
 pub mod Fronts
 pub mod Lines
 pub mod Parts

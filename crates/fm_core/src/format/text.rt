@@ -1,10 +1,10 @@
-//! The OpenMetrics text format: collecting a registry, writing its document, and reading documents back.
+//! The OpenMetrics text format: collecting a registry, writing its document, and reading documents back; where two texts differ.
 
 pub use crate::scrape::{collect, encode};
 pub use fm_exposition::{Exemplar, Exposition, FamilySamples, Sample, Value};
 pub use fm_grammar::SampleKind;
 pub use fm_raw::EncodeError;
-pub use fm_reader::{ReadError, read};
+pub use fm_reader::{Difference, ReadError, first_difference, read};
 pub use fm_writer::encode_exposition;
 
 /// The content type of a document, for the header of a server's answer (OpenMetrics 1.0.0, "Overall Structure").
