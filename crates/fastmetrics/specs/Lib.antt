@@ -14,12 +14,14 @@ pub use Rattle.fm_exposition.specs.Samples
 pub use Rattle.fm_exposition.specs.Written
 pub use Rattle.fm_exposition.specs.Rows
 pub use Rattle.fm_exposition.specs.Same
+pub use Rattle.fm_exposition.specs.Finding
 pub use Rattle.fm_raw.specs.MetricErrors
 pub use Rattle.fm_raw.specs.Metadata
 pub use Rattle.fm_raw.specs.Signed
 pub use Rattle.fm_raw.specs.Units
 pub use Rattle.fm_raw.specs.EncodeErrors
 pub use Rattle.fm_reader.specs.ReadErrors
+pub use Rattle.fm_reader.specs.Differences
 pub use Rattle.fm_writer.specs.Output
 pub use Rattle.fm_registry_model.specs.RegistryErrors
 pub use Rattle.fm_registry_model.specs.Texts
@@ -61,6 +63,7 @@ pub use Rattle.fm_core.specs.Families
 pub use Rattle.fm_core.specs.Encoded
 pub use Rattle.fm_encoder.specs.States
 pub use Rattle.fm_metrics.specs.Counters
+pub use Rattle.fm_metrics.specs.Gauges
 pub use Rattle.fm_metrics.specs.NumberOrder
 pub use Rattle.fm_metrics.specs.CurrentState
 pub use Rattle.fm_metrics.specs.StateSets
@@ -70,6 +73,7 @@ pub use Rattle.fm_raw.specs.Bounds
 pub use Rattle.fm_histogram.specs.Histogram
 pub use Rattle.fm_histogram.specs.Shown
 pub use Rattle.fm_histogram.specs.Shared
+pub use Rattle.fm_histogram.specs.Timers
 pub use Rattle.fm_tally.specs.Pieces
 pub use Rattle.fm_family.specs.Members
 pub use Rattle.fm_family.specs.MemberLends

@@ -39,7 +39,7 @@ pub mod metrics {
 
     pub mod gauge {
         //! Gauges: numbers that rise and fall.
-        pub use fm_metrics::{ConstGauge, Gauge};
+        pub use fm_metrics::{ConstGauge, Gauge, InProgress};
         pub use fm_raw::GaugeValue;
     }
 

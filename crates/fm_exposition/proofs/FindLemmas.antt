@@ -26,9 +26,9 @@ or_else (Some x) o = Some x
 pub among-append : (name : Text) (labels : List Label) (xs ys : List NamedSample) → value_among name labels (xs ++ ys) ≡ or_else (value_among name labels xs) (value_among name labels ys)
 among-append name labels [] ys = refl
 among-append name labels (x ∷ xs) ys = elim (is_named name labels x) as (λ b. option_map (λ (n : NamedSample). n.sample.value) (cond b (Some x) (find (is_named name labels) (xs ++ ys))) ≡ or_else (option_map (λ (n : NamedSample). n.sample.value) (cond b (Some x) (find (is_named name labels) xs))) (value_among name labels ys)) [
-    true ↦ refl
+  | true ↦ refl
   | false ↦ among-append name labels xs ys
-  ]
+]
 
 -- of the families from an index on: what is told of the family there, or else of those after it
 pub first_more : (name : Text) (labels : List Label) (families : List Family) (i : ℕ) (family : Family) (told : Option Value) → family ≡ get_or families i family → i < length families → told ≡ value_among name labels (named_samples family) → or_else told (first_value name labels (drop (i + 1) families)) ≡ first_value name labels (drop i families)

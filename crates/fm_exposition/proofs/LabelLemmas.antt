@@ -35,7 +35,7 @@ differ_at (x ∷ xs) (y ∷ ys) (suc i) e = differ_at xs ys i e
 pub end_at : (xs ys : List Label) (i : ℕ) → length xs ≤ i → length ys ≤ i → true ≡ pointwise same_label (drop i xs) (drop i ys)
 end_at xs ys i one other = rw (drop_all i xs one, drop_all i ys other) refl
 
-pub some_at : (xs : List Label) (i : ℕ) → i < length xs → is_none (slice_get xs i) ≡ false
+some_at : (xs : List Label) (i : ℕ) → i < length xs → is_none (slice_get xs i) ≡ false
 some_at [] i within = absurd (omega arith)
 some_at (x ∷ xs) zero within = refl
 some_at (x ∷ xs) (suc i) within = some_at xs i (omega arith)

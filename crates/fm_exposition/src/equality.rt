@@ -136,7 +136,7 @@ fn same_joined_labels(one: &Sample, other: &Sample) -> bool
 }
 
 // Whether two labels are the same, or both are absent.
-fn is_same_label(one: Option<(&str, &str)>, other: Option<(&str, &str)>) -> bool
+pub(crate) fn is_same_label(one: Option<(&str, &str)>, other: Option<(&str, &str)>) -> bool
     ensures { result
         ≡ option_eq same_label (option_map shown_label one.entry)
         (option_map shown_label other.entry) }

@@ -1,13 +1,14 @@
 //! The value of a sample by its name and its labels.
 ghost use Rattle.std.specs.Prelude.{◌≡◌, ◌++◌, map, slice_get};
 ghost use Rattle.std.specs.Cmp.Lexicographic.{pointwise};
-ghost use Rattle.std.specs.Option.{option_map, option_eq};
+ghost use Rattle.std.specs.Option.{option_map};
 ghost use Rattle.fm_grammar.specs.Kinds.{suffix_of};
 ghost use Rattle.fm_grammar.specs.LabelPairs.{shown_label};
 ghost use Rattle.fm_exposition.specs.Samples.{sample_of, value_of};
 ghost use Rattle.fm_exposition.specs.Same.{same_text, same_label};
 ghost use Rattle.fm_exposition.specs.Finding.{named_samples, value_among, first_value};
 
+use crate::equality::is_same_label;
 use crate::exposition::{Exposition, FamilySamples, Sample, Value};
 use fm_grammar::SampleKind;
 
@@ -64,22 +65,16 @@ fn has_labels(sample: &Sample, labels: &[(&str, &str)]) -> bool
         return false;
     }
     for index in 0..count {
-        if !has_label_at(sample, labels, index) {
+        if !is_same_label(sample.label(index), pair_at(labels, index)) {
             return false;
         }
     }
     true
 }
 
-// Whether a sample's label at an index is the one of a list, or neither has one there.
-fn has_label_at(sample: &Sample, labels: &[(&str, &str)], index: usize) -> bool
-    ensures { result
-        ≡ option_eq same_label (slice_get (sample_of sample.now).labels index)
-        (slice_get (map shown_label labels.now) index) }
+// The pair at an index, or None if there is none.
+fn pair_at<'n, 'v>(labels: &[(&'n str, &'v str)], index: usize) -> Option<(&'n str, &'v str)>
+    ensures { option_map shown_label result ≡ slice_get (map shown_label labels.now) index }
 {
-    match (sample.label(index), labels.get(index)) {
-        (Some(label), Some(wanted)) => label.0 == wanted.0 && label.1 == wanted.1,
-        (None, None) => true,
-        _ => false,
-    }
+    labels.get(index).copied()
 }
