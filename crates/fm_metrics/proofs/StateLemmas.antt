@@ -54,17 +54,24 @@ count_states : {T : Type 0} (eq : T → T → Bool) (all : List T) (text : T →
 count_states eq [] text c = refl
 count_states eq (x ∷ xs) text c = ap (λ n. cond (eq x c) (1 + n) n) (count_states eq xs text c)
 
--- if no two states are equal, exactly one is listed as the current one
-pub one_told : {T : Type 0} (eq : T → T → Bool) → IsPartialEquivalence eq → (all : List T) (text : T → List ℕ) (c : T) (told : List (Bor (List ℕ) × Bool))
-    → IsState eq all c → map state_of told ≡ states_at eq all text c → AreDifferent eq all → count_by (λ p. p.1) told ≡ 1
-one_told {T} eq laws all text c told (i, x, at, equals) is apart =
-    sym (count_is (λ p. p.1) told) ∙ count_told told ∙ ap (λ l. how_many (λ p. p.1) l) is ∙ count_states eq all text c ∙ one_passes (λ x. eq x c) all i x at equals others
+-- if no two states are equal, exactly one is the current one
+pub one_state : {T : Type 0} (eq : T → T → Bool) → IsPartialEquivalence eq → (all : List T) (text : T → List ℕ) (c : T) → IsState eq all c → AreDifferent eq all
+    → count_by (λ p. p.1) (states_at eq all text c) ≡ 1
+one_state {T} eq laws all text c (i, x, at, equals) apart =
+    sym (count_is (λ p. p.1) (states_at eq all text c)) ∙ count_states eq all text c ∙ one_passes (λ x. eq x c) all i x at equals others
   where
     others : (j : ℕ) (y : T) → slice_get all j ≡ Some y → j ≢ i → eq y c ≡ false
     others j y here other = differs_too eq laws y x c equals (elim (cases_order j i) [
       | inl same ↦ absurd (other same)
       | inr h ↦ elim h [ inl before ↦ apart j i y x before here at | inr after ↦ laws.symm y x ∙ apart i j x y after at here ]
     ]) (eq y c) refl
+
+-- the same of a list that tells the states
+pub one_told : {T : Type 0} (eq : T → T → Bool) → IsPartialEquivalence eq → (all : List T) (text : T → List ℕ) (c : T) (told : List (Bor (List ℕ) × Bool))
+    → IsState eq all c → map state_of told ≡ states_at eq all text c → AreDifferent eq all → count_by (λ p. p.1) told ≡ 1
+one_told eq laws all text c told known is apart =
+    sym (count_is (λ p. p.1) told) ∙ count_told told ∙ ap (λ l. how_many (λ p. p.1) l) is ∙ count_is (λ p. p.1) (states_at eq all text c)
+    ∙ one_state eq laws all text c known apart
 
 -- what equals a state that is known is known
 pub known_equal : {T : Type 0} (eq : T → T → Bool) → IsPartialEquivalence eq → (all : List T) (state other : T) → eq state other ≡ true → ∥ IsState eq all state ∥₁ → ∥ IsState eq all other ∥₁

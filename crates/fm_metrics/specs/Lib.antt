@@ -6,4 +6,6 @@ pub mod NumberOrder
 pub mod Counters
 pub mod Gauges
 pub mod StateSets
+pub mod NamedStates
+pub mod StateNames
 pub mod CurrentState
