@@ -1,14 +1,14 @@
 -- The names of a state set: what is found among them, and what it shows, since no two of them are equal.
-use Rattle.std.proofs.Common.{◌≡◌, ℕ, ◌+◌, ◌<◌, ◌≤◌, Bool, true, false, ◌||◌, cond, List, [], ◌∷◌, ◌++◌, map, length, take, drop, get_or, fold, Contains, Some, string_bytes, String, refl, sym, ap, subst, ◌∙◌, true≢false, arith, length-append}
+use Rattle.std.proofs.Common.{◌≡◌, ℕ, ◌+◌, ◌<◌, ◌≤◌, Bool, true, false, ◌||◌, cond, List, [], ◌∷◌, ◌++◌, map, length, take, get_or, fold, if◌then◌else◌, Contains, Some, string_bytes, String, refl, sym, ap, subst, ◌∙◌, true≢false, arith, length-append}
 use Rattle.std.specs.Borrow.{Bor}
 use Rattle.std.specs.declared.alloc.Global.{Global}
 use Rattle.std.specs.List.{list_any, IsDistinct}
 use Rattle.std.specs.Str.{bytes_eq}
 use Rattle.std.specs.Cmp.{partial_equiv_from_equiv}
 use Rattle.std.specs.Cmp.Lexicographic.{bytes_decides, nat_list_eq_equiv}
-use Rattle.std.proofs.lemmas.List.Sums.{fold-append, fold_more}
-use Rattle.std.proofs.lemmas.List.Folds.{Any-from_list_any, list_any_at, list_any_more}
-use Rattle.std.proofs.lemmas.List.{get_or-map, length-map, map-append, take-append-drop}
+use Rattle.std.proofs.lemmas.List.Sums.{fold_more}
+use Rattle.std.proofs.lemmas.List.Folds.{Any-from_list_any, list_any-append, list_any_at, list_any_more}
+use Rattle.std.proofs.lemmas.List.{get_or-map, length-map, map-append, take-map}
 use Rattle.std.proofs.lemmas.Map.Keys.{IsDistinct-push, apart_from_distinct}
 use Rattle.std.proofs.lemmas.Option.{get_or_from_slice_get, slice_get_within, slice_get-get_or}
 use Rattle.fm_grammar.specs.Exposition.{Text}
@@ -27,11 +27,6 @@ length-fold_once texts [] = omega arith
 length-fold_once texts (text ∷ more) =
     omega (arith, length-add_once texts text, length-fold_once (add_once texts text) more)
 
-length-each_once-take : (texts : List Text) (n : ℕ) → length (each_once (take n texts)) ≤ length (each_once texts)
-length-each_once-take texts n =
-    let whole : fold add_once (each_once (take n texts)) (drop n texts) ≡ each_once texts = sym (fold-append add_once [] (take n texts) (drop n texts)) ∙ ap each_once (take-append-drop n texts) in
-    omega (arith, ap length whole, length-fold_once (each_once (take n texts)) (drop n texts))
-
 -- one name more, of names that are borrowed
 pub copies-more : (names : List (Bor Text)) (i : ℕ) (d : Bor Text) (copies more : List Text) → i < length names → copies ≡ each_once (take i (map (λ name. name.now) names))
     → more ≡ add_once copies (get_or names i d).now → more ≡ each_once (take (i + 1) (map (λ name. name.now) names))
@@ -42,12 +37,51 @@ copies-more names i d copies more within before after =
     fold_more add_once [] texts i d.now (rw (length-map names (λ name. name.now)) within) in
     after ∙ (λ k. add_once (before k) (sym next k)) ∙ sym step
 
--- too many of some names are too many of all
-pub too_many : (names : List (Bor Text)) (i : ℕ) (d : Bor Text) (copies : List Text) → i < length names → copies ≡ each_once (take i (map (λ name. name.now) names))
-    → 256 < length (add_once copies (get_or names i d).now) → 256 < length (each_once (map (λ name. name.now) names))
-too_many names i d copies within before h =
-    let more = copies-more names i d copies (add_once copies (get_or names i d).now) within before refl in
-    omega (arith, h, ap length more, length-each_once-take (map (λ name. name.now) names) (i + 1))
+-- what is among the texts that are each there once is among the texts
+or_none : (b : Bool) → b ≡ (b || false)
+or_none true = refl
+or_none false = refl
+
+or_joined : (a b c : Bool) → ((a || b) || c) ≡ (a || (b || c))
+or_joined true b c = refl
+or_joined false b c = refl
+
+among_added : (text : Text) (kept : List Text) (other : Text) → list_any (bytes_eq text) (add_once kept other) ≡ (list_any (bytes_eq text) kept || bytes_eq text other)
+among_added text kept other =
+    elim (list_any (bytes_eq other) kept) as (λ c. list_any (bytes_eq other) kept ≡ c → list_any (bytes_eq text) (cond c kept (kept ++ other ∷ [])) ≡ (list_any (bytes_eq text) kept || bytes_eq text other)) [
+      | true ↦ λ there. elim (bytes_eq text other) as (λ d. bytes_eq text other ≡ d → list_any (bytes_eq text) kept ≡ (list_any (bytes_eq text) kept || d)) [
+        | true ↦ λ same. let is : list_any (bytes_eq text) kept ≡ true = ap (λ t. list_any (bytes_eq t) kept) ((bytes_decides text other).0 same) ∙ there in rw is refl
+        | false ↦ λ _. or_none (list_any (bytes_eq text) kept)
+      ] refl
+      | false ↦ λ _. list_any-append (bytes_eq text) kept (other ∷ []) ∙ ap (λ b. list_any (bytes_eq text) kept || b) (sym (or_none (bytes_eq text other)))
+    ] refl
+
+among_once : (text : Text) (kept texts : List Text) → list_any (bytes_eq text) (fold add_once kept texts) ≡ (list_any (bytes_eq text) kept || list_any (bytes_eq text) texts)
+among_once text kept [] = or_none (list_any (bytes_eq text) kept)
+among_once text kept (other ∷ texts) =
+    among_once text (add_once kept other) texts ∙ ap (λ b. b || list_any (bytes_eq text) texts) (among_added text kept other)
+    ∙ or_joined (list_any (bytes_eq text) kept) (bytes_eq text other) (list_any (bytes_eq text) texts)
+
+-- one text more adds one, unless it was there
+length-added : (kept : List Text) (text : Text) → length (add_once kept text) ≡ (if list_any (bytes_eq text) kept then length kept else length kept + 1)
+length-added kept text =
+    elim (list_any (bytes_eq text) kept) as (λ c. length (cond c kept (kept ++ text ∷ [])) ≡ (if c then length kept else length kept + 1))
+    [ true ↦ refl | false ↦ length-append kept (text ∷ []) ]
+
+among_texts : (text : Text) (names : List (Bor Text)) → list_any (λ x. bytes_eq text x.now) names ≡ list_any (bytes_eq text) (map (λ name. name.now) names)
+among_texts text [] = refl
+among_texts text (name ∷ names) = ap (λ b. bytes_eq text name.now || b) (among_texts text names)
+
+pub count-more : (names : List (Bor Text)) (i : ℕ) (d : Bor Text) (count : ℕ) (there : Bool) → i < length names → count ≡ length (each_once (take i (map (λ name. name.now) names)))
+    → there ≡ list_any (λ x. bytes_eq (get_or names i d).now x.now) (take i names) → (if there then count else count + 1) ≡ length (each_once (take (i + 1) (map (λ name. name.now) names)))
+count-more names i d count there within before is =
+    let texts : List Text = map (λ name. name.now) names in
+    let name : Text = (get_or names i d).now in
+    let among : there ≡ list_any (bytes_eq name) (each_once (take i texts)) =
+    is ∙ among_texts name (take i names) ∙ ap (list_any (bytes_eq name)) (sym (take-map (λ x. x.now) i names)) ∙ sym (among_once name [] (take i texts)) in
+    let more : length (each_once (take (i + 1) texts)) ≡ length (add_once (each_once (take i texts)) name) =
+    ap length (sym (copies-more names i d (each_once (take i texts)) (add_once (each_once (take i texts)) name) within refl refl)) in
+    (λ k. if among k then before k else before k + 1) ∙ sym (length-added (each_once (take i texts)) name) ∙ sym more
 
 -- of no names no two are equal, and none equals one that wasn't among them
 pub none_equal : IsDistinct bytes_eq []

@@ -18,12 +18,12 @@ each_once texts = fold add_once [] texts
 abbrev pub CanName : List Text → Type 0
 CanName names = (names ≢ []) × (length (each_once names) ≤ 256)
 
--- why no state set is made of these names
+-- why no state set can be made of these names: the first test that fails
 abbrev pub IsNotNamedAs : List Text → MetricError → Type 0
 IsNotNamedAs names e =
     ((e ≡ UnknownState) × (names ≡ []))
     ⊎ (((e ≡ TooManyStates) × (256 < length (each_once names)))
-    ⊎ ((e ≡ Memory) × (names ≢ [])))
+    ⊎ ((e ≡ Memory) × CanName names))
 
 -- each name, in order, with true if it is the current one
 abbrev pub named_states : List Text → Text → List (Text × Bool)

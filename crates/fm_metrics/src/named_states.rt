@@ -1,5 +1,5 @@
 //! State sets whose states are texts that are given when the set is made.
-ghost use Rattle.std.specs.Prelude.{◌≡◌, ◌≤◌, ◌<◌, ◌⊎◌, Bool, true, false, List, [], ◌∷◌, map, length, MatchOption, MatchResult, IfOk, IfErr, OnOk, Contains, string_bytes, vec_len};
+ghost use Rattle.std.specs.Prelude.{◌≡◌, ◌≤◌, ◌<◌, Bool, true, false, List, [], ◌∷◌, map, length, MatchOption, MatchResult, IfOk, IfErr, OnOk, Contains, string_bytes, vec_len};
 ghost use Rattle.std.specs.List.{list_any, IsDistinct, IsDistinct-prop};
 ghost use Rattle.std.specs.Str.{bytes_eq};
 ghost use Rattle.std.specs.Arc.{arc_value};
@@ -34,22 +34,36 @@ fn index_of_name(names: &[String], name: &str) -> Option<usize>
     None
 }
 
+// Whether the name is among these.
+fn is_among(names: &[&str], name: &str) -> bool
+    ensures { result ≡ list_any (λ x. bytes_eq name.now x.now) names.now }
+{
+    names.iter().any(|x| name == *x)
+}
+
+// How many names there are, each of them counted once.
+fn count_once(names: &[&str]) -> usize
+    ensures { result ≡ length (each_once (map (λ name. name.now) names.now)) }
+{
+    let mut count = 0;
+    for (i, name) in names.iter().enumerate() {
+        if !is_among(&names[..i], *name) {
+            count += 1;
+        }
+    }
+    count
+}
+
 // Adds a copy of the name at the end, unless it is there.
 fn add_copy(alloc: Global, copies: &mut Vec<String>, name: &str) -> Result<(), MetricError>
-    requires few { vec_len copies.old ≤ 256 }
-    requires different { IsDistinct bytes_eq (map string_bytes copies.old.items) }
+    requires { IsDistinct bytes_eq (map string_bytes copies.old.items) }
     ensures names { OnOk result (map string_bytes copies.new.items
         ≡ add_once (map string_bytes copies.old.items) name.now) }
-    ensures few { OnOk result (vec_len copies.new ≤ 256) }
     ensures different { OnOk result (IsDistinct bytes_eq (map string_bytes copies.new.items)) }
-    ensures refused { IfErr result (λ e. (e ≡ Memory) ⊎ ((e ≡ TooManyStates)
-        × (256 < length (add_once (map string_bytes copies.old.items) name.now)))) }
+    ensures memory { IfErr result (λ e. e ≡ Memory) }
 {
     if let Some(_) = index_of_name(copies.as_slice(), name) {
         return Ok(());
-    }
-    if copies.len() == MAX_STATES {
-        return Err(MetricError::TooManyStates);
     }
     copies.push(String::from_str(alloc, name)?)?;
     Ok(())
@@ -59,11 +73,9 @@ fn add_copy(alloc: Global, copies: &mut Vec<String>, name: &str) -> Result<(), M
 fn copied_once(alloc: Global, names: &[&str]) -> Result<Vec<String>, MetricError>
     ensures names { IfOk result
         (λ copies. map string_bytes copies.items ≡ each_once (map (λ name. name.now) names.now)) }
-    ensures few { IfOk result (λ copies. vec_len copies ≤ 256) }
     ensures different { IfOk result
         (λ copies. IsDistinct bytes_eq (map string_bytes copies.items)) }
-    ensures refused { IfErr result (λ e. (e ≡ Memory) ⊎ ((e ≡ TooManyStates)
-        × (256 < length (each_once (map (λ name. name.now) names.now))))) }
+    ensures memory { IfErr result (λ e. e ≡ Memory) }
 {
     let mut copies = Vec::new(alloc);
     for name in names {
@@ -111,8 +123,8 @@ impl NamedStates {
 
     /// A state set with these states, whose current state is the first. A name that is given again counts once.
     ///
-    /// Errors: there are no names (`UnknownState`), there are more than 256 different ones (`TooManyStates`), memory runs out
-    /// (`Memory`).
+    /// Errors, in this order: there are no names (`UnknownState`), there are more than 256 different ones (`TooManyStates`), memory
+    /// runs out (`Memory`).
     pub fn new(alloc: Global, names: &[&str]) -> Result<NamedStates, MetricError>
         ensures names { IfOk result
             (λ s. state_names s ≡ each_once (map (λ name. name.now) names.now)) }
@@ -122,6 +134,9 @@ impl NamedStates {
     {
         if names.is_empty() {
             return Err(MetricError::UnknownState);
+        }
+        if count_once(names) > MAX_STATES {
+            return Err(MetricError::TooManyStates);
         }
         let names = copied_once(alloc, names)?;
         let index = AtomicU64::new(0);
