@@ -1,5 +1,6 @@
 //! Gauges and counters that ask a source for their number each time they are written.
 ghost use Rattle.std.specs.Prelude.{◌≡◌, [], ◌∷◌, None, ⊤};
+ghost use Rattle.std.specs.Arc.{arc_value};
 ghost use Rattle.fm_grammar.specs.declared.MetricType.TheVariants.{Gauge, Counter};
 ghost use Rattle.fm_encoder.specs.Points.{GaugePoint, CounterPoint};
 
@@ -7,7 +8,11 @@ use fm_encoder::{
     EncodeCounterValue, EncodeGaugeValue, EncodeMetric, EncodePoint, MetricEncoder, PointEncoder,
 };
 use fm_raw::{EncodeError, MetricType, TypedMetric};
+use std::alloc::Global;
 use std::marker::PhantomData;
+use std::sync::Arc;
+use std::sync::atomic::Ordering::SeqCst;
+use std::sync::atomic::{AtomicI32, AtomicI64, AtomicIsize, AtomicU32, AtomicU64, AtomicUsize};
 use std::time::Duration;
 
 /// Tells a number when it is asked, such as the length of a queue.
@@ -18,6 +23,57 @@ pub trait NumberSource<N> {
     /// The number at this moment.
     fn read(&self) -> N
         ensures { tells self.now result };
+}
+
+/// A source that is shared tells what the source does.
+impl<N, R: NumberSource<N>> NumberSource<N> for Arc<R, Global> {
+    ghost tells = { λ r. R.tells (arc_value r) };
+
+    fn read(&self) -> N {
+        (**self).read()
+    }
+}
+
+/// An atomic tells its number.
+impl NumberSource<i32> for AtomicI32 {
+    fn read(&self) -> i32 {
+        self.load(SeqCst)
+    }
+}
+
+/// An atomic tells its number.
+impl NumberSource<i64> for AtomicI64 {
+    fn read(&self) -> i64 {
+        self.load(SeqCst)
+    }
+}
+
+/// An atomic tells its number.
+impl NumberSource<isize> for AtomicIsize {
+    fn read(&self) -> isize {
+        self.load(SeqCst)
+    }
+}
+
+/// An atomic tells its number.
+impl NumberSource<u32> for AtomicU32 {
+    fn read(&self) -> u32 {
+        self.load(SeqCst)
+    }
+}
+
+/// An atomic tells its number.
+impl NumberSource<u64> for AtomicU64 {
+    fn read(&self) -> u64 {
+        self.load(SeqCst)
+    }
+}
+
+/// An atomic tells its number.
+impl NumberSource<usize> for AtomicUsize {
+    fn read(&self) -> usize {
+        self.load(SeqCst)
+    }
 }
 
 /// A gauge whose value is what a source tells each time the gauge is written.
