@@ -1,4 +1,5 @@
 mod PathLemmas
+mod ProcessLemmas
 mod RootLemmas
 -- Lemmas for those who use the library: label sets of one's own, and families whose label sets are pairs of texts.
 pub use Rattle.fm_labels.proofs.OwnLabels

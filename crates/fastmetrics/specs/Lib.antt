@@ -67,6 +67,8 @@ pub use Rattle.fm_metrics.specs.Gauges
 pub use Rattle.fm_metrics.specs.NumberOrder
 pub use Rattle.fm_metrics.specs.CurrentState
 pub use Rattle.fm_metrics.specs.StateSets
+pub use Rattle.fm_metrics.specs.NamedStates
+pub use Rattle.fm_metrics.specs.StateNames
 pub use Rattle.fm_raw.specs.BucketErrors
 pub use Rattle.fm_raw.specs.BoundTests
 pub use Rattle.fm_raw.specs.Bounds

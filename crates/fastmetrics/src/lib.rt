@@ -7,7 +7,7 @@
 //! - [`format`]: `format::text::encode` writes a registry's document, and `format::text::read` reads one back.
 //! - [`encoder`]: what metrics, points and labels of your own implement.
 //! - [`raw`]: numbers, units and metadata.
-//! - [`process`]: processor time, memory and open files of the process, from the files of `/proc`.
+//! - [`process`]: processor time, memory, open files and start of the process, from the files of `/proc`.
 //! - [`laws`]: theorems that a program has where it calls them.
 #![tactic(auto)]
 
@@ -29,7 +29,7 @@ pub mod raw {
 
 pub mod metrics {
     //! The types of metrics: those whose value is fixed or asked for, and those that threads count with.
-    pub use fm_metrics::{info, labeled, source, state_set, unknown};
+    pub use fm_metrics::{info, labeled, source, unknown};
 
     pub mod counter {
         //! Counters: numbers that never fall.
@@ -41,6 +41,12 @@ pub mod metrics {
         //! Gauges: numbers that rise and fall.
         pub use fm_metrics::{ConstGauge, Gauge, InProgress};
         pub use fm_raw::GaugeValue;
+    }
+
+    pub mod state_set {
+        //! State sets: one of a list of states, which are the values of a type, or texts.
+        pub use fm_metrics::NamedStates;
+        pub use fm_metrics::state_set::{ConstStateSet, MAX_STATES, StateSet, StateSetValue};
     }
 
     pub mod family {

@@ -1,6 +1,7 @@
-//! What Linux tells of the process that runs: metrics that read the files of `/proc` each time they are written.
+//! What Linux tells of the process that runs: ordinary metrics, which are set to what the files of `/proc` tell.
 
 mod files;
 mod metrics;
+mod stat;
 
-pub use metrics::{Level, ProcessCpu, ProcessGauge, ProcessMetric, register_process};
+pub use metrics::{ProcessMetrics, register_process};

@@ -1,150 +1,143 @@
-//! Metrics of the process, and their registration.
-ghost use Rattle.std.specs.Prelude.{◌≡◌, ◌⊎◌, []};
-ghost use Rattle.fm_grammar.specs.declared.MetricType.TheVariants.{Counter, Gauge};
+//! Metrics of the process, their registration, and the numbers that they are set to.
 
-use crate::encoder::{EncodeError, EncodeMetric, MetricEncoder};
-use crate::metrics::counter::ConstCounter;
-use crate::metrics::gauge::ConstGauge;
-use crate::process::files::{
-    cpu_seconds, open_files, resident_bytes, start_seconds, virtual_bytes,
-};
-use crate::raw::{Fixed, MetricType, Unit};
-use crate::registry::{Metric, OneOf, RegistryError, Root};
+use crate::metrics::counter::Counter;
+use crate::metrics::gauge::Gauge;
+use crate::process::files::{open_files, process_start, process_stat};
+use crate::process::stat::ProcessStat;
+use crate::raw::{Fixed, Unit};
+use crate::registry::{RegistryError, Root};
+use fm_encoder::EncodeMetric;
+use std::io::{self, ErrorKind};
 use std::rt::Files;
 use std::sync::Wait;
-use std::time::Duration;
 
-/// The processor time of the process in seconds, which is read each time it is written. Without it the family has no sample.
-#[derive(Clone, Copy, Drop)]
-pub struct ProcessCpu<R> {
-    /// What the files are read by.
-    pub rt: R,
-}
-
-impl<R: Files + AllocGlobal + Send + Sync + Drop> EncodeMetric for ProcessCpu<R> {
-    ghost types = { λ _ t. t ≡ Counter };
-
-    ghost offers = { λ _ stamp ms. (ms ≡ [])
-        ⊎ ((c : _) × ⟦<ConstCounter<Fixed> as EncodeMetric>⟧.offers c stamp ms) };
-
-    fn encode(&self, encoder: &mut MetricEncoder) -> Result<(), EncodeError> {
-        match cpu_seconds(&self.rt) {
-            Some(seconds) => ConstCounter::new(seconds).encode(encoder),
-            None => Ok(()),
-        }
-    }
-
-    fn metric_type(&self) -> MetricType {
-        MetricType::Counter
-    }
-
-    fn timestamp(&self) -> Option<Duration> {
-        None
-    }
-}
-
-/// A level of the process.
-#[derive(Clone, Copy, Debug, PartialEq, Eq)]
-pub enum Level {
+/// Handles of the metrics of the process. Their clones, and those of the root, share each number. A number that couldn't be read when
+/// the metrics were registered has no metric, so that none is shown as a false zero.
+#[derive(Clone, Drop)]
+pub struct ProcessMetrics {
+    /// The seconds of processor time, its own and the system's for it.
+    pub cpu_seconds: Option<Counter<Fixed>>,
     /// The bytes of its memory that are present.
-    ResidentBytes,
+    pub resident_bytes: Option<Gauge>,
     /// The bytes of memory that it can address.
-    VirtualBytes,
-    /// How many files it has open.
-    OpenFiles,
+    pub virtual_bytes: Option<Gauge>,
+    /// How many files it has open, with the folder in which `read` counts them.
+    pub open_files: Option<Gauge>,
+    /// The seconds from 1970 to its start, which stay as they are.
+    pub start_seconds: Option<Gauge<Fixed>>,
 }
 
-/// A level of the process, which is read each time it is written. Without it the family has no sample.
-#[derive(Clone, Copy, Drop)]
-pub struct ProcessGauge<R> {
-    /// What the files are read by.
-    pub rt: R,
-    /// Which level.
-    pub level: Level,
+// Sets a gauge, if there is one.
+fn set(gauge: &Option<Gauge>, value: i64) {
+    if let Some(gauge) = gauge {
+        gauge.set(value);
+    }
 }
 
-impl<R: Files + AllocGlobal + Copy + Drop> ProcessGauge<R> {
-    // What it is now.
-    fn now(&self) -> Option<u64> {
-        match self.level {
-            Level::ResidentBytes => resident_bytes(&self.rt),
-            Level::VirtualBytes => virtual_bytes(&self.rt),
-            Level::OpenFiles => open_files(&self.rt),
+impl ProcessMetrics {
+    // Sets what `/proc/self/stat` tells. A total that another thread has set to a later one stays.
+    fn set_stat(&self, stat: ProcessStat) {
+        if let Some(counter) = &self.cpu_seconds {
+            let _later = counter.set(stat.cpu_seconds);
         }
+        set(&self.resident_bytes, stat.resident_bytes);
+        set(&self.virtual_bytes, stat.virtual_bytes);
+    }
+
+    /// Sets the numbers to what `/proc` tells now. A program calls it before each document.
+    ///
+    /// It opens `/proc/self/stat` and the folder `/proc/self/fd`, takes memory for what is in them, and waits for no lock. If one of
+    /// them can't be read, or has another form (`InvalidData`), or memory runs out (`OutOfMemory`), its numbers stay as they were, those
+    /// of the other are set all the same, and the error is returned, the file's if both fail.
+    pub fn read<R: Files + AllocGlobal + Clone + Drop>(&self, rt: &R) -> io::Result<()> {
+        let stat = process_stat(rt).map(|stat| self.set_stat(stat));
+        let files = open_files(rt).map(|count| set(&self.open_files, count));
+        stat?;
+        files
     }
 }
 
-impl<R: Files + AllocGlobal + Copy + Send + Sync + Drop> EncodeMetric for ProcessGauge<R> {
-    ghost types = { λ _ t. t ≡ Gauge };
+// What the files told first, where they could be read.
+#[derive(Drop)]
+struct FirstNumbers {
+    stat: Option<ProcessStat>,
+    open_files: Option<i64>,
+    start: Option<Fixed>,
+}
 
-    ghost offers = { λ _ stamp ms. (ms ≡ [])
-        ⊎ ((g : _) × ⟦<ConstGauge<u64> as EncodeMetric>⟧.offers g stamp ms) };
-
-    fn encode(&self, encoder: &mut MetricEncoder) -> Result<(), EncodeError> {
-        match self.now() {
-            Some(level) => ConstGauge::new(level).encode(encoder),
-            None => Ok(()),
-        }
-    }
-
-    fn metric_type(&self) -> MetricType {
-        MetricType::Gauge
-    }
-
-    fn timestamp(&self) -> Option<Duration> {
-        None
+// A number that was read, or None if it can't be. Only want of memory is refused.
+fn known<T: Drop>(read: io::Result<T>) -> Result<Option<T>, RegistryError> {
+    match read {
+        Ok(number) => Ok(Some(number)),
+        Err(error) if error.kind() == ErrorKind::OutOfMemory => Err(RegistryError::Memory),
+        Err(_) => Ok(None),
     }
 }
 
-/// A metric of the process, as a root's own.
-pub type ProcessMetric<R> = OneOf<ProcessCpu<R>, ProcessGauge<R>>;
-
-// Registers a level.
-fn register_level<
-    R: Files + AllocGlobal + Copy + Send + Sync + Drop,
-    H: Wait + Copy + Send + Sync + Drop,
-    X: EncodeMetric + From<ProcessMetric<R>>,
->(root: &mut Root<H, X>, rt: R, level: Level) -> Result<(), RegistryError> {
-    let (name, help, unit) = match level {
-        Level::ResidentBytes => (
-            "process_resident_memory",
-            "Memory that is present",
-            Some(Unit::Bytes),
-        ),
-        Level::VirtualBytes => (
-            "process_virtual_memory",
-            "Memory that can be addressed",
-            Some(Unit::Bytes),
-        ),
-        Level::OpenFiles => ("process_open_fds", "Open files", None),
+// Reads the numbers for the first time.
+fn read_first<R: Files + AllocGlobal + Clone + Drop>(
+    rt: &R,
+) -> Result<FirstNumbers, RegistryError> {
+    let stat = known(process_stat(rt))?;
+    let open_files = known(open_files(rt))?;
+    let start = match &stat {
+        Some(stat) => known(process_start(rt, stat))?,
+        None => None,
     };
-    let own = X::from(OneOf::Second(ProcessGauge { rt, level }));
-    root.register(name, help, unit, Metric::Own(own))
+    Ok(FirstNumbers {
+        stat,
+        open_files,
+        start,
+    })
 }
 
-/// Registers the processor time, the memory, the open files and the start of the process, under the names that other libraries
-/// give them: `process_cpu_seconds_total`, `process_resident_memory_bytes`, `process_virtual_memory_bytes`, `process_open_fds`,
-/// `process_start_time_seconds`. It reads the start now, and leaves it out if it can't. It has the errors of `Root::register`; what
-/// was registered before an error stays.
+// Registers a metric for each of these numbers, and sets it.
+fn register_numbers<H: Wait + Copy + Send + Sync + Drop, X: EncodeMetric>(
+    root: &mut Root<H, X>,
+    first: &FirstNumbers,
+) -> Result<ProcessMetrics, RegistryError> {
+    let mut metrics = ProcessMetrics {
+        cpu_seconds: None,
+        resident_bytes: None,
+        virtual_bytes: None,
+        open_files: None,
+        start_seconds: None,
+    };
+    if let Some(stat) = first.stat {
+        let cpu = root.fixed_counter_with_unit("process_cpu", "Processor time", Unit::Seconds)?;
+        metrics.cpu_seconds = Some(cpu);
+        let name = "process_resident_memory";
+        let resident = root.gauge_with_unit(name, "Memory that is present", Unit::Bytes)?;
+        metrics.resident_bytes = Some(resident);
+        let name = "process_virtual_memory";
+        let addressed = root.gauge_with_unit(name, "Memory that can be addressed", Unit::Bytes)?;
+        metrics.virtual_bytes = Some(addressed);
+        metrics.set_stat(stat);
+    }
+    if let Some(count) = first.open_files {
+        metrics.open_files = Some(root.gauge("process_open_fds", "Open files")?);
+        set(&metrics.open_files, count);
+    }
+    if let Some(seconds) = first.start {
+        let name = "process_start_time";
+        let start = root.fixed_gauge_with_unit(name, "Start since 1970", Unit::Seconds)?;
+        start.set(seconds);
+        metrics.start_seconds = Some(start);
+    }
+    Ok(metrics)
+}
+
+/// Registers the processor time, the memory, the open files and the start of the process in the current subsystem, under the names
+/// that other libraries give them: `process_cpu_seconds_total`, `process_resident_memory_bytes`, `process_virtual_memory_bytes`,
+/// `process_open_fds`, `process_start_time_seconds`. Like all names, they follow the root's namespace, if it has one.
+///
+/// It reads the files of `/proc` first, and leaves out what they don't tell. It fails with `Memory` if memory runs out while it reads,
+/// and then nothing is registered; else it has the errors of `Root::register`, and what was registered before an error stays.
 pub fn register_process<
-    R: Files + AllocGlobal + Copy + Send + Sync + Drop,
+    R: Files + AllocGlobal + Clone + Drop,
     H: Wait + Copy + Send + Sync + Drop,
-    X: EncodeMetric + From<ProcessMetric<R>>,
->(root: &mut Root<H, X>, rt: R) -> Result<(), RegistryError> {
-    let own = X::from(OneOf::First(ProcessCpu { rt }));
-    let help = "Processor time";
-    root.register("process_cpu", help, Some(Unit::Seconds), Metric::Own(own))?;
-    for level in [Level::ResidentBytes, Level::VirtualBytes, Level::OpenFiles] {
-        register_level(root, rt, level)?;
-    }
-    if let Some(start) = start_seconds(&rt) {
-        let gauge = Metric::from(ConstGauge::new(start));
-        root.register(
-            "process_start_time",
-            "Start since 1970",
-            Some(Unit::Seconds),
-            gauge,
-        )?;
-    }
-    Ok(())
+    X: EncodeMetric,
+>(root: &mut Root<H, X>, rt: &R) -> Result<ProcessMetrics, RegistryError> {
+    let first = read_first(rt)?;
+    register_numbers(root, &first)
 }
