@@ -33,11 +33,13 @@ put_block text value block used at room is =
     let count : 64 - length text - (used + l - used) ≡ rest + 1 = omega arith in
     let whole : put_mid used (used + l - used) block value ≡ (text ++ value) ++ 0 ∷ replicate {A = ℕ} rest 0 =
     (λ j. left j ++ (value ++ right j)) ∙ ap (λ n. text ++ (value ++ replicate {A = ℕ} n 0)) count ∙ ap (λ t. text ++ (value ++ t)) (zeros_more (rest + 1) rest refl) ∙ sym (append_assoc text value (0 ∷ replicate {A = ℕ} rest 0)) in
-    let seam : length (text ++ value) ≡ used + l = simp length-append (omega arith) in
-    (omega arith, record {
-      fits = omega arith;
-      is = ap (λ t. set t (used + l) 255) whole ∙ set_at (text ++ value) 0 (replicate {A = ℕ} rest 0) 255 (used + l) seam ∙ append_assoc text value (255 ∷ replicate {A = ℕ} rest 0) ∙ ap (λ t. text ++ t) (sym (append_assoc value (255 ∷ []) (replicate {A = ℕ} rest 0))) ∙ sym (append_assoc text (ended value) (replicate {A = ℕ} rest 0));
-    })
+    let seam : length (text ++ value) ≡ used + l = simp length-append (omega arith) in (
+      omega arith,
+      record {
+        fits = omega arith;
+        is = ap (λ t. set t (used + l) 255) whole ∙ set_at (text ++ value) 0 (replicate {A = ℕ} rest 0) 255 (used + l) seam ∙ append_assoc text value (255 ∷ replicate {A = ℕ} rest 0) ∙ ap (λ t. text ++ t) (sym (append_assoc value (255 ∷ []) (replicate {A = ℕ} rest 0))) ∙ sym (append_assoc text (ended value) (replicate {A = ℕ} rest 0));
+      },
+    )
 
 -- the joined values are as long as those before an index and the one there, at least
 pub long_at : (values : List (Bor Text)) (i : ℕ) (value : Bor Text) → i < length values

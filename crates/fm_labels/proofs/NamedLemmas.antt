@@ -91,9 +91,10 @@ named_valid type before [] values are fit = tt
 named_valid type before (n ∷ names) [] are fit = tt
 named_valid type before (n ∷ names) (v ∷ values) are fit =
     let label : Label = record { name = n; value = v } in
-    let rest : NamesAreFree type before names = record { free = fit.free.1; fresh = fit.fresh.1 } in
-    (inr (n, v, refl, record { valid = are.valid.0; free = fit.free.0; fresh = fit.fresh.0 }),
-    named_valid type (before ++ label ∷ []) names values (record { valid = are.valid.1; different = are.different.1 }) (fits_after type before label names rest are.different.0))
+    let rest : NamesAreFree type before names = record { free = fit.free.1; fresh = fit.fresh.1 } in (
+      inr (n, v, refl, record { valid = are.valid.0; free = fit.free.0; fresh = fit.fresh.0 }),
+      named_valid type (before ++ label ∷ []) names values (record { valid = are.valid.1; different = are.different.1 }) (fits_after type before label names rest are.different.0),
+    )
 
 -- what is written of them is the same labels
 pub written-named : (ls : List Label) → all_written (emitted_again ls) ≡ ls

@@ -12,7 +12,6 @@ ghost use Rattle.fm_labels.specs.inside.JoinedValues.{IsBlock};
 mod hashing;
 
 pub use hashing::hash_values;
-
 use std::alloc::{AllocError, Global};
 use std::marker::Model;
 

@@ -8,8 +8,7 @@ ghost use Rattle.fm_family.specs.Members.{OffersFirst, MayFault};
 ghost use Rattle.fm_family.specs.VecMembers.{named_labels, NeverFaults};
 
 use crate::vec::members::VecMembers;
-use fm_encoder::collector;
-use fm_encoder::{EncodeLabelSet, EncodePoint, MetricEncoder};
+use fm_encoder::{EncodeLabelSet, EncodePoint, MetricEncoder, collector};
 use fm_labels::label::LabelSetEncoder;
 use fm_labels::label_values::LabelValues;
 use fm_raw::EncodeError;

@@ -72,8 +72,19 @@ impl<M: TypedMetric + Drop, MF: Drop, H: Wait + Drop> MetricVec<M, MF, H> {
     {
         let names = tested_label_names(alloc, M::TYPE, names)?;
         let core = RwLock::new(VecMembers::new(alloc, hashing, names.count(), limit));
-        let shared = Arc::new(alloc, Shared { names, core, factory })?;
-        Ok(MetricVec { shared, alloc, wait })
+        let shared = Arc::new(
+            alloc,
+            Shared {
+                names,
+                core,
+                factory,
+            },
+        )?;
+        Ok(MetricVec {
+            shared,
+            alloc,
+            wait,
+        })
     }
 }
 

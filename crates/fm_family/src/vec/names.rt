@@ -10,7 +10,11 @@ use fm_registry_model::label_names::LabelNames;
 use std::alloc::Global;
 
 // Fails if one of the names is one that the type keeps for itself.
-fn test_reserved(alloc: Global, metric_type: MetricType, names: &LabelNames) -> Result<(), RegistryError>
+fn test_reserved(
+    alloc: Global,
+    metric_type: MetricType,
+    names: &LabelNames,
+) -> Result<(), RegistryError>
     ensures { IsOrMemory (refusal_of result) (reserved_refusal metric_type names.now) }
 {
     let reserved = match metric_type {

@@ -74,7 +74,10 @@ impl LabelEncoder {
         if let Some(error) = self.taken_name(names) {
             return self.refused.refuse(error);
         }
-        keep!(self.refused, add_named(&mut self.labels, names.as_slice(), values))
+        keep!(
+            self.refused,
+            add_named(&mut self.labels, names.as_slice(), values)
+        )
     }
 }
 
@@ -82,7 +85,11 @@ impl LabelSetEncoder {
     /// Takes labels with these names, in order, and as many values. They need no test but for the labels before them: a name that the
     /// metric's type reserves is refused as `ReservedLabel`, one that an earlier label has as `DuplicateLabel`. Fails with `Memory`
     /// if memory runs out.
-    pub fn encode_named(&mut self, names: &LabelNames, values: &LabelValues) -> Result<(), EncodeError>
+    pub fn encode_named(
+        &mut self,
+        names: &LabelNames,
+        values: &LabelValues,
+    ) -> Result<(), EncodeError>
         requires { length values.now ≡ length names.now }
         ensures { TakesLabels (emitted_again (labels_with names.now values.now)) NoFault
             self.old self.new result }

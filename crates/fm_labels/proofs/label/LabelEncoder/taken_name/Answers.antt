@@ -12,10 +12,11 @@ pub loop-name-init : goal.loop-name-init
 loop-name-init c = free_none c.args.self.now.metric_type c.args.self.now.labels
 
 pub returns-then-has_name-clause-taken : goal.returns-then-has_name-clause-taken
-returns-then-has_name-clause-taken c = rw (← c.self.view_is)
-    (string_bytes c.name-item.result,
-    subst (λ ns. Contains ns (string_bytes c.name-item.result)) c.as_slice-name-items.ensures.names (name_among _ c.loop-name.name-index c.name-item.result (omega arith) c.name-item.is),
-    subst (Contains (label_names c.self.inside.labels.labels)) c.as_str-name.ensures.value (c.if-has_name.ensures.0 refl))
+returns-then-has_name-clause-taken c = rw (← c.self.view_is) (
+  string_bytes c.name-item.result,
+  subst (λ ns. Contains ns (string_bytes c.name-item.result)) c.as_slice-name-items.ensures.names (name_among _ c.loop-name.name-index c.name-item.result (omega arith) c.name-item.is),
+  subst (Contains (label_names c.self.inside.labels.labels)) c.as_str-name.ensures.value (c.if-has_name.ensures.0 refl),
+)
 
 pub loop-name-preserved : goal.loop-name-preserved
 loop-name-preserved c =
