@@ -1,17 +1,18 @@
 -- Registries whose metrics all fit: what a registration keeps, and where a fault is.
-use Rattle.std.proofs.Common.{◌≡◌, ℕ, zero, suc, List, [], ◌∷◌, length, Option, Result, Ok, Err, OnOk, inl, inr, refl, sym, subst, arith}
+use Rattle.std.proofs.Common.{◌≡◌, ℕ, suc, List, [], ◌∷◌, Option, None, Result, Ok, Err, inl, inr, refl, sym, subst, arith}
 use Rattle.std.specs.List.{Any, AllByRecursion}
 use Rattle.fm_grammar.specs.declared.MetricType.{MetricType}
 use Rattle.fm_grammar.proofs.Runs.{all_weaker}
 use Rattle.fm_raw.specs.declared.encode_error.EncodeError.{EncodeError}
 use Rattle.fm_registry_model.specs.Texts.{Path}
 use Rattle.fm_registry_model.specs.Registration.{Registration}
-use Rattle.fm_registry_model.specs.History.{History}
-use Rattle.fm_registry_model.specs.Tree.{Tree, Shows}
+use Rattle.fm_registry_model.specs.History.{History, Register, labels_at, namespace_at}
+use Rattle.fm_registry_model.specs.Answer.{answer}
+use Rattle.fm_registry_model.specs.Tree.{Tree, Shows, Reads}
 use Rattle.fm_registry_model.specs.Listing.{Listed, IsListable, order}
-use Rattle.fm_registry_model.specs.Fitting.{FitsAt, HasFittingHistory}
+use Rattle.fm_registry_model.specs.inside.Fitting.{FitsAt, HasFittingHistory}
 use Rattle.fm_registry_model.specs.declared.RegistryError.{RegistryError}
-use Rattle.fm_registry_model.proofs.FittingTreeLemmas.{fitting-registered, shown_fits, shown_listable}
+use Rattle.fm_registry_model.proofs.FittingTreeLemmas.{fits_there, fitting-accepted, shown_fits, shown_listable}
 use Rattle.fm_encoder.specs.Points.{Member}
 use Rattle.fm_core.specs.HasHistory.{HasHistory}
 use Rattle.fm_core.specs.Registers.{RegistersAt}
@@ -22,12 +23,19 @@ module _ {M : Type 0} (Fits : Listed M → Type 0) where
   pub fitting_history : (t : Tree M) → HasFittingHistory Fits t → HasHistory t
   fitting_history t h = record { history = h.history; reads = h.reads }
 
-  -- a registration of a metric that fits, whichever type it declares, or one that was refused
+  -- a registration of a metric that fits if it is accepted, whichever type it declares, or one that was refused
+  pub fitting_accepted : (path : Path) (Types : MetricType → Type 0) (asked : MetricType → Registration M) (old new : Tree M) (r : Result (Unit {0}) RegistryError) → RegistersAt path Types asked old new r
+      → ((t : MetricType) → Types t → (b : History M) → Reads old b → answer b (Register path (asked t)) ≡ None → Fits (record { namespace = namespace_at b path; labels = labels_at b path; registration = asked t }))
+      → HasFittingHistory Fits old → HasFittingHistory Fits new
+  fitting_accepted path Types asked old new (Ok x) registers fits h =
+      fitting-accepted Fits old new path (asked registers.metric_type) h (fits registers.metric_type registers.declared) registers.ok
+  fitting_accepted path Types asked old new (Err e) registers fits h = subst (HasFittingHistory Fits) (sym registers.err) h
+
+  -- one of a metric that fits the tree's registry at the path
   pub fitting_registers : (path : Path) (Types : MetricType → Type 0) (asked : MetricType → Registration M) (old new : Tree M) (r : Result (Unit {0}) RegistryError) → RegistersAt path Types asked old new r
       → ((t : MetricType) → Types t → FitsAt Fits old path (asked t)) → HasFittingHistory Fits old → HasFittingHistory Fits new
-  fitting_registers path Types asked old new (Ok x) registers fits h =
-      fitting-registered Fits old new path (asked registers.metric_type) h (fits registers.metric_type registers.declared) registers.ok
-  fitting_registers path Types asked old new (Err e) registers fits h = subst (HasFittingHistory Fits) (sym registers.err) h
+  fitting_registers path Types asked old new r registers fits h =
+      fitting_accepted path Types asked old new r registers (λ t types b reads none. fits_there Fits old b path (asked t) reads.shows (fits t types) none) h
 
 any-first : {X : Type 0} (P : X → Type 0) (x : X) (xs : List X) → P x → Any P (x ∷ xs)
 any-first P x xs here = (0, x, omega arith, refl, here)

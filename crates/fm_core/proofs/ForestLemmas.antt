@@ -1,15 +1,17 @@
 -- The subsystems that a registry holds, as a forest.
-use Rattle.std.proofs.Common.{◌≡◌, ℕ, suc, zero, ◌+◌, ◌<◌, List, [], ◌∷◌, Option, None, Some, IsSome, length, slice_get, slice_set, if◌then◌else◌, refl, sym, ap, true≢false, arith}
+use Rattle.std.proofs.Common.{◌≡◌, ℕ, suc, zero, ◌+◌, ◌<◌, List, [], ◌∷◌, Option, None, Some, IsSome, length, get_or, slice_get, slice_set, if◌then◌else◌, refl, sym, ap, ◌∙◌, true≢false, arith}
 use Rattle.std.specs.Option.{option_map}
 use Rattle.std.specs.Vec.{with_item}
 use Rattle.std.proofs.Common.{Vec, Global}
+use Rattle.std.proofs.lemmas.Option.{slice_get-get_or}
 use Rattle.fm_registry_model.specs.Lists.{items_of}
 use Rattle.std.specs.List.{position_from}
 use Rattle.std.specs.Str.{bytes_eq}
 use Rattle.std.specs.String.{string_bytes}
 use Rattle.fm_registry_model.specs.Texts.{Text}
-use Rattle.fm_registry_model.specs.Tree.{Child}
-use Rattle.fm_registry_model.specs.inside.Forests.{nth_in, nth_name, with_nth, index_from}
+use Rattle.fm_registry_model.specs.Tree.{Child, find_child}
+use Rattle.fm_registry_model.specs.inside.Forests.{nth_in, nth_name, with_nth, index_from, index_in}
+use Rattle.fm_registry_model.proofs.ForestLemmas.{index_in-IsIndex}
 use Rattle.fm_core.specs.inside.TreeView.{forest_of}
 use Rattle.fm_core.specs.declared.registry.tree.Subsystem.{Subsystem}
 
@@ -41,3 +43,8 @@ module _ {M : Type 0} where
   pub forest_of-with_item : (o : Option (Vec (Subsystem M) Global)) (i : ℕ) (w : Subsystem M) → forest_of (items_of (option_map (λ items. with_item items i w) o)) ≡ with_nth (forest_of (items_of o)) i (string_bytes w.name) w.registry
   forest_of-with_item None i w = refl
   forest_of-with_item (Some v) i w = forest_of-slice_set v.items i w
+
+  pub child-forest_of : (ss : List (Subsystem M)) (n : Text) (i : ℕ) (s : Subsystem M) → index_in (forest_of ss) n ≡ Some i → s ≡ get_or ss i s → Some s.registry ≡ find_child (forest_of ss) n
+  child-forest_of ss n i s at is =
+      let index = index_in-IsIndex (forest_of ss) n i at in
+      sym (index.found ∙ nth_in-forest_of ss i ∙ ap (option_map (λ x. x.registry)) (slice_get-get_or ss i s (within-nth_in ss i index.there) ∙ ap Some (sym is)))

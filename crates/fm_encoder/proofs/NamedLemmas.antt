@@ -1,5 +1,5 @@
 -- Metrics without fault: what they offer is valid under the constant labels of their registry.
-use Rattle.std.proofs.Common.{◌≡◌, ℕ, List, [], ◌∷◌, ◌++◌, length, Option, inl, inr, refl, sym, ap, subst, ◌∙◌, append-nil, Contains}
+use Rattle.std.proofs.Common.{◌≡◌, ℕ, Bool, List, [], ◌∷◌, ◌++◌, length, Option, inl, inr, refl, sym, ap, subst, ◌∙◌, append-nil, Contains}
 use Rattle.std.specs.List.{AllByRecursion}
 use Rattle.fm_grammar.specs.declared.MetricType.{MetricType}
 use Rattle.fm_grammar.specs.declared.MetricType.TheVariants.{StateSet, Info}
@@ -9,10 +9,10 @@ use Rattle.fm_grammar.specs.LabelPairs.{labels_with}
 use Rattle.fm_grammar.proofs.Runs.{all_append}
 use Rattle.fm_raw.specs.declared.encode_error.EncodeError.{EncodeError}
 use Rattle.fm_labels.specs.Labels.{EmittedLabel, label_names, LabelsValid, all_written, emitted_again}
-use Rattle.fm_labels.specs.FittingNames.{NamesFit}
+use Rattle.fm_labels.specs.inside.FittingNames.{NamesFit}
 use Rattle.fm_labels.specs.inside.FreeLabels.{AreFree}
 use Rattle.fm_labels.proofs.LabelsLemmas.{written_again}
-use Rattle.fm_labels.proofs.FittingLemmas.{LabelsValid-fitting, LabelsValid-both, constants_fit, names_with}
+use Rattle.fm_labels.proofs.FittingLemmas.{LabelsValid-fitting, LabelsValid-both, all_free, constants_fit, names_with}
 use Rattle.fm_encoder.specs.Points.{Point, UnknownPoint, GaugePoint, CounterPoint, StateSetPoint, InfoPoint, HistogramPoint, GaugeHistogramPoint, SummaryPoint, Member, Setting, PartsValid, MembersFault, type_of}
 use Rattle.fm_encoder.specs.Offers.{MetricHasFault, context_at}
 use Rattle.fm_encoder.specs.Emits.{members_of, OffersOf}
@@ -65,17 +65,13 @@ module _ (k : EncodeError) (name : Text) (type : MetricType) (constants : List L
       fault
 
 module _ (k : EncodeError) (name : Text) (constants : List Label) (are : AreLabels constants) where
-  none_reserved : (ls : List Label) → AllByRecursion (λ label. ¬ ⊥) ls
-  none_reserved [] = tt
-  none_reserved (l ∷ ls) = ((λ never. never), none_reserved ls)
-
   -- an info whose labels may follow the constant ones
   pub info_faultless : (labels : List EmittedLabel) (stamp : Option ℕ) → LabelsValid Info constants labels → ¬ (MembersFault k (context_at name Info constants stamp) (bare (InfoPoint labels) ∷ []))
-  info_faultless labels stamp valid = bare_faultless k name Info constants are (none_reserved constants) (InfoPoint labels) stamp refl valid
+  info_faultless labels stamp valid = bare_faultless k name Info constants are (all_free Info constants (λ _ never. never)) (InfoPoint labels) stamp refl valid
 
   -- a state set whose printed name is no name of the constant labels
-  pub states_faultless : (states : _) (stamp : Option ℕ) → ¬ (Contains (label_names constants) name) → ¬ (MembersFault k (context_at name StateSet constants stamp) (bare (StateSetPoint states) ∷ []))
-  states_faultless states stamp fresh = bare_faultless k name StateSet constants are (none_reserved constants) (StateSetPoint states) stamp refl (inr fresh)
+  pub states_faultless : (states : List (Text × Bool)) (stamp : Option ℕ) → ¬ (Contains (label_names constants) name) → ¬ (MembersFault k (context_at name StateSet constants stamp) (bare (StateSetPoint states) ∷ []))
+  states_faultless states stamp fresh = bare_faultless k name StateSet constants are (all_free StateSet constants (λ _ never. never)) (StateSetPoint states) stamp refl (inr fresh)
 
 -- a metric that declares no error of its own, and offers only what has no fault
 pub metric_faultless : (k : EncodeError) (Offers : Option ℕ → List Member → Type 0) (Stamps : Option ℕ → Type 0) (MayFault : Type 0) (name : Text) (type : MetricType) (constants : List Label) → ¬ MayFault → ((stamp : Option ℕ) (ms : List Member) → Stamps stamp → Offers stamp ms → ¬ (MembersFault k (context_at name type constants stamp) ms)) → ¬ (MetricHasFault k Offers Stamps MayFault name type constants)
@@ -95,6 +91,17 @@ fixed_faultless k point Stamps MayFault name type constants are free never same 
     metric_faultless k (λ stamp ms. ms ≡ bare point ∷ []) Stamps MayFault name type constants never
     (λ stamp ms stamped offered. subst (λ (xs : List Member). ¬ (MembersFault k (context_at name type constants stamp) xs)) (sym offered) (plain_faultless k name type constants are free point stamp same plain))
 
+-- the same of a state set whose printed name is no name of the constant labels
+pub one_states_faultless : (k : EncodeError) (Value : Type 0) (In : Value → Type 0) (states : Value → List (Text × Bool)) (Stamps : Option ℕ → Type 0) (MayFault : Type 0) (name : Text) (constants : List Label) → AreLabels constants → ¬ MayFault → ¬ (Contains (label_names constants) name) → ¬ (MetricHasFault k (λ stamp ms. (value : Value) × In value × (ms ≡ bare (StateSetPoint (states value)) ∷ [])) Stamps MayFault name StateSet constants)
+one_states_faultless k Value In states Stamps MayFault name constants are never fresh =
+    metric_faultless k (λ stamp ms. (value : Value) × In value × (ms ≡ bare (StateSetPoint (states value)) ∷ [])) Stamps MayFault name StateSet constants never
+    (λ stamp ms stamped offered. subst (λ (xs : List Member). ¬ (MembersFault k (context_at name StateSet constants stamp) xs)) (sym offered.2) (states_faultless k name constants are (states offered.0) stamp fresh))
+
+pub fixed_states_faultless : (k : EncodeError) (states : List (Text × Bool)) (Stamps : Option ℕ → Type 0) (MayFault : Type 0) (name : Text) (constants : List Label) → AreLabels constants → ¬ MayFault → ¬ (Contains (label_names constants) name) → ¬ (MetricHasFault k (λ stamp ms. ms ≡ bare (StateSetPoint states) ∷ []) Stamps MayFault name StateSet constants)
+fixed_states_faultless k states Stamps MayFault name constants are never fresh =
+    metric_faultless k (λ stamp ms. ms ≡ bare (StateSetPoint states) ∷ []) Stamps MayFault name StateSet constants never
+    (λ stamp ms stamped offered. subst (λ (xs : List Member). ¬ (MembersFault k (context_at name StateSet constants stamp) xs)) (sym offered) (states_faultless k name constants are states stamp fresh))
+
 -- labels of these names, with some values
 abbrev pub HasNames : List Text → List EmittedLabel → Type 0
 HasNames names labels = (values : List Text) × (length values ≡ length names) × (labels ≡ emitted_again (labels_with names values))
@@ -102,6 +109,10 @@ HasNames names labels = (values : List Text) × (length values ≡ length names)
 -- plain points of a type
 abbrev pub ArePlain : MetricType → List Point → Type 0
 ArePlain type points = AllByRecursion (λ p. (type_of p ≡ type) × IsPlain p) points
+
+-- one of some value
+pub one_plain : (Value : Type 0) (In : Value → Type 0) (point : Value → Point) (type : MetricType) → ((value : Value) → type_of (point value) ≡ type) → ((value : Value) → In value → IsPlain (point value)) → (points : List Point) → (value : Value) × In value × (points ≡ point value ∷ []) → ArePlain type points
+one_plain Value In point type same plain points told = subst (ArePlain type) (sym told.2) ((same told.0, plain told.0 told.1), tt)
 
 members_named : (type : MetricType) (names : List Text) (labels : List EmittedLabel) (points : List Point) → HasNames names labels → ArePlain type points → AllByRecursion (IsNamed type names) (members_of labels points)
 members_named type names labels [] has plain = tt

@@ -13,8 +13,8 @@ use crate::exposition::{Exposition, FamilySamples, Sample, Value};
 use fm_grammar::SampleKind;
 
 impl Exposition {
-    /// The value of the first sample, in the exposition's order, whose name is `name` and whose labels are exactly these, or None if
-    /// there is none. It takes no memory.
+    /// The value of the first sample, in the exposition's order, whose name is `name` and whose labels are exactly these, or None
+    /// if there is none. It takes no memory.
     ///
     /// A sample's name is its family's with the suffix of its kind, as its line shows it: `requests_total`, `took_bucket`,
     /// `took_count`. Its labels are in the order in which they are written: those of the registry come first, and `le` and

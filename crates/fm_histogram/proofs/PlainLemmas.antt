@@ -1,5 +1,5 @@
 -- What histograms and their snapshots emit has no fault of its own.
-use Rattle.std.proofs.Common.{◌≡◌, ℕ, ℤ, ◌<◌, ◌^◌, Bool, List, [], ◌∷◌, Option, inl, refl, sym, subst}
+use Rattle.std.proofs.Common.{ℕ, ℤ, ◌<◌, ◌^◌, Bool, List, [], ◌∷◌, Option, inl, refl, sym, subst}
 use Rattle.std.specs.List.{AllByRecursion}
 use Rattle.std.proofs.lemmas.List.{length-map}
 use Rattle.fm_raw.specs.declared.bucket.bound.Bucket.{Bucket}

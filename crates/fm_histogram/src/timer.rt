@@ -23,8 +23,8 @@ pub enum TimerError {
 /// A duration that is measured for a histogram, from the start until `stop`, or until the timer is dropped: at every way out of a
 /// scope, an early return by `?` too. It is counted once, as `Histogram::observe_duration` does; `discard` counts nothing.
 ///
-/// A timer that is dropped counts nothing where `stop` would fail. To count, it waits while another thread has the histogram's lock.
-/// It takes no memory.
+/// A timer that is dropped counts nothing where `stop` would fail. To count, it waits while another thread has the histogram's
+/// lock. It takes no memory.
 #[must_use = "the time is counted as soon as this is dropped"]
 pub struct Timer<'a, H: Wait, C: Clock> {
     histogram: &'a Histogram<H>,
@@ -54,9 +54,11 @@ impl<H: Wait> Histogram<H> {
         })
     }
 
-    /// Calls `f` once, and returns what it returned, with the time that it took by this clock, which is counted as a timer's is. Where
-    /// the time can't be counted, the second result says why, as `Timer::stop` does, and nothing was counted: `Clock` also where the
-    /// clock can't be read before `f` is called.
+    /// Calls `f` once, and returns what it returned, with the time that it took by this clock, which is counted as a timer's is.
+    /// Where the time can't be counted, the second result says why, as `Timer::stop` does, and nothing was counted: `Clock` also
+    /// where the clock can't be read before `f` is called.
+    ///
+    /// After `f` it waits while another thread has the histogram's lock, so `f` may use the same histogram. It takes no memory.
     pub fn time<R, C: Clock, F: FnOnce() -> R>(
         &self,
         clock: &C,

@@ -8,8 +8,8 @@ use Rattle.fm_grammar.specs.Exposition.{Text, Label}
 use Rattle.fm_grammar.specs.Names.{IsLabelName}
 use Rattle.fm_grammar.specs.WellFormed.{AreLabels}
 use Rattle.fm_grammar.specs.LabelPairs.{labels_with}
-use Rattle.fm_labels.specs.Labels.{label_names, NameFits, LabelsValid, emitted_again}
-use Rattle.fm_labels.specs.FittingNames.{NamesFit}
+use Rattle.fm_labels.specs.Labels.{IsReserved, label_names, NameFits, LabelsValid, emitted_again}
+use Rattle.fm_labels.specs.inside.FittingNames.{NamesFit}
 use Rattle.fm_labels.specs.inside.FreeLabels.{AreFree}
 use Rattle.fm_labels.proofs.LabelsLemmas.{LabelsValid-append, written_again}
 
@@ -48,6 +48,11 @@ none_there name (i, within, is) = absurd (omega (arith, within))
 each_fits : (type : MetricType) (ls : List Label) → AllByRecursion (λ label. IsLabelName label.name) ls → AreFree type ls → AllByRecursion (NameFits type []) (label_names ls)
 each_fits type [] names free = tt
 each_fits type (l ∷ ls) names free = (record { valid = names.0; free = free.0; fresh = none_there l.name }, each_fits type ls names.1 free.1)
+
+-- a type that reserves no name leaves all labels free
+pub all_free : (type : MetricType) (ls : List Label) → ((name : Text) → ¬ (IsReserved type name)) → AreFree type ls
+all_free type [] none = tt
+all_free type (l ∷ ls) none = (none l.name, all_free type ls none)
 
 -- constant labels fit in a family whose type reserves none of their names
 pub constants_fit : (type : MetricType) (ls : List Label) → AreLabels ls → AreFree type ls → NamesFit type [] (label_names ls)

@@ -1,7 +1,6 @@
 pub use Rattle.fm_grammar.specs.Exposition
 pub use Rattle.fm_grammar.specs.WellFormed
 pub mod Labels
-pub mod FittingNames
 pub mod OwnLabels
 pub mod Refusals
 pub mod LabelEncoders

@@ -3,3 +3,5 @@ pub mod Constants
 pub mod FreeLabels
 pub mod JoinedValues
 pub mod Steps
+pub mod TakenNames
+pub mod FittingNames

@@ -89,8 +89,8 @@ impl<N: GaugeValue> Gauge<N> {
         InProgress { value: &self.value }
     }
 
-    /// Adds one, calls `f`, subtracts one again, and returns what `f` returned. It takes no memory and doesn't wait, but for what `f`
-    /// does.
+    /// Adds one, calls `f`, subtracts one again, and returns what `f` returned. It takes no memory and doesn't wait, but for what
+    /// `f` does.
     pub fn during<R, F: FnOnce() -> R>(&self, f: F) -> R
         requires { F.IsAlwaysCallable f }
         ensures { F.post f result }
@@ -100,8 +100,8 @@ impl<N: GaugeValue> Gauge<N> {
     }
 }
 
-/// Something that is in progress, for which a gauge was raised by one. The gauge is lowered by one when this is dropped: at every way
-/// out of a scope, an early return by `?` too. To lower it sooner, `drop` this.
+/// Something that is in progress, for which a gauge was raised by one. The gauge is lowered by one when this is dropped: at every
+/// way out of a scope, an early return by `?` too. To lower it sooner, `drop` this.
 ///
 /// Each is one atomic step, which wraps at the ends of the type, takes no memory and doesn't wait.
 #[must_use = "the gauge is lowered as soon as this is dropped"]

@@ -11,7 +11,7 @@ use Rattle.fm_registry_model.specs.History.{Call, Subsystem, Register, History, 
 use Rattle.fm_registry_model.specs.Answer.{NoSuchSubsystem, missing_name, metric_refusal, answer, after, after_if}
 use Rattle.fm_registry_model.specs.Accepted.{AreAccepted, IsHistory}
 use Rattle.fm_registry_model.specs.Listing.{Listed, listed_with, listed_at, order_from, order}
-use Rattle.fm_registry_model.specs.Fitting.{EachFits}
+use Rattle.fm_registry_model.specs.inside.Fitting.{EachFits}
 use Rattle.fm_registry_model.proofs.TextLemmas.{same_text, same_path, both_true}
 use Rattle.fm_registry_model.proofs.HistoryLemmas.{metrics_at-++, children_at-++, labels_given-++}
 use Rattle.fm_registry_model.proofs.AnswerLemmas.{or_then-none}

@@ -7,7 +7,7 @@ use Rattle.fm_registry_model.specs.History.{History, Subsystem, Register, root_h
 use Rattle.fm_registry_model.specs.Answer.{answer, after}
 use Rattle.fm_registry_model.specs.Tree.{Tree, ShowsFrom, Shows, Reads, find_child, subtree_from}
 use Rattle.fm_registry_model.specs.Listing.{Listed, IsListable, order}
-use Rattle.fm_registry_model.specs.Fitting.{FitsAt, HasFittingHistory}
+use Rattle.fm_registry_model.specs.inside.Fitting.{FitsAt, HasFittingHistory}
 use Rattle.fm_registry_model.proofs.HistoryLemmas.{missing_along-calls_below}
 use Rattle.fm_registry_model.proofs.TreeLemmas.{shows_below, absent_from_find}
 use Rattle.fm_registry_model.proofs.OrderLemmas.{shown-order, tree-order, listed_tree-fits}
@@ -28,7 +28,7 @@ module _ {M : Type 0} where
 
 module _ {M : Type 0} (Fits : Listed M → Type 0) where
   -- what fits in the tree's registry fits with the namespace and the labels that the history has there
-  fits_there : (t : Tree M) (b : History M) (p : Path) (r : Registration M) → Shows t b → FitsAt Fits t p r → answer b (Register p r) ≡ None → Fits (record { namespace = namespace_at b p; labels = labels_at b p; registration = r })
+  pub fits_there : (t : Tree M) (b : History M) (p : Path) (r : Registration M) → Shows t b → FitsAt Fits t p r → answer b (Register p r) ≡ None → Fits (record { namespace = namespace_at b p; labels = labels_at b p; registration = r })
   fits_there t b p r shows fits none =
       let there = found p t b shows (registered-leads b p r none) in
       let namespace : there.0.facts.namespace ≡ namespace_at b p = subst (λ o. IfSome o (λ c. c.facts.namespace ≡ namespace_at b p)) there.1 (shows.namespace p) in
@@ -40,12 +40,14 @@ module _ {M : Type 0} (Fits : Listed M → Type 0) where
   pub fitting-root : (t : Tree M) (namespace : Option Text) (labels : Labels) → Reads t (root_history namespace labels) → HasFittingHistory Fits t
   fitting-root t namespace labels reads = record { history = root_history namespace labels; reads = reads; each = EachFits-root_history Fits namespace labels }
 
-  -- a metric was registered where it fits
-  pub fitting-registered : (t u : Tree M) (p : Path) (r : Registration M) → HasFittingHistory Fits t → FitsAt Fits t p r → ((b : History M) → Reads t b → Reads u (after b (Register p r))) → HasFittingHistory Fits u
-  fitting-registered t u p r h fits reads = record {
+  -- a metric was registered that fits if the history accepts it
+  pub fitting-accepted : (t u : Tree M) (p : Path) (r : Registration M) → HasFittingHistory Fits t
+      → ((b : History M) → Reads t b → answer b (Register p r) ≡ None → Fits (record { namespace = namespace_at b p; labels = labels_at b p; registration = r }))
+      → ((b : History M) → Reads t b → Reads u (after b (Register p r))) → HasFittingHistory Fits u
+  fitting-accepted t u p r h fits reads = record {
     history = after h.history (Register p r);
     reads = reads h.history h.reads;
-    each = EachFits-registered Fits h.history p r h.each (fits_there t h.history p r h.reads.shows fits);
+    each = EachFits-registered Fits h.history p r h.each (fits h.history h.reads);
   }
 
   -- a subsystem was asked for

@@ -7,3 +7,4 @@ pub mod Once
 pub mod Names
 pub mod RootLabels
 pub mod LendsElement
+pub mod Fitting

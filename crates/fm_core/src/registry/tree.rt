@@ -1,6 +1,7 @@
 //! Registries: what they contain, and how contracts see it.
 
 mod builder;
+mod lookup;
 mod metrics;
 mod run;
 mod subsystem_builder;

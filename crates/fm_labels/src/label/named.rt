@@ -4,7 +4,8 @@ ghost use Rattle.fm_raw.specs.declared.encode_error.EncodeError.{EncodeError};
 ghost use Rattle.std.specs.String.{string_bytes};
 ghost use Rattle.fm_grammar.specs.LabelPairs.{labels_with};
 ghost use Rattle.fm_registry_model.specs.LabelNames.{AreLabelNames};
-ghost use Rattle.fm_labels.specs.Labels.{emitted_again, NamesAreFree, IsTakenName};
+ghost use Rattle.fm_labels.specs.Labels.{emitted_again};
+ghost use Rattle.fm_labels.specs.inside.TakenNames.{NamesAreFree, IsTakenName};
 ghost use Rattle.fm_labels.specs.LabelEncoders.{TakesLabels};
 ghost use Rattle.fm_labels.specs.Refusals.{NoFault, result_of};
 

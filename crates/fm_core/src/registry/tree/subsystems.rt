@@ -91,7 +91,7 @@ where
     push_to(subsystems.get_or_insert_with(|| Vec::new(alloc)), subsystem)
 }
 
-impl<M: Drop> Registry<M> {
+impl<M> Registry<M> {
     // The index of the subsystem with this name.
     pub(super) fn index_of(&self, name: &str) -> Option<usize>
         ensures { result ≡ index_in self.now.children name.now }
@@ -101,7 +101,9 @@ impl<M: Drop> Registry<M> {
             None => None,
         }
     }
+}
 
+impl<M: Drop> Registry<M> {
     // Whether this tail begins with a subsystem's name and an underscore.
     pub(super) fn is_below_child(&self, tail: &str) -> bool
         ensures { result

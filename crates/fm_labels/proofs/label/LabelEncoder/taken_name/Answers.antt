@@ -3,7 +3,8 @@ use Rattle.std.proofs.lemmas.List.{length-map, take_more, map-append}
 use Rattle.std.proofs.Math.Seq.{take-length}
 use Rattle.std.specs.String.{string_bytes}
 use Rattle.fm_grammar.specs.Exposition.{Text}
-use Rattle.fm_labels.specs.Labels.{NamesAreFree, IsReserved, label_names}
+use Rattle.fm_labels.specs.Labels.{IsReserved, label_names}
+use Rattle.fm_labels.specs.inside.TakenNames.{NamesAreFree}
 use Rattle.fm_labels.specs.LabelEncoders.{GatheredPieces}
 use Rattle.fm_labels.proofs.NamedLemmas.{free_none, free_more, name_among}
 use Rattle.fm_labels.proofs.label.LabelEncoder.taken_name.Goals as goal

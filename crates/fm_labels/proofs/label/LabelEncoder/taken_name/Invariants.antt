@@ -1,6 +1,6 @@
 use Rattle.std.proofs.Common.{map, take}
 use Rattle.std.specs.String.{string_bytes}
-use Rattle.fm_labels.specs.Labels.{NamesAreFree}
+use Rattle.fm_labels.specs.inside.TakenNames.{NamesAreFree}
 use Rattle.fm_labels.proofs.label.LabelEncoder.taken_name.Given as goal
 
 abbrev pub invariant-loop-name : goal.invariant-loop-name
