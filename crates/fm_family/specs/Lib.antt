@@ -1,5 +1,6 @@
 pub use Rattle.fm_encoder.specs.Emits
 pub mod Members
 pub mod VecMembers
+pub mod VecNames
 pub mod MemberLends
 pub mod inside

@@ -21,16 +21,6 @@ pub record VecState (M : Type 0) : Type 0 where
 abbrev pub named_labels : List Text → List Text → List EmittedLabel
 named_labels names values = emitted_again (labels_with names values)
 
--- A look-up of values, which adds a member if there is none. If there is one, the result tells it, and the list stays. Else a metric that the
--- factory promises was added as the last under these values, which the result tells; or the list is as it was, and the error is `Memory`,
--- one that the factory promises, or `TooManyMembers` where there are as many members as the limit allows.
-abbrev pub FindsOrAdds : {M A : Type 0} → (Result M MetricError → Type 0) → ℕ → List Text → List (List Text × M) → List (List Text × M) → (A → M → Type 0) → Result A MetricError → Type 0
-FindsOrAdds {M} promises limit values old new tells answer = MatchOption (lookup (values_eq values) old)
-    (MatchResult answer
-    (λ a. (m : M) × promises (Ok m) × (length old < limit) × (new ≡ old ++ (values, m) ∷ []) × tells a m)
-    (λ e. (new ≡ old) × ((e ≡ Memory) ⊎ (((e ≡ TooManyMembers) × (limit ≤ length old)) ⊎ promises (Err e)))))
-    (λ m. (new ≡ old) × IsOkAnd answer (λ a. tells a m))
-
 -- Members with just these label names, in order, and some values: no two of them have the same values. Each has a point that a metric of
 -- the family's type may offer.
 abbrev pub OffersNamed : {M : Type 0} → List Text → (M → List Point → Type 0) → List Member → Type 0

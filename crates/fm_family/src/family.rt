@@ -11,7 +11,7 @@ use fm_encoder::{EncodeLabelSet, EncodeMetric, EncodePoint, MetricEncoder};
 use fm_raw::{EncodeError, MetricError, MetricType, TryDefault, TypedMetric};
 use std::alloc::{AllocError, Global};
 use std::fmt::{self, Debug, Formatter};
-use std::hash::{BuildHasher, Hash};
+use std::hash::{BuildHasher, BuildHasherDefault, FoldHasher, Hash};
 use std::sync::{Arc, RwLock, Wait};
 use std::time::Duration;
 
@@ -32,6 +32,17 @@ pub struct Family<LS: EncodeLabelSet + Eq + Hash, M, MF, S: BuildHasher, H: Wait
     shared: Arc<Shared<LS, M, MF, S>, Global>,
     wait: H,
 }
+
+/// Metrics by label set, each of which begins as `try_default` makes it.
+///
+/// Its hasher starts from a fixed state. If others can choose the label values, use a `Family` with `RandomState` instead.
+pub type DefaultFamily<LS, M, H> = Family<
+    LS,
+    M,
+    DefaultFactory<M, H>,
+    BuildHasherDefault<FoldHasher>,
+    H,
+>;
 
 impl<
     LS: EncodeLabelSet + Eq + Hash + Drop,

@@ -5,11 +5,11 @@ pub mod factory;
 pub mod family;
 pub mod members;
 pub mod pairs;
-pub mod texts;
 pub mod vec;
 
 pub use factory::{DefaultFactory, MetricFactory};
-pub use family::Family;
+pub use family::{DefaultFamily, Family};
 pub use members::FamilyCore;
 pub use pairs::{PairFamily, with_pairs};
-pub use texts::{DefaultFamily, TextFamily, TextLabels, remove_texts, with_texts};
+pub use vec::hashing::LabelHashing;
+pub use vec::metric_vec::MetricVec;

@@ -4,7 +4,7 @@ ghost use Rattle.std.specs.Fn.{FnOnceReturnsAt};
 ghost use Rattle.fm_raw.specs.declared.error.MetricError.TheVariants.{Memory};
 ghost use Rattle.fm_family.specs.Members.{ClonesEqual};
 
-use crate::texts::DefaultFamily;
+use crate::family::DefaultFamily;
 use fm_encoder::{EncodeLabelName, EncodeLabelValue, StaticStr};
 use fm_raw::{MetricError, TryDefault};
 use std::hash::Hash;

@@ -8,7 +8,8 @@ ghost use Rattle.fm_raw.specs.declared.error.MetricError.TheVariants.{Memory, To
 ghost use Rattle.fm_encoder.specs.Emits.{EmitsMembers};
 ghost use Rattle.fm_labels.specs.LabelValues.{shown_texts, values_eq};
 ghost use Rattle.fm_family.specs.Members.{OffersFirst, MayFault, CalledAtMember};
-ghost use Rattle.fm_family.specs.VecMembers.{FindsOrAdds, named_labels};
+ghost use Rattle.fm_family.specs.VecMembers.{named_labels};
+ghost use Rattle.fm_family.specs.inside.VecCode.{FindsOrAdds};
 ghost use Rattle.fm_family.specs.inside.Indexed.{HoldsMetric};
 
 use crate::factory::MetricFactory;

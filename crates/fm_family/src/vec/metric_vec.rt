@@ -7,6 +7,7 @@ ghost use Rattle.fm_registry_model.specs.Answer.{refusal_of};
 ghost use Rattle.fm_registry_model.specs.LabelNames.{shown_texts, IsOrMemory};
 ghost use Rattle.fm_labels.specs.ReservedNames.{family_names_refusal};
 ghost use Rattle.fm_family.specs.VecMembers.{OffersNamed, HasOtherCount};
+ghost use Rattle.fm_family.specs.VecNames.{vec_names, vec_factory};
 
 use crate::factory::MetricFactory;
 use crate::vec::hashing::LabelHashing;
@@ -67,8 +68,8 @@ impl<M: TypedMetric + Drop, MF: Drop, H: Wait + Drop> MetricVec<M, MF, H> {
     ) -> Result<Self, RegistryError>
         ensures answer { IsOrMemory (refusal_of result)
             (family_names_refusal M.TYPE (shown_texts names.now)) }
-        ensures names { IfOk result (λ v. (arc_value v.shared).names ≡ shown_texts names.now) }
-        ensures factory { IfOk result (λ v. (arc_value v.shared).factory ≡ factory) }
+        ensures names { IfOk result (λ v. vec_names v ≡ shown_texts names.now) }
+        ensures factory { IfOk result (λ v. vec_factory v ≡ factory) }
     {
         let names = tested_label_names(alloc, M::TYPE, names)?;
         let core = RwLock::new(VecMembers::new(alloc, hashing, names.count(), limit));
@@ -91,7 +92,7 @@ impl<M: TypedMetric + Drop, MF: Drop, H: Wait + Drop> MetricVec<M, MF, H> {
 impl<M: Drop, MF: Drop, H: Wait + Drop> MetricVec<M, MF, H> {
     /// The label names, in order.
     pub fn names(&self) -> &LabelNames
-        ensures { result.now ≡ (arc_value self.now.shared).names }
+        ensures { result.now ≡ vec_names self.now }
     {
         &self.shared.names
     }
@@ -105,9 +106,9 @@ impl<M: Drop, MF: Drop, H: Wait + Drop> MetricVec<M, MF, H> {
 
     // Fails with `WrongValueCount` unless there are as many values as names.
     fn test_count(&self, values: &[&str]) -> Result<(), MetricError>
-        ensures wrong { HasOtherCount (arc_value self.now.shared).names values.now
+        ensures wrong { HasOtherCount (vec_names self.now) values.now
             → result ≡ Err WrongValueCount }
-        ensures right { IfErr result (λ _. HasOtherCount (arc_value self.now.shared).names values.now) }
+        ensures right { IfErr result (λ _. HasOtherCount (vec_names self.now) values.now) }
     {
         if values.len() != self.shared.names.count() {
             return Err(MetricError::WrongValueCount);
@@ -122,9 +123,9 @@ impl<M: Drop, MF: Drop, H: Wait + Drop> MetricVec<M, MF, H> {
     /// the exposition. If the values are used again, their metric is new, and the last member. The call waits for all other calls of
     /// this family, and takes no memory.
     pub fn remove(&self, values: &[&str]) -> Result<bool, MetricError>
-        ensures wrong { HasOtherCount (arc_value self.now.shared).names values.now
+        ensures wrong { HasOtherCount (vec_names self.now) values.now
             → result ≡ Err WrongValueCount }
-        ensures right { IfErr result (λ _. HasOtherCount (arc_value self.now.shared).names values.now) }
+        ensures right { IfErr result (λ _. HasOtherCount (vec_names self.now) values.now) }
     {
         self.test_count(values)?;
         let mut core = self.shared.core.write(&self.wait);
@@ -159,14 +160,14 @@ impl<M: Drop, MF: MetricFactory<M> + Drop, H: Wait + Drop> MetricVec<M, MF, H> {
     /// `TooManyMembers` where there are as many members as the limit allows, with the factory's error, or with `Memory` if memory runs
     /// out. At an error the members stay as they were. If the metric exists, the call takes no memory, and locks for reading only.
     pub fn with<R, F: FnOnce(&M) -> R>(&self, values: &[&str], f: F) -> Result<R, MetricError>
-        requires ready { MF.is_ready (arc_value self.now.shared).factory }
+        requires ready { MF.is_ready (vec_factory self.now) }
         requires callable { F.IsAlwaysCallable f }
         ensures called { IfOk result (λ r. (metric : M) × FnOnceReturnsAt F.FnOnce f metric r) }
-        ensures wrong { HasOtherCount (arc_value self.now.shared).names values.now
+        ensures wrong { HasOtherCount (vec_names self.now) values.now
             → result ≡ Err WrongValueCount }
-        ensures refused { IfErr result (λ e. HasOtherCount (arc_value self.now.shared).names values.now
+        ensures refused { IfErr result (λ e. HasOtherCount (vec_names self.now) values.now
             ⊎ ((e ≡ Memory) ⊎ ((e ≡ TooManyMembers)
-            ⊎ MF.promises (arc_value self.now.shared).factory (Err e)))) }
+            ⊎ MF.promises (vec_factory self.now) (Err e)))) }
     {
         self.test_count(values)?;
         let shared = &*self.shared;
@@ -186,13 +187,13 @@ impl<M: Clone + Drop, MF: MetricFactory<M> + Drop, H: Wait + Drop> MetricVec<M, 
     /// A handle of the metric of these values, to be kept where it is used often: it counts without a look-up. If there is no metric,
     /// one is made as `with` does. Fails as `with` does.
     pub fn with_label_values(&self, values: &[&str]) -> Result<M, MetricError>
-        requires { MF.is_ready (arc_value self.now.shared).factory }
+        requires { MF.is_ready (vec_factory self.now) }
         ensures cloned { IfOk result (λ handle. (metric : M) × M.is_clone metric handle) }
-        ensures wrong { HasOtherCount (arc_value self.now.shared).names values.now
+        ensures wrong { HasOtherCount (vec_names self.now) values.now
             → result ≡ Err WrongValueCount }
-        ensures refused { IfErr result (λ e. HasOtherCount (arc_value self.now.shared).names values.now
+        ensures refused { IfErr result (λ e. HasOtherCount (vec_names self.now) values.now
             ⊎ ((e ≡ Memory) ⊎ ((e ≡ TooManyMembers)
-            ⊎ MF.promises (arc_value self.now.shared).factory (Err e)))) }
+            ⊎ MF.promises (vec_factory self.now) (Err e)))) }
     {
         let handle = self.with(values, |metric| metric.clone())?;
         Ok(handle?)
@@ -241,7 +242,7 @@ impl<
 
     ghost may_be_empty = { λ _. ⊤ };
 
-    ghost offers = { λ v _. OffersNamed (arc_value v.shared).names M.points };
+    ghost offers = { λ v _. OffersNamed (vec_names v) M.points };
 
     ghost may_fault = { λ _. (metric : M) × M.may_fault metric };
 

@@ -1,10 +1,10 @@
-use Rattle.std.specs.Arc.{arc_value}
 use Rattle.fm_encoder.proofs.MemberLemmas.{EmitsMembers-weaker, EmitsMembers-nothing}
+use Rattle.fm_family.specs.VecNames.{vec_names}
 use Rattle.fm_family.proofs.VecLemmas.{first_named, nothing_named, metric_fault}
 use Rattle.fm_family.proofs.vec.metric_vec.MetricVecEncodeMetric.encode.Goals as goal
 
 pub returns-then-count : goal.returns-then-count
-returns-then-count g c = EmitsMembers-nothing _ (nothing_named (arc_value c.args.self.now.shared).names g.M.EncodePoint.points)
+returns-then-count g c = EmitsMembers-nothing _ (nothing_named (vec_names c.args.self.now) g.M.EncodePoint.points)
 
 pub returns : goal.returns
 returns g c =
