@@ -1,13 +1,14 @@
 -- What a call that was made of texts does.
-use Rattle.std.proofs.Common.{◌≡◌, ◌++◌, ◌∷◌, [], List, Option, Result, Ok, OnOk, refl, ap, subst, ◌∙◌, String, Global}
+use Rattle.std.proofs.Common.{◌≡◌, ◌++◌, ◌∷◌, [], List, Option, None, Result, Ok, Err, OnOk, inl, inr, refl, sym, ap, subst, ◌∙◌, String, Global}
 use Rattle.std.specs.List.{AllZip}
 use Rattle.std.specs.String.{string_bytes}
 use Rattle.fm_grammar.specs.declared.MetricType.{MetricType}
 use Rattle.fm_raw.specs.declared.metadata.Unit as unit
 use Rattle.fm_grammar.specs.LabelPairs.{labels_of}
 use Rattle.fm_registry_model.specs.Texts.{Text, Path, Labels}
+use Rattle.fm_registry_model.specs.Registration.{Registration}
 use Rattle.fm_registry_model.specs.History.{History, Register, Subsystem}
-use Rattle.fm_registry_model.specs.Answer.{IsReturned, refusal_of, answer, after}
+use Rattle.fm_registry_model.specs.Answer.{Refusal, IsReturned, refusal_of, answer, after}
 use Rattle.fm_registry_model.specs.Running.{IsReply}
 use Rattle.fm_registry_model.specs.Tree.{Tree, Reads}
 use Rattle.fm_registry_model.specs.declared.RegistryError.{RegistryError}
@@ -15,7 +16,8 @@ use Rattle.fm_core.specs.Calls.{seen_path, RunsCall}
 use Rattle.fm_core.specs.HasHistory.{Grows}
 use Rattle.fm_core.specs.declared.registry.tree.run.RegistryCall.{RegistryCall}
 use Rattle.fm_core.specs.Named.{named_metric}
-use Rattle.fastmetrics.specs.Roots.{Adds, Enters}
+use Rattle.fm_registry_model.specs.LabelNames.{IsOrMemory}
+use Rattle.fastmetrics.specs.Roots.{RootState, Adds, AddsClone, AddsKept, MakesNamed, Enters}
 use Rattle.fastmetrics.specs.inside.Requests.{Registering, Asking}
 
 -- clones of names are the same path
@@ -76,3 +78,12 @@ module _ {M : Type 0} (Types : M → MetricType → Type 0) where
   entered path below name labels call old new made ran grows is_below =
       let got = asked path name labels call old new (Ok tt) made ran in
       record { reply = got.0; ok = (is_below, got.1); err = tt; grows = grows }
+
+module _ {M T : Type 0} (refusal : Option Refusal) (Begins : T → Type 0) (IsClone : T → T → Type 0) (Converts : T → M → Type 0) (Types : M → MetricType → Type 0) (asked : M → MetricType → Registration M) (old new : RootState M) where
+  -- a family that was made, and then registered or not
+  pub made_named : (family : T) (r : Result T RegistryError) → IsOrMemory None refusal → Begins family → AddsKept family IsClone Converts Types asked old new r → MakesNamed refusal Begins IsClone Converts Types asked old new r
+  made_named family r (inl none) begins adds = absurd cc
+  made_named family (Ok made) (inr none) begins (kept, adds) =
+      (sym none, subst Begins (sym kept) begins, subst (λ (made : T). AddsClone (IsClone made) Converts Types asked old new (Ok tt)) (sym kept) adds)
+  made_named family (Err e) (inr none) begins (inl unchanged) = inl unchanged
+  made_named family (Err e) (inr none) begins (inr adds) = inr (inr (sym none, (family, adds)))

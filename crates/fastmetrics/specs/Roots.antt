@@ -1,14 +1,15 @@
 -- How contracts see a root: its tree, and the subsystem in which it registers.
-use Rattle.std.specs.Prelude.{◌≡◌, ◌⊎◌, ◌++◌, ◌∷◌, [], Result, Ok, Err, OnOk, OnErr, MatchResult}
+use Rattle.std.specs.Prelude.{◌≡◌, ◌⊎◌, ◌++◌, ◌∷◌, [], List, if◌then◌else◌, Option, None, Some, Result, Ok, Err, OnOk, OnErr, MatchResult}
 use Rattle.fm_grammar.specs.declared.MetricType.{MetricType}
-use Rattle.fm_registry_model.specs.Texts.{Text, Path, Labels}
+use Rattle.fm_registry_model.specs.Texts.{Text, Path, Labels, has_text}
 use Rattle.fm_registry_model.specs.Registration.{Registration}
 use Rattle.fm_registry_model.specs.declared.RegistryError.{RegistryError}
 use Rattle.fm_registry_model.specs.declared.RegistryError.TheVariants.{Memory}
 use Rattle.fm_registry_model.specs.History.{History, Subsystem}
-use Rattle.fm_registry_model.specs.Answer.{refusal_of, after}
+use Rattle.fm_registry_model.specs.Answer.{Refusal, DuplicateLabel, seen_error, refusal_of, or_then, after}
 use Rattle.fm_registry_model.specs.Running.{IsReply}
-use Rattle.fm_registry_model.specs.Tree.{Tree, Reads}
+use Rattle.fm_registry_model.specs.Tree.{Tree, Reads, subtree_from}
+use Rattle.fm_labels.specs.ReservedNames.{family_names_refusal}
 use Rattle.fm_core.specs.HasHistory.{Grows}
 use Rattle.fm_core.specs.Registers.{RegistersAt}
 
@@ -17,7 +18,25 @@ pub record RootState (M : Type 0) : Type 0 where
   pub tree : Tree M
   pub path : Path
 
+-- the first constant label whose name is among these
+abbrev pub constants_refusal : Labels → List Text → Option Refusal
+constants_refusal [] names = None
+constants_refusal (label ∷ labels) names = if has_text names label.name then Some (DuplicateLabel label.name) else constants_refusal labels names
+
 module _ {M : Type 0} where
+  -- the constant labels of a registry, or none if there is no registry
+  abbrev pub labels_of_tree : Option (Tree M) → Labels
+  labels_of_tree None = []
+  labels_of_tree (Some t) = t.facts.labels
+
+  -- the constant labels of the current subsystem
+  abbrev pub labels_here : RootState M → Labels
+  labels_here r = labels_of_tree (subtree_from (Some r.tree) r.path)
+
+  -- why a family of this type with these label names can't be in the current subsystem
+  abbrev pub names_refusal_here : MetricType → List Text → RootState M → Option Refusal
+  names_refusal_here type names r = or_then (family_names_refusal type names) (constants_refusal (labels_here r) names)
+
   -- there was no memory, and the root is as it was
   abbrev pub IsUnchanged : RegistryError → RootState M → RootState M → Type 0
   IsUnchanged e old new = (e ≡ Memory) × (new ≡ old)
@@ -47,6 +66,21 @@ module _ {M : Type 0} where
   Makes {T} Begins IsClone Converts Types asked old new result = MatchResult result
       (λ made. Begins made × AddsClone (IsClone made) Converts Types asked old new (Ok tt))
       (λ e. IsUnchanged e old new ⊎ ((made : T) × AddsClone (IsClone made) Converts Types asked old new (Err e)))
+
+  -- a clone of this metric was registered, and the metric is the result; or there was an error, and the root is as it was
+  abbrev pub AddsKept : {T : Type 0} → T → (T → T → Type 0) → (T → M → Type 0) → (M → MetricType → Type 0) → (M → MetricType → Registration M) → RootState M → RootState M → Result T RegistryError → Type 0
+  AddsKept metric IsClone Converts Types asked old new result = MatchResult result
+      (λ kept. (kept ≡ metric) × AddsClone (IsClone metric) Converts Types asked old new (Ok tt))
+      (λ e. IsUnchanged e old new ⊎ AddsClone (IsClone metric) Converts Types asked old new (Err e))
+
+  -- The same as `Makes` for a family by label names: these names were refused with this error, and the root is as it was; or they are
+  -- not refused.
+  abbrev pub MakesNamed : {T : Type 0} → Option Refusal → (T → Type 0) → (T → T → Type 0) → (T → M → Type 0) → (M → MetricType → Type 0) → (M → MetricType → Registration M) → RootState M → RootState M → Result T RegistryError → Type 0
+  MakesNamed {T} refusal Begins IsClone Converts Types asked old new result = MatchResult result
+      (λ made. (refusal ≡ None) × Begins made × AddsClone (IsClone made) Converts Types asked old new (Ok tt))
+      (λ e. IsUnchanged e old new
+      ⊎ (((refusal ≡ Some (seen_error e)) × (new ≡ old))
+      ⊎ ((refusal ≡ None) × ((made : T) × AddsClone (IsClone made) Converts Types asked old new (Err e)))))
 
   -- The root goes on in the subsystem with this name, which is made with these labels if it isn't there; the result is that of the
   -- history of the tree. At `Err` the root is as it was.

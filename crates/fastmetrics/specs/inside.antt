@@ -3,3 +3,4 @@ pub mod Requests
 pub mod RootCode
 pub mod ProcessTexts
 pub mod ProcessStats
+pub mod FittingMetrics

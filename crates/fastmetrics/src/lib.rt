@@ -51,10 +51,14 @@ pub mod metrics {
 
     pub mod family {
         //! Families: metrics of one type by label set.
-        pub use fm_family::{
-            DefaultFactory, DefaultFamily, Family, FamilyCore, MetricFactory, PairFamily,
-            TextFamily, TextLabels, remove_texts, with_pairs, with_texts,
+        pub use crate::registry::{
+            CounterVec, FixedCounterVec, FixedGaugeVec, GaugeHistogramVec, GaugeVec, HistogramVec,
         };
+        pub use fm_family::{
+            DefaultFactory, DefaultFamily, Family, FamilyCore, LabelHashing, MetricFactory,
+            MetricVec, PairFamily, with_pairs,
+        };
+        pub use fm_labels::label_values::LabelValues;
     }
 
     pub mod tally {

@@ -11,10 +11,15 @@ fn told<T>(number: Option<T>) -> io::Result<T> {
     number.ok_or(io::Error::from(ErrorKind::InvalidData))
 }
 
+// The text of a file. Linux cuts a program's name after fifteen bytes, maybe within a character: what is no text becomes U+FFFD.
+fn text_of<R: Files + AllocGlobal>(rt: &R, path: &str) -> io::Result<String> {
+    let bytes = fs::read(rt, path)?;
+    Ok(String::from_utf8_lossy(rt.alloc(), bytes.as_slice())?)
+}
+
 /// What `/proc/self/stat` tells now.
 pub(crate) fn process_stat<R: Files + AllocGlobal>(rt: &R) -> io::Result<ProcessStat> {
-    let text = fs::read_to_string(rt, "/proc/self/stat")?;
-    told(ProcessStat::parse(text.as_str()))
+    told(ProcessStat::parse(text_of(rt, "/proc/self/stat")?.as_str()))
 }
 
 /// The seconds from 1970 to the start of the process, by what `/proc/stat` tells of the machine.
@@ -22,8 +27,7 @@ pub(crate) fn process_start<R: Files + AllocGlobal>(
     rt: &R,
     stat: &ProcessStat,
 ) -> io::Result<Fixed> {
-    let text = fs::read_to_string(rt, "/proc/stat")?;
-    let boot = told(boot_seconds(text.as_str()))?;
+    let boot = told(boot_seconds(text_of(rt, "/proc/stat")?.as_str()))?;
     told(start_seconds(boot, stat.start_ticks))
 }
 

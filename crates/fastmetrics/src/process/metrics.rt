@@ -5,14 +5,13 @@ use crate::metrics::gauge::Gauge;
 use crate::process::files::{open_files, process_start, process_stat};
 use crate::process::stat::ProcessStat;
 use crate::raw::{Fixed, Unit};
-use crate::registry::{RegistryError, Root};
+use crate::registry::{Description, RegistryError, Root, Waiter};
 use fm_encoder::EncodeMetric;
 use std::io::{self, ErrorKind};
 use std::rt::Files;
-use std::sync::Wait;
 
-/// Handles of the metrics of the process. Their clones, and those of the root, share each number. A number that couldn't be read when
-/// the metrics were registered has no metric, so that none is shown as a false zero.
+/// Handles of the metrics of the process. A clone shares each number with them, as the root does; cloning takes memory. A number that
+/// couldn't be read when the metrics were registered has no metric, so that none is shown as a false zero.
 #[derive(Clone, Drop)]
 pub struct ProcessMetrics {
     /// The seconds of processor time, its own and the system's for it.
@@ -48,7 +47,7 @@ impl ProcessMetrics {
     ///
     /// It opens `/proc/self/stat` and the folder `/proc/self/fd`, takes memory for what is in them, and waits for no lock. If one of
     /// them can't be read, or has another form (`InvalidData`), or memory runs out (`OutOfMemory`), its numbers stay as they were, those
-    /// of the other are set all the same, and the error is returned, the file's if both fail.
+    /// of the other are set all the same, and the error is returned: that of the file if both fail.
     pub fn read<R: Files + AllocGlobal + Clone + Drop>(&self, rt: &R) -> io::Result<()> {
         let stat = process_stat(rt).map(|stat| self.set_stat(stat));
         let files = open_files(rt).map(|count| set(&self.open_files, count));
@@ -91,8 +90,16 @@ fn read_first<R: Files + AllocGlobal + Clone + Drop>(
     })
 }
 
+fn in_seconds<'a>(name: &'a str, help: &'a str) -> Description<'a> {
+    Description::new(name, help).unit(Unit::Seconds)
+}
+
+fn in_bytes<'a>(name: &'a str, help: &'a str) -> Description<'a> {
+    Description::new(name, help).unit(Unit::Bytes)
+}
+
 // Registers a metric for each of these numbers, and sets it.
-fn register_numbers<H: Wait + Copy + Send + Sync + Drop, X: EncodeMetric>(
+fn register_numbers<H: Waiter, X: EncodeMetric>(
     root: &mut Root<H, X>,
     first: &FirstNumbers,
 ) -> Result<ProcessMetrics, RegistryError> {
@@ -104,13 +111,13 @@ fn register_numbers<H: Wait + Copy + Send + Sync + Drop, X: EncodeMetric>(
         start_seconds: None,
     };
     if let Some(stat) = first.stat {
-        let cpu = root.fixed_counter_with_unit("process_cpu", "Processor time", Unit::Seconds)?;
+        let cpu = root.fixed_counter_with(in_seconds("process_cpu", "Processor time"))?;
         metrics.cpu_seconds = Some(cpu);
         let name = "process_resident_memory";
-        let resident = root.gauge_with_unit(name, "Memory that is present", Unit::Bytes)?;
+        let resident = root.gauge_with(in_bytes(name, "Memory that is present"))?;
         metrics.resident_bytes = Some(resident);
         let name = "process_virtual_memory";
-        let addressed = root.gauge_with_unit(name, "Memory that can be addressed", Unit::Bytes)?;
+        let addressed = root.gauge_with(in_bytes(name, "Memory that can be addressed"))?;
         metrics.virtual_bytes = Some(addressed);
         metrics.set_stat(stat);
     }
@@ -120,24 +127,27 @@ fn register_numbers<H: Wait + Copy + Send + Sync + Drop, X: EncodeMetric>(
     }
     if let Some(seconds) = first.start {
         let name = "process_start_time";
-        let start = root.fixed_gauge_with_unit(name, "Start since 1970", Unit::Seconds)?;
+        let start = root.fixed_gauge_with(in_seconds(name, "Start since 1970"))?;
         start.set(seconds);
         metrics.start_seconds = Some(start);
     }
     Ok(metrics)
 }
 
-/// Registers the processor time, the memory, the open files and the start of the process in the current subsystem, under the names
-/// that other libraries give them: `process_cpu_seconds_total`, `process_resident_memory_bytes`, `process_virtual_memory_bytes`,
-/// `process_open_fds`, `process_start_time_seconds`. Like all names, they follow the root's namespace, if it has one.
+/// Registers the processor time, the memory, the open files and the start of the process in the root itself, also where a namespace
+/// or a subsystem was entered, under the names that other libraries give them: `process_cpu_seconds_total`,
+/// `process_resident_memory_bytes`, `process_virtual_memory_bytes`, `process_open_fds`, `process_start_time_seconds`. Only a namespace
+/// of the root's builder stands before them.
 ///
 /// It reads the files of `/proc` first, and leaves out what they don't tell. It fails with `Memory` if memory runs out while it reads,
 /// and then nothing is registered; else it has the errors of `Root::register`, and what was registered before an error stays.
-pub fn register_process<
-    R: Files + AllocGlobal + Clone + Drop,
-    H: Wait + Copy + Send + Sync + Drop,
-    X: EncodeMetric,
->(root: &mut Root<H, X>, rt: &R) -> Result<ProcessMetrics, RegistryError> {
+pub fn register_process<R: Files + AllocGlobal + Clone + Drop, H: Waiter, X: EncodeMetric>(
+    root: &mut Root<H, X>,
+    rt: &R,
+) -> Result<ProcessMetrics, RegistryError> {
     let first = read_first(rt)?;
-    register_numbers(root, &first)
+    let path = root.go_to_top();
+    let registered = register_numbers(root, &first);
+    root.go_to(path);
+    registered
 }

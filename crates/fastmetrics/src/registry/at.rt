@@ -1,22 +1,25 @@
 //! A registry with the subsystem in which it registers.
-ghost use Rattle.std.specs.Prelude.{◌≡◌, ◌⊎◌, ◌++◌, ◌∷◌, [], None, Some, Err, Ok, IfOk, IfErr, OnOk, map, string_bytes};
+ghost use Rattle.std.specs.Prelude.{◌≡◌, ◌⊎◌, ◌++◌, ◌∷◌, [], None, Some, Err, Ok, IfOk, IfErr, OnOk, length, take, map, string_bytes};
 ghost use Rattle.std.specs.Option.{option_map};
-ghost use Rattle.fm_grammar.specs.LabelPairs.{shown_label};
+ghost use Rattle.fm_grammar.specs.LabelPairs.{labels_of, shown_label};
+ghost use Rattle.fm_registry_model.specs.Answer.{refusal_of};
+ghost use Rattle.fm_registry_model.specs.LabelNames.{IsOrMemory};
 ghost use Rattle.fm_registry_model.specs.declared.RegistryError.TheVariants.{Memory};
 ghost use Rattle.fm_core.specs.HasHistory.{HasHistory, IsNewRoot};
 ghost use Rattle.fm_registry_model.specs.Lists.{seen_labels};
 ghost use Rattle.fm_core.specs.Calls.{seen_path};
 ghost use Rattle.fm_core.specs.Named.{named_metric};
-ghost use Rattle.fastmetrics.specs.Roots.{AddsOrNot, Makes, Enters};
+ghost use Rattle.fastmetrics.specs.Roots.{AddsOrNot, AddsKept, Enters, constants_refusal, labels_here};
 ghost use Rattle.fastmetrics.specs.inside.Requests.{Registering, Asking};
 
 use fm_core::registry::{Registry, RegistryBuilder, RegistryCall, RegistryError};
 use fm_encoder::EncodeMetric;
-use fm_raw::{TryDefault, Unit};
+use fm_raw::Unit;
+use fm_registry_model::label_names::LabelNames;
 use fm_text::owned_labels;
 use std::alloc::{AllocError, Global};
 use std::marker::Model;
-use std::sync::Wait;
+use std::mem;
 
 /// A registry whose metrics are values of the type `M`, with the subsystem in which it registers: at first the root itself.
 ///
@@ -50,6 +53,23 @@ impl<M> Model for RegistryAt<M> {
     ghost view = { λ r. record { tree = r.registry; path = map string_bytes r.path.items } };
 
     ghost invariant = { λ r. HasHistory r.registry };
+}
+
+// Fails with the name of the first constant label that is among the names.
+fn test_constants(
+    alloc: Global,
+    labels: &[(String, String)],
+    names: &LabelNames,
+) -> Result<(), RegistryError>
+    ensures { IsOrMemory (refusal_of result) (constants_refusal (labels_of labels.now) names.now) }
+{
+    for label in labels {
+        if names.has(label.0.as_str()) {
+            let name = String::from_str(alloc, label.0.as_str())?;
+            return Err(RegistryError::DuplicateLabel { name });
+        }
+    }
+    Ok(())
 }
 
 /// A call that registers a metric at this path.
@@ -132,16 +152,55 @@ impl<M> RegistryAt<M> {
         &self.registry
     }
 
+    /// The constant labels of the current subsystem.
+    pub fn constant_labels(&self) -> &[(String, String)]
+        ensures { labels_of result.now ≡ labels_here self.now }
+    {
+        match self.registry.at(&self.path) {
+            Some(registry) => registry.constant_labels(),
+            None => &[],
+        }
+    }
+
+    /// Fails with `DuplicateLabel` if a constant label of the current subsystem has one of the names, or with `Memory`.
+    pub fn test_names(&self, names: &LabelNames) -> Result<(), RegistryError>
+        ensures { IsOrMemory (refusal_of result) (constants_refusal (labels_here self.now) names.now) }
+    {
+        test_constants(self.alloc, self.constant_labels(), names)
+    }
+
     /// The allocator that it was made with.
     pub fn alloc(&self) -> Global {
         self.alloc
     }
 
-    /// Goes back to the root itself. It takes no memory.
-    pub fn leave(&mut self)
-        ensures { self.new ≡ record self.old { path = [] } }
+    /// Goes back to the registry that so many names lead to. It takes no memory.
+    pub fn leave(&mut self, base: usize)
+        ensures { self.new ≡ record self.old { path = take base self.old.path } }
     {
-        self.path = Vec::new(self.alloc);
+        self.path.truncate(base);
+    }
+
+    /// How many names lead to the current subsystem.
+    pub fn depth(&self) -> usize
+        ensures { result ≡ length self.now.path }
+    {
+        self.path.len()
+    }
+
+    /// Goes to the root itself, and returns the path on which it was.
+    pub(crate) fn go_to_top(&mut self) -> Vec<String>
+        ensures path { seen_path result.items ≡ self.old.path }
+        ensures top { self.new ≡ record self.old { path = [] } }
+    {
+        mem::replace(&mut self.path, Vec::new(self.alloc))
+    }
+
+    /// Goes on at this path.
+    pub(crate) fn go_to(&mut self, path: Vec<String>)
+        ensures { self.new ≡ record self.old { path = seen_path path.items } }
+    {
+        self.path = path;
     }
 }
 
@@ -174,20 +233,17 @@ impl<M: EncodeMetric> RegistryAt<M> {
         self.registry.run_call(call)
     }
 
-    /// Makes a metric by `try_default`, registers a clone of it in the current subsystem, and returns it.
-    pub fn make<H: Wait, T: TryDefault<H> + Into<M> + Clone + Drop>(
+    /// Registers a clone of a metric in the current subsystem, and returns the metric. At an error it stays as it was.
+    pub fn keep<T: Into<M> + Clone + Drop>(
         &mut self,
-        wait: H,
         name: &str,
         help: &str,
         unit: Option<Unit>,
+        metric: T,
     ) -> Result<T, RegistryError>
-        ensures { Makes T.is_default T.is_clone T.converts M.types
+        ensures { AddsKept metric T.is_clone T.converts M.types
             (named_metric name.now help.now unit) self.old self.new result }
     {
-        let Ok(metric) = T::try_default(wait, self.alloc) else {
-            return Err(RegistryError::Memory);
-        };
         let Ok(clone) = metric.clone() else {
             return Err(RegistryError::Memory);
         };

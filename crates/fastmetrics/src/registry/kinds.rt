@@ -1,25 +1,32 @@
 //! A metric of any of the library's usual kinds, or of a kind of the program's own.
 ghost use Rattle.std.specs.Prelude.{◌≡◌};
 ghost use Rattle.fastmetrics.specs.declared.registry.kinds.number.Number.TheVariants.{Counter, FixedCounter, Gauge, FixedGauge};
-ghost use Rattle.fastmetrics.specs.declared.registry.kinds.by_texts.ByTexts.TheVariants.{Counters, FixedCounters, Gauges, FixedGauges, Histograms, GaugeHistograms};
+ghost use Rattle.fastmetrics.specs.declared.registry.kinds.named_family.NamedFamily.TheVariants.{Counters, FixedCounters, Gauges, FixedGauges, Histograms, GaugeHistograms};
 ghost use Rattle.fastmetrics.specs.declared.registry.kinds.constant.Constant.TheVariants as constant;
-ghost use Rattle.fastmetrics.specs.declared.registry.kinds.Metric.TheVariants.{Number, Histogram, GaugeHistogram, ByTexts, Constant, Own};
+ghost use Rattle.fastmetrics.specs.declared.registry.kinds.Metric.TheVariants.{Number, Histogram, GaugeHistogram, Family, States, Constant, Own};
 
-mod by_texts;
 mod constant;
+pub(crate) mod faults;
+mod holds;
+mod named_family;
 mod number;
 mod one_of;
 
-pub use by_texts::{ByTexts, OfTexts};
+use crate::registry::waiter::Waiter;
 pub use constant::Constant;
 use fm_encoder::{EncodeMetric, MetricEncoder};
-use fm_family::TextFamily;
 use fm_histogram::{GaugeHistogram, GaugeHistogramSnapshot, Histogram, HistogramSnapshot};
+use fm_metrics::NamedStates;
 use fm_metrics::counter::{ConstCounter, Counter};
 use fm_metrics::gauge::{ConstGauge, Gauge};
 use fm_metrics::info::Info;
 use fm_metrics::unknown::Unknown;
 use fm_raw::{EncodeError, Fixed, MetricType};
+pub use holds::{Here, Holds, In, Itself};
+pub use named_family::{
+    CounterVec, FixedCounterVec, FixedGaugeVec, GaugeHistogramVec, GaugeVec, HistogramVec,
+    NamedFamily, VecOf,
+};
 pub use number::Number;
 pub use one_of::OneOf;
 use std::sync::Wait;
@@ -36,8 +43,10 @@ pub enum Metric<H: Wait, X = Number> {
     Histogram(Histogram<H>),
     /// A gauge histogram.
     GaugeHistogram(GaugeHistogram<H>),
-    /// A family by texts.
-    ByTexts(ByTexts<H>),
+    /// A family by label names.
+    Family(NamedFamily<H>),
+    /// A state set by its names.
+    States(NamedStates),
     /// A metric that never changes.
     Constant(Constant),
     /// A metric of the program's own.
@@ -50,19 +59,21 @@ impl<H: Wait + Drop, X: Drop> Drop for Metric<H, X> {
             Metric::Number(_) => (),
             Metric::Histogram(_) => (),
             Metric::GaugeHistogram(_) => (),
-            Metric::ByTexts(_) => (),
+            Metric::Family(_) => (),
+            Metric::States(_) => (),
             Metric::Constant(_) => (),
             Metric::Own(_) => (),
         }
     }
 }
 
-impl<H: Wait + Clone + Send + Sync + Drop, X: EncodeMetric> EncodeMetric for Metric<H, X> {
+impl<H: Waiter, X: EncodeMetric> EncodeMetric for Metric<H, X> {
     ghost types = { λ m t. elim m [
       | Number x ↦ ⟦<Number as EncodeMetric>⟧.types x t
       | Histogram x ↦ ⟦<Histogram<H> as EncodeMetric>⟧.types x t
       | GaugeHistogram x ↦ ⟦<GaugeHistogram<H> as EncodeMetric>⟧.types x t
-      | ByTexts x ↦ ⟦<ByTexts<H> as EncodeMetric>⟧.types x t
+      | Family x ↦ ⟦<NamedFamily<H> as EncodeMetric>⟧.types x t
+      | States x ↦ ⟦<NamedStates as EncodeMetric>⟧.types x t
       | Constant x ↦ ⟦<Constant as EncodeMetric>⟧.types x t
       | Own x ↦ X.types x t
     ] };
@@ -71,7 +82,8 @@ impl<H: Wait + Clone + Send + Sync + Drop, X: EncodeMetric> EncodeMetric for Met
       | Number x ↦ ⟦<Number as EncodeMetric>⟧.may_be_empty x
       | Histogram x ↦ ⟦<Histogram<H> as EncodeMetric>⟧.may_be_empty x
       | GaugeHistogram x ↦ ⟦<GaugeHistogram<H> as EncodeMetric>⟧.may_be_empty x
-      | ByTexts x ↦ ⟦<ByTexts<H> as EncodeMetric>⟧.may_be_empty x
+      | Family x ↦ ⟦<NamedFamily<H> as EncodeMetric>⟧.may_be_empty x
+      | States x ↦ ⟦<NamedStates as EncodeMetric>⟧.may_be_empty x
       | Constant x ↦ ⟦<Constant as EncodeMetric>⟧.may_be_empty x
       | Own x ↦ X.may_be_empty x
     ] };
@@ -80,7 +92,8 @@ impl<H: Wait + Clone + Send + Sync + Drop, X: EncodeMetric> EncodeMetric for Met
       | Number x ↦ ⟦<Number as EncodeMetric>⟧.stamps x s
       | Histogram x ↦ ⟦<Histogram<H> as EncodeMetric>⟧.stamps x s
       | GaugeHistogram x ↦ ⟦<GaugeHistogram<H> as EncodeMetric>⟧.stamps x s
-      | ByTexts x ↦ ⟦<ByTexts<H> as EncodeMetric>⟧.stamps x s
+      | Family x ↦ ⟦<NamedFamily<H> as EncodeMetric>⟧.stamps x s
+      | States x ↦ ⟦<NamedStates as EncodeMetric>⟧.stamps x s
       | Constant x ↦ ⟦<Constant as EncodeMetric>⟧.stamps x s
       | Own x ↦ X.stamps x s
     ] };
@@ -89,7 +102,8 @@ impl<H: Wait + Clone + Send + Sync + Drop, X: EncodeMetric> EncodeMetric for Met
       | Number x ↦ ⟦<Number as EncodeMetric>⟧.offers x s ms
       | Histogram x ↦ ⟦<Histogram<H> as EncodeMetric>⟧.offers x s ms
       | GaugeHistogram x ↦ ⟦<GaugeHistogram<H> as EncodeMetric>⟧.offers x s ms
-      | ByTexts x ↦ ⟦<ByTexts<H> as EncodeMetric>⟧.offers x s ms
+      | Family x ↦ ⟦<NamedFamily<H> as EncodeMetric>⟧.offers x s ms
+      | States x ↦ ⟦<NamedStates as EncodeMetric>⟧.offers x s ms
       | Constant x ↦ ⟦<Constant as EncodeMetric>⟧.offers x s ms
       | Own x ↦ X.offers x s ms
     ] };
@@ -98,7 +112,8 @@ impl<H: Wait + Clone + Send + Sync + Drop, X: EncodeMetric> EncodeMetric for Met
       | Number x ↦ ⟦<Number as EncodeMetric>⟧.may_fault x
       | Histogram x ↦ ⟦<Histogram<H> as EncodeMetric>⟧.may_fault x
       | GaugeHistogram x ↦ ⟦<GaugeHistogram<H> as EncodeMetric>⟧.may_fault x
-      | ByTexts x ↦ ⟦<ByTexts<H> as EncodeMetric>⟧.may_fault x
+      | Family x ↦ ⟦<NamedFamily<H> as EncodeMetric>⟧.may_fault x
+      | States x ↦ ⟦<NamedStates as EncodeMetric>⟧.may_fault x
       | Constant x ↦ ⟦<Constant as EncodeMetric>⟧.may_fault x
       | Own x ↦ X.may_fault x
     ] };
@@ -108,7 +123,8 @@ impl<H: Wait + Clone + Send + Sync + Drop, X: EncodeMetric> EncodeMetric for Met
             Metric::Number(metric) => metric.encode(encoder),
             Metric::Histogram(metric) => metric.encode(encoder),
             Metric::GaugeHistogram(metric) => metric.encode(encoder),
-            Metric::ByTexts(metric) => metric.encode(encoder),
+            Metric::Family(metric) => metric.encode(encoder),
+            Metric::States(metric) => metric.encode(encoder),
             Metric::Constant(metric) => metric.encode(encoder),
             Metric::Own(metric) => metric.encode(encoder),
         }
@@ -119,7 +135,8 @@ impl<H: Wait + Clone + Send + Sync + Drop, X: EncodeMetric> EncodeMetric for Met
             Metric::Number(metric) => metric.metric_type(),
             Metric::Histogram(metric) => metric.metric_type(),
             Metric::GaugeHistogram(metric) => metric.metric_type(),
-            Metric::ByTexts(metric) => metric.metric_type(),
+            Metric::Family(metric) => metric.metric_type(),
+            Metric::States(metric) => metric.metric_type(),
             Metric::Constant(metric) => metric.metric_type(),
             Metric::Own(metric) => metric.metric_type(),
         }
@@ -130,7 +147,8 @@ impl<H: Wait + Clone + Send + Sync + Drop, X: EncodeMetric> EncodeMetric for Met
             Metric::Number(metric) => metric.timestamp(),
             Metric::Histogram(metric) => metric.timestamp(),
             Metric::GaugeHistogram(metric) => metric.timestamp(),
-            Metric::ByTexts(metric) => metric.timestamp(),
+            Metric::Family(metric) => metric.timestamp(),
+            Metric::States(metric) => metric.timestamp(),
             Metric::Constant(metric) => metric.timestamp(),
             Metric::Own(metric) => metric.timestamp(),
         }
@@ -141,7 +159,8 @@ impl<H: Wait + Clone + Send + Sync + Drop, X: EncodeMetric> EncodeMetric for Met
             Metric::Number(metric) => metric.is_empty(),
             Metric::Histogram(metric) => metric.is_empty(),
             Metric::GaugeHistogram(metric) => metric.is_empty(),
-            Metric::ByTexts(metric) => metric.is_empty(),
+            Metric::Family(metric) => metric.is_empty(),
+            Metric::States(metric) => metric.is_empty(),
             Metric::Constant(metric) => metric.is_empty(),
             Metric::Own(metric) => metric.is_empty(),
         }
@@ -196,51 +215,59 @@ impl<H: Wait, X> From<GaugeHistogram<H>> for Metric<H, X> {
     }
 }
 
-impl<H: Wait, X> From<TextFamily<Counter<u64>, H>> for Metric<H, X> {
-    ghost from_gives = { λ x metric. metric ≡ ByTexts (Counters (record { family = x })) };
+impl<H: Wait, X> From<CounterVec<H>> for Metric<H, X> {
+    ghost from_gives = { λ x metric. metric ≡ Family (Counters x) };
 
-    fn from(value: TextFamily<Counter<u64>, H>) -> Metric<H, X> {
-        Metric::ByTexts(ByTexts::Counters(OfTexts { family: value }))
+    fn from(value: CounterVec<H>) -> Metric<H, X> {
+        Metric::Family(NamedFamily::Counters(value))
     }
 }
 
-impl<H: Wait, X> From<TextFamily<Counter<Fixed>, H>> for Metric<H, X> {
-    ghost from_gives = { λ x metric. metric ≡ ByTexts (FixedCounters (record { family = x })) };
+impl<H: Wait, X> From<FixedCounterVec<H>> for Metric<H, X> {
+    ghost from_gives = { λ x metric. metric ≡ Family (FixedCounters x) };
 
-    fn from(value: TextFamily<Counter<Fixed>, H>) -> Metric<H, X> {
-        Metric::ByTexts(ByTexts::FixedCounters(OfTexts { family: value }))
+    fn from(value: FixedCounterVec<H>) -> Metric<H, X> {
+        Metric::Family(NamedFamily::FixedCounters(value))
     }
 }
 
-impl<H: Wait, X> From<TextFamily<Gauge<i64>, H>> for Metric<H, X> {
-    ghost from_gives = { λ x metric. metric ≡ ByTexts (Gauges (record { family = x })) };
+impl<H: Wait, X> From<GaugeVec<H>> for Metric<H, X> {
+    ghost from_gives = { λ x metric. metric ≡ Family (Gauges x) };
 
-    fn from(value: TextFamily<Gauge<i64>, H>) -> Metric<H, X> {
-        Metric::ByTexts(ByTexts::Gauges(OfTexts { family: value }))
+    fn from(value: GaugeVec<H>) -> Metric<H, X> {
+        Metric::Family(NamedFamily::Gauges(value))
     }
 }
 
-impl<H: Wait, X> From<TextFamily<Gauge<Fixed>, H>> for Metric<H, X> {
-    ghost from_gives = { λ x metric. metric ≡ ByTexts (FixedGauges (record { family = x })) };
+impl<H: Wait, X> From<FixedGaugeVec<H>> for Metric<H, X> {
+    ghost from_gives = { λ x metric. metric ≡ Family (FixedGauges x) };
 
-    fn from(value: TextFamily<Gauge<Fixed>, H>) -> Metric<H, X> {
-        Metric::ByTexts(ByTexts::FixedGauges(OfTexts { family: value }))
+    fn from(value: FixedGaugeVec<H>) -> Metric<H, X> {
+        Metric::Family(NamedFamily::FixedGauges(value))
     }
 }
 
-impl<H: Wait, X> From<TextFamily<Histogram<H>, H>> for Metric<H, X> {
-    ghost from_gives = { λ x metric. metric ≡ ByTexts (Histograms (record { family = x })) };
+impl<H: Wait, X> From<HistogramVec<H>> for Metric<H, X> {
+    ghost from_gives = { λ x metric. metric ≡ Family (Histograms x) };
 
-    fn from(value: TextFamily<Histogram<H>, H>) -> Metric<H, X> {
-        Metric::ByTexts(ByTexts::Histograms(OfTexts { family: value }))
+    fn from(value: HistogramVec<H>) -> Metric<H, X> {
+        Metric::Family(NamedFamily::Histograms(value))
     }
 }
 
-impl<H: Wait, X> From<TextFamily<GaugeHistogram<H>, H>> for Metric<H, X> {
-    ghost from_gives = { λ x metric. metric ≡ ByTexts (GaugeHistograms (record { family = x })) };
+impl<H: Wait, X> From<GaugeHistogramVec<H>> for Metric<H, X> {
+    ghost from_gives = { λ x metric. metric ≡ Family (GaugeHistograms x) };
 
-    fn from(value: TextFamily<GaugeHistogram<H>, H>) -> Metric<H, X> {
-        Metric::ByTexts(ByTexts::GaugeHistograms(OfTexts { family: value }))
+    fn from(value: GaugeHistogramVec<H>) -> Metric<H, X> {
+        Metric::Family(NamedFamily::GaugeHistograms(value))
+    }
+}
+
+impl<H: Wait, X> From<NamedStates> for Metric<H, X> {
+    ghost from_gives = { λ x metric. metric ≡ States x };
+
+    fn from(value: NamedStates) -> Metric<H, X> {
+        Metric::States(value)
     }
 }
 

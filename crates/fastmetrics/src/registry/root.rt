@@ -1,11 +1,11 @@
 //! A registry that always reads a history, so that its callers need no clause.
-ghost use Rattle.std.specs.Prelude.{◌≡◌, ◌⊎◌, [], None, Some, Err, OnOk, IfOk, IfErr, map, string_bytes};
+ghost use Rattle.std.specs.Prelude.{◌≡◌, ◌⊎◌, [], None, Some, Err, OnOk, IfOk, IfErr, length, map, string_bytes, take};
 ghost use Rattle.std.specs.Option.{option_map};
 ghost use Rattle.std.specs.Io.KnownBytes.{Keeps};
 ghost use Rattle.fm_grammar.specs.LabelPairs.{shown_label};
 ghost use Rattle.fm_exposition.specs.Written.{IsWritersFault};
 ghost use Rattle.fm_raw.specs.declared.encode_error.EncodeError.{EncodeError};
-ghost use Rattle.fm_registry_model.specs.declared.RegistryError.TheVariants.{Memory};
+ghost use Rattle.fm_registry_model.specs.declared.RegistryError.TheVariants.{Memory, NoRandomKeys};
 ghost use Rattle.fm_registry_model.specs.Listing.{order};
 ghost use Rattle.fm_registry_model.specs.Tree.{Shows};
 ghost use Rattle.fm_core.specs.HasHistory.{IsNewRoot};
@@ -13,24 +13,39 @@ ghost use Rattle.fm_registry_model.specs.Lists.{seen_labels};
 ghost use Rattle.fm_core.specs.Admits.{AdmittedBy, Fault};
 ghost use Rattle.fm_core.specs.Encoded.{WritesAdmitted, BeginsAdmitted};
 ghost use Rattle.fm_core.specs.Named.{named_metric};
-ghost use Rattle.fastmetrics.specs.declared.registry.kinds.Metric.TheVariants.{Own};
-ghost use Rattle.fastmetrics.specs.Roots.{AddsOrNot, AddsClone, Makes, Enters};
+ghost use Rattle.fastmetrics.specs.Roots.{AddsOrNot, Enters};
 
+mod constants;
 mod families;
 mod metrics;
+mod own;
 
 use crate::registry::at::RegistryAt;
 use crate::registry::kinds::{Metric, Number};
+use crate::registry::waiter::Waiter;
 use fm_core::format::text::{collect, encode};
 use fm_core::registry::{RegistryBuilder, RegistryError};
 use fm_encoder::EncodeMetric;
 use fm_exposition::Exposition;
-use fm_raw::{EncodeError, TryDefault, Unit};
+use fm_family::LabelHashing;
+use fm_raw::{EncodeError, Unit};
 use std::alloc::Global;
+use std::hash::RandomState;
 use std::io::Write;
+use std::random::RandomSource;
 use std::sync::Wait;
 
-/// A registry of the library's usual metrics and of those of the type `X`, which is the program's own, with the subsystem in which
+// A hasher with keys that the system gives.
+fn random_hashing<R: RandomSource>(rt: &R) -> Result<LabelHashing, RegistryError>
+    ensures { IfErr result (λ e. e ≡ NoRandomKeys) }
+{
+    match RandomState::new(rt) {
+        Ok(keys) => Ok(LabelHashing::Keyed(keys)),
+        Err(_) => Err(RegistryError::NoRandomKeys),
+    }
+}
+
+/// A registry of the library's usual metrics and of those of the type `X`, which are the program's own, with the subsystem in which
 /// it registers: at first the root itself.
 ///
 /// Its type says that it reads a history of accepted calls. So any function may make one, register in it, return it or keep it under
@@ -38,56 +53,103 @@ use std::sync::Wait;
 pub struct Root<H: Wait, X = Number> {
     at: RegistryAt<Metric<H, X>>,
     wait: H,
+    // How its families hash the values of labels.
+    hashing: LabelHashing,
+    // How many names lead to the registry to which `leave` goes back.
+    base: usize,
 }
 
 impl<H: Wait + Drop, X: Drop> Drop for Root<H, X> {
     fn drop(self) {
-        let Root { at: _, wait: _ } = self;
+        let Root {
+            at: _,
+            wait: _,
+            hashing: _,
+            base: _,
+        } = self;
     }
 }
 
-impl<H: Wait + Copy + Send + Sync + Drop> Root<H> {
-    /// A root for the library's usual metrics, with no namespace, no labels and no metrics. It takes no memory.
-    pub fn new(wait: H, alloc: Global) -> Root<H>
-        ensures tree { IsNewRoot None [] result.at.tree }
-        ensures path { result.at.path ≡ [] }
-    {
-        let at = RegistryAt::new(alloc);
-        Root { at, wait }
-    }
-
-    /// A root for the library's usual metrics, with the namespace and the constant labels of the builder, and no metrics. It takes no
+impl<H: Waiter + RandomSource + AllocGlobal> Root<H> {
+    /// A root for the library's usual metrics, with no namespace, no labels and no metrics.
+    ///
+    /// It takes keys for the hashers of its families from the system, and fails with `NoRandomKeys` if that gives none. It takes no
     /// memory.
-    pub fn built(builder: RegistryBuilder, wait: H, alloc: Global) -> Root<H>
-        ensures tree { IsNewRoot (option_map string_bytes builder.namespace)
-            (seen_labels builder.const_labels) result.at.tree }
-        ensures path { result.at.path ≡ [] }
+    pub fn new(rt: H) -> Result<Root<H>, RegistryError>
+        ensures tree { IfOk result (λ root. IsNewRoot None [] root.at.tree) }
+        ensures path { IfOk result (λ root. (root.at.path ≡ []) × (root.base ≡ 0)) }
+        ensures error { IfErr result (λ e. e ≡ NoRandomKeys) }
     {
-        Root::with_own(builder, wait, alloc)
+        let hashing = random_hashing(&rt)?;
+        let at = RegistryAt::new(rt.alloc());
+        Ok(Root {
+            at,
+            wait: rt,
+            hashing,
+            base: 0,
+        })
     }
 }
 
-impl<H: Wait + Copy + Send + Sync + Drop, X> Root<H, X> {
-    /// A root also for metrics of the program's own, with the namespace and the constant labels of the builder, and no metrics. It
-    /// takes no memory.
-    pub fn with_own(builder: RegistryBuilder, wait: H, alloc: Global) -> Root<H, X>
-        ensures tree { IsNewRoot (option_map string_bytes builder.namespace)
-            (seen_labels builder.const_labels) result.at.tree }
-        ensures path { result.at.path ≡ [] }
+impl<H: Waiter + RandomSource + AllocGlobal, X> Root<H, X> {
+    /// A root for the library's usual metrics and those of the type `X`, with the namespace and the constant labels of the builder, and
+    /// no metrics. It has the error of `new`, and takes no memory.
+    pub fn built(builder: RegistryBuilder, rt: H) -> Result<Root<H, X>, RegistryError>
+        ensures tree { IfOk result (λ root. IsNewRoot (option_map string_bytes builder.namespace)
+            (seen_labels builder.const_labels) root.at.tree) }
+        ensures path { IfOk result (λ root. (root.at.path ≡ []) × (root.base ≡ 0)) }
+        ensures error { IfErr result (λ e. e ≡ NoRandomKeys) }
     {
-        let at = RegistryAt::built(builder, alloc);
-        Root { at, wait }
+        let hashing = random_hashing(&rt)?;
+        let at = RegistryAt::built(builder, rt.alloc());
+        Ok(Root {
+            at,
+            wait: rt,
+            hashing,
+            base: 0,
+        })
+    }
+}
+
+impl<H: Waiter, X> Root<H, X> {
+    /// The allocator that it was made with.
+    pub fn alloc(&self) -> Global {
+        self.at.alloc()
     }
 
-    /// Goes back to the root itself. It takes no memory.
+    /// The handle that its metrics wait by.
+    pub fn wait(&self) -> H
+        ensures { result ≡ self.now.wait }
+    {
+        self.wait
+    }
+
+    /// Goes back to the root itself, or to the namespace if one was begun. It takes no memory.
     pub fn leave(&mut self)
-        ensures { self.new.at ≡ record self.old.at { path = [] } }
+        ensures { self.new ≡ record self.old {
+          at = record self.old.at { path = take self.old.base self.old.at.path };
+        } }
     {
-        self.at.leave();
+        self.at.leave(self.base);
     }
 }
 
-impl<H: Wait + Copy + Send + Sync + Drop, X: EncodeMetric> Root<H, X> {
+impl<H: Waiter, X: EncodeMetric> Root<H, X> {
+    /// Begins a namespace below the current subsystem: from now on the names of metrics begin with it and an underscore, their samples
+    /// have these labels, and `leave` goes back to it. What is registered already stays as it is.
+    ///
+    /// Fails as `enter` does, and then the root stays as it was.
+    pub fn namespace(&mut self, name: &str, labels: &[(&str, &str)]) -> Result<(), RegistryError>
+        ensures enters { ((result ≡ Err Memory) × (self.new.at ≡ self.old.at))
+            ⊎ Enters name.now (map shown_label labels.now) self.old.at self.new.at result }
+        ensures base { OnOk result (self.new.base ≡ length self.new.at.path) }
+        ensures kept { IfErr result (λ _. self.new ≡ self.old) }
+    {
+        self.at.enter(name, labels)?;
+        self.base = self.at.depth();
+        Ok(())
+    }
+
     /// Goes on in the subsystem with this name below the current one. If it isn't there, it is made, with these labels besides those
     /// of the registries above it. From now on metrics are registered there.
     ///
@@ -99,68 +161,32 @@ impl<H: Wait + Copy + Send + Sync + Drop, X: EncodeMetric> Root<H, X> {
         self.at.enter(name, labels)
     }
 
+    // Goes to the root itself, above each namespace, and returns the path on which it was.
+    pub(crate) fn go_to_top(&mut self) -> Vec<String> {
+        self.at.go_to_top()
+    }
+
+    // Goes on at this path.
+    pub(crate) fn go_to(&mut self, path: Vec<String>) {
+        self.at.go_to(path);
+    }
+
     /// Registers a metric in the current subsystem, with or without a unit. It has the errors of `Registry::register_metric`, in the
     /// same order, and fails with `Memory` first if there is none for the call. At an error the metric is dropped, and the root
     /// stays as it was.
-    pub fn register(
+    pub fn register<T: Into<Metric<H, X>>>(
         &mut self,
         name: &str,
         help: &str,
         unit: Option<Unit>,
-        metric: Metric<H, X>,
+        metric: T,
     ) -> Result<(), RegistryError>
-        ensures { AddsOrNot (⟦<Metric<H, X> as EncodeMetric>⟧.types metric)
-            (named_metric name.now help.now unit metric) self.old.at
+        ensures { (converted : _) × T.converts metric converted
+            × AddsOrNot (⟦<Metric<H, X> as EncodeMetric>⟧.types converted)
+            (named_metric name.now help.now unit converted) self.old.at
             self.new.at result }
     {
-        self.at.register(name, help, unit, metric)
-    }
-
-    /// Registers a clone of a metric of the program's own in the current subsystem, with or without a unit. It has the errors of
-    /// `register`.
-    pub fn add_own<T: Into<X> + Clone>(
-        &mut self,
-        name: &str,
-        help: &str,
-        unit: Option<Unit>,
-        metric: &T,
-    ) -> Result<(), RegistryError>
-        ensures { ((result ≡ Err Memory) × (self.new.at ≡ self.old.at))
-            ⊎ AddsClone (T.is_clone metric.now)
-            (λ x own. (converted : X) × T.converts x converted × (own ≡ Own converted))
-            ⟦<Metric<H, X> as EncodeMetric>⟧.types
-            (named_metric name.now help.now unit) self.old.at
-            self.new.at
-            result }
-    {
-        let Ok(clone) = metric.clone() else {
-            return Err(RegistryError::Memory);
-        };
-        self.at
-            .register(name, help, unit, Metric::Own(clone.into()))
-    }
-
-    /// Makes a metric of the program's own by `try_default`, registers a clone of it in the current subsystem, and returns it. It has
-    /// the errors of `register`, and fails with `Memory` if the metric can't be made.
-    pub fn own<T: TryDefault<H> + Into<X> + Clone + Drop>(
-        &mut self,
-        name: &str,
-        help: &str,
-    ) -> Result<T, RegistryError>
-        ensures { Makes T.is_default T.is_clone
-            (λ x own. (converted : X) × T.converts x converted × (own ≡ Own converted))
-            ⟦<Metric<H, X> as EncodeMetric>⟧.types
-            (named_metric name.now help.now None) self.old.at
-            self.new.at
-            result }
-    {
-        let Ok(metric) = T::try_default(self.wait, self.at.alloc()) else {
-            return Err(RegistryError::Memory);
-        };
-        match self.add_own(name, help, None, &metric) {
-            Ok(()) => Ok(metric),
-            Err(error) => Err(error),
-        }
+        self.at.register(name, help, unit, metric.into())
     }
 
     /// The exposition of the registry: what `collect` returns for it, with its errors.

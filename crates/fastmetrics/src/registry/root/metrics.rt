@@ -6,215 +6,207 @@ ghost use Rattle.fastmetrics.specs.declared.registry.kinds.number.Number.TheVari
 ghost use Rattle.fastmetrics.specs.declared.registry.kinds.Metric.TheVariants.{Number, Histogram, GaugeHistogram};
 
 use super::Root;
+use crate::registry::description::Description;
 use crate::registry::kinds::Metric;
+use crate::registry::maker::{Made, Maker};
+use crate::registry::waiter::Waiter;
 use fm_core::registry::RegistryError;
 use fm_encoder::EncodeMetric;
 use fm_histogram::{GaugeHistogram, Histogram};
 use fm_metrics::counter::Counter;
 use fm_metrics::gauge::Gauge;
-use fm_raw::{Fixed, TryDefault, Unit};
-use std::sync::Wait;
+use fm_raw::Fixed;
 
-impl<H: Wait + Copy + Send + Sync + Drop, X: EncodeMetric> Root<H, X> {
+impl<H: Waiter, X: EncodeMetric> Root<H, X> {
     // What each call below does, proved once for all types of metrics.
-    fn make<T: TryDefault<H> + Clone + Drop>(
+    fn make<T: Made<H> + Clone + Drop>(
         &mut self,
-        name: &str,
-        help: &str,
-        unit: Option<Unit>,
+        description: Description<'_>,
     ) -> Result<T, RegistryError>
     where
         Metric<H, X>: From<T>,
-        ensures { Makes T.is_default T.is_clone ⟦<Metric<H, X> as From<T>>⟧.from_gives
+        ensures { Makes (T.is_made description.entry.created) T.is_clone
+            ⟦<Metric<H, X> as From<T>>⟧.from_gives
             ⟦<Metric<H, X> as EncodeMetric>⟧.types
-            (named_metric name.now help.now unit) self.old.at
+            (named_metric description.entry.name.now description.entry.help.now description.entry.unit) self.old.at
             self.new.at
             result }
     {
-        self.at.make(self.wait, name, help, unit)
+        let made = Maker::new(
+            self.wait,
+            self.at.alloc(),
+            description.bounds,
+            description.created,
+        );
+        let Ok(maker) = made else {
+            return Err(RegistryError::Memory);
+        };
+        let Ok(metric) = T::made(&maker) else {
+            return Err(RegistryError::Memory);
+        };
+        self.at.keep(description.name, description.help, description.unit, metric)
     }
 
-    /// Makes a counter of whole numbers, registers a clone of it in the current subsystem, and returns it. It has the errors of
-    /// `register`.
+    /// Makes a counter of whole numbers, registers a clone of it in the current subsystem, and returns it. It has the errors of `register`.
     pub fn counter(&mut self, name: &str, help: &str) -> Result<Counter<u64>, RegistryError>
-        ensures { Makes ⟦<Counter<u64> as TryDefault<H>>⟧.is_default ⟦<Counter<u64> as Clone>⟧.is_clone
+        ensures { Makes (⟦<Counter<u64> as Made<H>>⟧.is_made None) ⟦<Counter<u64> as Clone>⟧.is_clone
             (λ x metric. metric ≡ Number (number.Counter x))
             ⟦<Metric<H, X> as EncodeMetric>⟧.types
             (named_metric name.now help.now None) self.old.at
             self.new.at
             result }
     {
-        self.make(name, help, None)
+        self.make(Description::new(name, help))
     }
 
-    /// Like `counter`, with a unit.
-    pub fn counter_with_unit(
+    /// Like `counter`, by its description.
+    pub fn counter_with(
         &mut self,
-        name: &str,
-        help: &str,
-        unit: Unit,
+        description: Description<'_>,
     ) -> Result<Counter<u64>, RegistryError>
-        ensures { Makes ⟦<Counter<u64> as TryDefault<H>>⟧.is_default ⟦<Counter<u64> as Clone>⟧.is_clone
+        ensures { Makes (⟦<Counter<u64> as Made<H>>⟧.is_made description.entry.created) ⟦<Counter<u64> as Clone>⟧.is_clone
             (λ x metric. metric ≡ Number (number.Counter x))
             ⟦<Metric<H, X> as EncodeMetric>⟧.types
-            (named_metric name.now help.now (Some unit)) self.old.at
+            (named_metric description.entry.name.now description.entry.help.now description.entry.unit) self.old.at
             self.new.at
             result }
     {
-        self.make(name, help, Some(unit))
+        self.make(description)
     }
 
-    /// Makes a counter of millionths, registers a clone of it in the current subsystem, and returns it. It has the errors of
-    /// `register`.
+    /// Makes a counter of millionths, registers a clone of it in the current subsystem, and returns it. It has the errors of `register`.
     pub fn fixed_counter(&mut self, name: &str, help: &str) -> Result<Counter<Fixed>, RegistryError>
-        ensures { Makes ⟦<Counter<Fixed> as TryDefault<H>>⟧.is_default ⟦<Counter<Fixed> as Clone>⟧.is_clone
+        ensures { Makes (⟦<Counter<Fixed> as Made<H>>⟧.is_made None) ⟦<Counter<Fixed> as Clone>⟧.is_clone
             (λ x metric. metric ≡ Number (number.FixedCounter x))
             ⟦<Metric<H, X> as EncodeMetric>⟧.types
             (named_metric name.now help.now None) self.old.at
             self.new.at
             result }
     {
-        self.make(name, help, None)
+        self.make(Description::new(name, help))
     }
 
-    /// Like `fixed_counter`, with a unit.
-    pub fn fixed_counter_with_unit(
+    /// Like `fixed_counter`, by its description.
+    pub fn fixed_counter_with(
         &mut self,
-        name: &str,
-        help: &str,
-        unit: Unit,
+        description: Description<'_>,
     ) -> Result<Counter<Fixed>, RegistryError>
-        ensures { Makes ⟦<Counter<Fixed> as TryDefault<H>>⟧.is_default ⟦<Counter<Fixed> as Clone>⟧.is_clone
+        ensures { Makes (⟦<Counter<Fixed> as Made<H>>⟧.is_made description.entry.created) ⟦<Counter<Fixed> as Clone>⟧.is_clone
             (λ x metric. metric ≡ Number (number.FixedCounter x))
             ⟦<Metric<H, X> as EncodeMetric>⟧.types
-            (named_metric name.now help.now (Some unit)) self.old.at
+            (named_metric description.entry.name.now description.entry.help.now description.entry.unit) self.old.at
             self.new.at
             result }
     {
-        self.make(name, help, Some(unit))
+        self.make(description)
     }
 
-    /// Makes a gauge of whole numbers, registers a clone of it in the current subsystem, and returns it. It has the errors of
-    /// `register`.
+    /// Makes a gauge of whole numbers, registers a clone of it in the current subsystem, and returns it. It has the errors of `register`.
     pub fn gauge(&mut self, name: &str, help: &str) -> Result<Gauge<i64>, RegistryError>
-        ensures { Makes ⟦<Gauge<i64> as TryDefault<H>>⟧.is_default ⟦<Gauge<i64> as Clone>⟧.is_clone
+        ensures { Makes (⟦<Gauge<i64> as Made<H>>⟧.is_made None) ⟦<Gauge<i64> as Clone>⟧.is_clone
             (λ x metric. metric ≡ Number (number.Gauge x))
             ⟦<Metric<H, X> as EncodeMetric>⟧.types
             (named_metric name.now help.now None) self.old.at
             self.new.at
             result }
     {
-        self.make(name, help, None)
+        self.make(Description::new(name, help))
     }
 
-    /// Like `gauge`, with a unit.
-    pub fn gauge_with_unit(
-        &mut self,
-        name: &str,
-        help: &str,
-        unit: Unit,
-    ) -> Result<Gauge<i64>, RegistryError>
-        ensures { Makes ⟦<Gauge<i64> as TryDefault<H>>⟧.is_default ⟦<Gauge<i64> as Clone>⟧.is_clone
+    /// Like `gauge`, by its description.
+    pub fn gauge_with(&mut self, description: Description<'_>) -> Result<Gauge<i64>, RegistryError>
+        ensures { Makes (⟦<Gauge<i64> as Made<H>>⟧.is_made description.entry.created) ⟦<Gauge<i64> as Clone>⟧.is_clone
             (λ x metric. metric ≡ Number (number.Gauge x))
             ⟦<Metric<H, X> as EncodeMetric>⟧.types
-            (named_metric name.now help.now (Some unit)) self.old.at
+            (named_metric description.entry.name.now description.entry.help.now description.entry.unit) self.old.at
             self.new.at
             result }
     {
-        self.make(name, help, Some(unit))
+        self.make(description)
     }
 
-    /// Makes a gauge of millionths, registers a clone of it in the current subsystem, and returns it. It has the errors of
-    /// `register`.
+    /// Makes a gauge of millionths, registers a clone of it in the current subsystem, and returns it. It has the errors of `register`.
     pub fn fixed_gauge(&mut self, name: &str, help: &str) -> Result<Gauge<Fixed>, RegistryError>
-        ensures { Makes ⟦<Gauge<Fixed> as TryDefault<H>>⟧.is_default ⟦<Gauge<Fixed> as Clone>⟧.is_clone
+        ensures { Makes (⟦<Gauge<Fixed> as Made<H>>⟧.is_made None) ⟦<Gauge<Fixed> as Clone>⟧.is_clone
             (λ x metric. metric ≡ Number (number.FixedGauge x))
             ⟦<Metric<H, X> as EncodeMetric>⟧.types
             (named_metric name.now help.now None) self.old.at
             self.new.at
             result }
     {
-        self.make(name, help, None)
+        self.make(Description::new(name, help))
     }
 
-    /// Like `fixed_gauge`, with a unit.
-    pub fn fixed_gauge_with_unit(
+    /// Like `fixed_gauge`, by its description.
+    pub fn fixed_gauge_with(
         &mut self,
-        name: &str,
-        help: &str,
-        unit: Unit,
+        description: Description<'_>,
     ) -> Result<Gauge<Fixed>, RegistryError>
-        ensures { Makes ⟦<Gauge<Fixed> as TryDefault<H>>⟧.is_default ⟦<Gauge<Fixed> as Clone>⟧.is_clone
+        ensures { Makes (⟦<Gauge<Fixed> as Made<H>>⟧.is_made description.entry.created) ⟦<Gauge<Fixed> as Clone>⟧.is_clone
             (λ x metric. metric ≡ Number (number.FixedGauge x))
             ⟦<Metric<H, X> as EncodeMetric>⟧.types
-            (named_metric name.now help.now (Some unit)) self.old.at
+            (named_metric description.entry.name.now description.entry.help.now description.entry.unit) self.old.at
             self.new.at
             result }
     {
-        self.make(name, help, Some(unit))
+        self.make(description)
     }
 
-    /// Makes a histogram with the default bounds, registers a clone of it in the current subsystem, and returns it. It has the
-    /// errors of `register`.
+    /// Makes a histogram, registers a clone of it in the current subsystem, and returns it. It has the errors of `register`.
     pub fn histogram(&mut self, name: &str, help: &str) -> Result<Histogram<H>, RegistryError>
-        ensures { Makes ⟦<Histogram<H> as TryDefault<H>>⟧.is_default ⟦<Histogram<H> as Clone>⟧.is_clone
+        ensures { Makes (⟦<Histogram<H> as Made<H>>⟧.is_made None) ⟦<Histogram<H> as Clone>⟧.is_clone
             (λ x metric. metric ≡ Histogram x)
             ⟦<Metric<H, X> as EncodeMetric>⟧.types
             (named_metric name.now help.now None) self.old.at
             self.new.at
             result }
     {
-        self.make(name, help, None)
+        self.make(Description::new(name, help))
     }
 
-    /// Like `histogram`, with a unit.
-    pub fn histogram_with_unit(
+    /// Like `histogram`, by its description.
+    pub fn histogram_with(
         &mut self,
-        name: &str,
-        help: &str,
-        unit: Unit,
+        description: Description<'_>,
     ) -> Result<Histogram<H>, RegistryError>
-        ensures { Makes ⟦<Histogram<H> as TryDefault<H>>⟧.is_default ⟦<Histogram<H> as Clone>⟧.is_clone
+        ensures { Makes (⟦<Histogram<H> as Made<H>>⟧.is_made description.entry.created) ⟦<Histogram<H> as Clone>⟧.is_clone
             (λ x metric. metric ≡ Histogram x)
             ⟦<Metric<H, X> as EncodeMetric>⟧.types
-            (named_metric name.now help.now (Some unit)) self.old.at
+            (named_metric description.entry.name.now description.entry.help.now description.entry.unit) self.old.at
             self.new.at
             result }
     {
-        self.make(name, help, Some(unit))
+        self.make(description)
     }
 
-    /// Makes a gauge histogram with the default bounds, registers a clone of it in the current subsystem, and returns it. It
-    /// has the errors of `register`.
+    /// Makes a gauge histogram, registers a clone of it in the current subsystem, and returns it. It has the errors of `register`.
     pub fn gauge_histogram(
         &mut self,
         name: &str,
         help: &str,
     ) -> Result<GaugeHistogram<H>, RegistryError>
-        ensures { Makes ⟦<GaugeHistogram<H> as TryDefault<H>>⟧.is_default ⟦<GaugeHistogram<H> as Clone>⟧.is_clone
+        ensures { Makes (⟦<GaugeHistogram<H> as Made<H>>⟧.is_made None) ⟦<GaugeHistogram<H> as Clone>⟧.is_clone
             (λ x metric. metric ≡ GaugeHistogram x)
             ⟦<Metric<H, X> as EncodeMetric>⟧.types
             (named_metric name.now help.now None) self.old.at
             self.new.at
             result }
     {
-        self.make(name, help, None)
+        self.make(Description::new(name, help))
     }
 
-    /// Like `gauge_histogram`, with a unit.
-    pub fn gauge_histogram_with_unit(
+    /// Like `gauge_histogram`, by its description.
+    pub fn gauge_histogram_with(
         &mut self,
-        name: &str,
-        help: &str,
-        unit: Unit,
+        description: Description<'_>,
     ) -> Result<GaugeHistogram<H>, RegistryError>
-        ensures { Makes ⟦<GaugeHistogram<H> as TryDefault<H>>⟧.is_default ⟦<GaugeHistogram<H> as Clone>⟧.is_clone
+        ensures { Makes (⟦<GaugeHistogram<H> as Made<H>>⟧.is_made description.entry.created) ⟦<GaugeHistogram<H> as Clone>⟧.is_clone
             (λ x metric. metric ≡ GaugeHistogram x)
             ⟦<Metric<H, X> as EncodeMetric>⟧.types
-            (named_metric name.now help.now (Some unit)) self.old.at
+            (named_metric description.entry.name.now description.entry.help.now description.entry.unit) self.old.at
             self.new.at
             result }
     {
-        self.make(name, help, Some(unit))
+        self.make(description)
     }
 }

@@ -1,0 +1,4 @@
+use Rattle.fastmetrics.proofs.registry.root.Root.gauge_histogram.Goals as goal
+
+pub returns : goal.returns
+returns g c = rw (c.new.ensures.name, c.new.ensures.help, c.new.ensures.unit) at c.make.ensures

@@ -1,0 +1,125 @@
+-- Which metrics fit a registry of a root, so that no scrape is refused for what is in them. Those of the program's own always fit, and
+-- may have the faults that they declare.
+use Rattle.std.specs.Prelude.{◌≡◌, ◌<◌, ◌^◌, ℕ, List, Contains, Option, Some, IfSome, codes}
+use Rattle.fm_grammar.specs.declared.MetricType.{MetricType}
+use Rattle.fm_grammar.specs.declared.MetricType.TheVariants as type
+use Rattle.fm_grammar.specs.LabelPairs.{labels_of}
+use Rattle.std.specs.Option.{option_map}
+use Rattle.fm_raw.specs.declared.encode_error.EncodeError.{EncodeError}
+use Rattle.fm_raw.specs.declared.metadata.Unit as unit
+use Rattle.fm_raw.specs.Units.{seen_unit}
+use Rattle.fm_registry_model.specs.Registration.{printed_unit}
+use Rattle.fm_labels.specs.Labels.{label_names}
+use Rattle.fm_labels.specs.inside.FittingNames.{NamesFit}
+use Rattle.fm_registry_model.specs.Texts.{Text, Labels, Path, printed_name}
+use Rattle.fm_registry_model.specs.Tree.{Tree, subtree_from}
+use Rattle.fm_registry_model.specs.Listing.{Listed, listed_name}
+use Rattle.fm_encoder.specs.Points.{Member, values_in}
+use Rattle.fm_encoder.specs.Offers.{MetricHasFault}
+use Rattle.fm_metrics.specs.Constants.{label_set_of}
+use Rattle.fm_histogram.specs.Histogram.{Histogram}
+use Rattle.fm_family.specs.VecNames.{vec_names}
+use Rattle.fastmetrics.specs.declared.registry.kinds.number.Number.{Number}
+use Rattle.fastmetrics.specs.declared.registry.kinds.number.Number.TheVariants as number
+use Rattle.fastmetrics.specs.declared.registry.kinds.named_family.NamedFamily.{NamedFamily}
+use Rattle.fastmetrics.specs.declared.registry.kinds.named_family.NamedFamily.TheVariants as family
+use Rattle.fastmetrics.specs.declared.registry.kinds.constant.Constant.{Constant}
+use Rattle.fastmetrics.specs.declared.registry.kinds.constant.Constant.TheVariants as constant
+use Rattle.fastmetrics.specs.declared.registry.kinds.Metric.{Metric}
+use Rattle.fastmetrics.specs.declared.registry.kinds.Metric.TheVariants as metric
+
+-- the type of a metric
+abbrev pub number_type : Number → MetricType
+number_type (number.Counter x) = type.Counter
+number_type (number.FixedCounter x) = type.Counter
+number_type (number.Gauge x) = type.Gauge
+number_type (number.FixedGauge x) = type.Gauge
+
+abbrev pub constant_type : Constant → MetricType
+constant_type (constant.Info x) = type.Info
+constant_type (constant.Counter x) = type.Counter
+constant_type (constant.FixedCounter x) = type.Counter
+constant_type (constant.Gauge x) = type.Gauge
+constant_type (constant.FixedGauge x) = type.Gauge
+constant_type (constant.Unknown x) = type.Unknown
+constant_type (constant.FixedUnknown x) = type.Unknown
+constant_type (constant.Histogram s) = type.Histogram
+constant_type (constant.GaugeHistogram s) = type.GaugeHistogram
+
+-- no label has the name `le`, which both kinds of histogram reserve
+abbrev pub NoBoundLabel : Labels → Type 0
+NoBoundLabel labels = ¬ (Contains (label_names labels) (codes "le"))
+
+-- a snapshot of fewer than 2^64 values, as all are
+abbrev pub SnapshotFits : Labels → Histogram → Type 0
+SnapshotFits labels s = NoBoundLabel labels × (values_in s.buckets < 2 ^ 64)
+
+-- a constant under these constant labels: the names of an info's facts may follow them
+abbrev pub ConstantFits : Labels → Constant → Type 0
+ConstantFits labels (constant.Info x) = NamesFit type.Info labels (label_names (labels_of (label_set_of x).items))
+ConstantFits labels (constant.Histogram s) = SnapshotFits labels s
+ConstantFits labels (constant.GaugeHistogram s) = SnapshotFits labels s
+ConstantFits labels _ = Unit {0}
+
+-- no constant label has a name that the type reserves
+abbrev pub NoneIsReserved : MetricType → Labels → Type 0
+NoneIsReserved type.Histogram labels = NoBoundLabel labels
+NoneIsReserved type.GaugeHistogram labels = NoBoundLabel labels
+NoneIsReserved _ labels = Unit {0}
+
+module _ {H : Type 0} where
+  -- the type of the members of a family, and their label names
+  abbrev pub family_type : NamedFamily H → MetricType
+  family_type (family.Counters v) = type.Counter
+  family_type (family.FixedCounters v) = type.Counter
+  family_type (family.Gauges v) = type.Gauge
+  family_type (family.FixedGauges v) = type.Gauge
+  family_type (family.Histograms v) = type.Histogram
+  family_type (family.GaugeHistograms v) = type.GaugeHistogram
+
+  abbrev pub family_names : NamedFamily H → List Text
+  family_names (family.Counters v) = vec_names v
+  family_names (family.FixedCounters v) = vec_names v
+  family_names (family.Gauges v) = vec_names v
+  family_names (family.FixedGauges v) = vec_names v
+  family_names (family.Histograms v) = vec_names v
+  family_names (family.GaugeHistograms v) = vec_names v
+
+  -- a family under these constant labels
+  abbrev pub FamilyFits : Labels → NamedFamily H → Type 0
+  FamilyFits labels f = NoneIsReserved (family_type f) labels × NamesFit (family_type f) labels (family_names f)
+
+module _ {H X : Type 0} where
+  -- a metric that is printed under this name, under these constant labels
+  abbrev pub FitsUnder : Text → Labels → Metric H X → Type 0
+  FitsUnder name labels (metric.Number x) = Unit {0}
+  FitsUnder name labels (metric.Histogram x) = NoBoundLabel labels
+  FitsUnder name labels (metric.GaugeHistogram x) = NoBoundLabel labels
+  FitsUnder name labels (metric.Family x) = FamilyFits labels x
+  FitsUnder name labels (metric.States x) = ¬ (Contains (label_names labels) name)
+  FitsUnder name labels (metric.Constant x) = ConstantFits labels x
+  FitsUnder name labels (metric.Own x) = Unit {0}
+
+  -- the type is the metric's, whatever that of a metric of the program's own is
+  abbrev pub HasType : Metric H X → MetricType → Type 0
+  HasType (metric.Number x) t = t ≡ number_type x
+  HasType (metric.Histogram x) t = t ≡ type.Histogram
+  HasType (metric.GaugeHistogram x) t = t ≡ type.GaugeHistogram
+  HasType (metric.Family x) t = t ≡ family_type x
+  HasType (metric.States x) t = t ≡ type.StateSet
+  HasType (metric.Constant x) t = t ≡ constant_type x
+  HasType (metric.Own x) t = Unit {0}
+
+  -- a listed metric
+  abbrev pub Fits : Listed (Metric H X) → Type 0
+  Fits l = HasType l.registration.metric l.registration.metric_type × FitsUnder (listed_name l) l.labels l.registration.metric
+
+  -- a metric that is registered at this path
+  abbrev pub FitsUnderAt : Tree (Metric H X) → Path → Text → Option unit.Unit → Metric H X → Type 0
+  FitsUnderAt t path name u m = IfSome (subtree_from (Some t) path) (λ c. FitsUnder (printed_name c.facts.namespace name (printed_unit (option_map seen_unit u))) c.facts.labels m)
+
+  -- the listed metric is the program's own, and has this fault
+  abbrev pub OwnFault : EncodeError → (X → Option ℕ → List Member → Type 0) → (X → Option ℕ → Type 0) → (X → Type 0) → Listed (Metric H X) → Type 0
+  OwnFault k Offers Stamps MayFault l =
+      (x : X) × (l.registration.metric ≡ metric.Own x)
+      × MetricHasFault k (Offers x) (Stamps x) (MayFault x) (listed_name l) l.registration.metric_type l.labels

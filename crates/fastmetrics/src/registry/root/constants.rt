@@ -1,0 +1,54 @@
+//! Metrics that are there already, or that never change, in a line each.
+ghost use Rattle.std.specs.Prelude.{◌≡◌, ◌⊎◌, Err, None, map, String, Vec};
+ghost use Rattle.fm_grammar.specs.LabelPairs.{labels_of, shown_label};
+ghost use Rattle.fm_registry_model.specs.declared.RegistryError.TheVariants.{Memory};
+ghost use Rattle.fm_core.specs.Named.{named_metric};
+ghost use Rattle.std.specs.declared.alloc.Global.{Global};
+ghost use Rattle.fm_metrics.specs.declared.info.Info.{Info};
+ghost use Rattle.fm_metrics.specs.Constants.{label_set_of};
+ghost use Rattle.fastmetrics.specs.declared.registry.kinds.constant.Constant.TheVariants as constant;
+ghost use Rattle.fastmetrics.specs.declared.registry.kinds.Metric.TheVariants.{Constant};
+ghost use Rattle.fastmetrics.specs.Roots.{AddsOrNot, AddsKept};
+
+use super::Root;
+use crate::registry::kinds::Metric;
+use crate::registry::waiter::Waiter;
+use fm_core::registry::RegistryError;
+use fm_encoder::EncodeMetric;
+use fm_metrics::info::Info;
+use fm_text::owned_labels;
+
+impl<H: Waiter, X: EncodeMetric> Root<H, X> {
+    /// Registers a clone of a metric in the current subsystem, and returns the metric. It has the errors of `register`, and fails with
+    /// `Memory` if it can't be cloned.
+    pub fn keep<T: Into<Metric<H, X>> + Clone + Drop>(
+        &mut self,
+        name: &str,
+        help: &str,
+        metric: T,
+    ) -> Result<T, RegistryError>
+        ensures { AddsKept metric T.is_clone T.converts ⟦<Metric<H, X> as EncodeMetric>⟧.types
+            (named_metric name.now help.now None) self.old.at self.new.at result }
+    {
+        self.at.keep(name, help, None, metric)
+    }
+
+    /// Registers facts in the current subsystem, each a name and a text. It has the errors of `register`.
+    pub fn info(
+        &mut self,
+        name: &str,
+        help: &str,
+        facts: &[(&str, &str)],
+    ) -> Result<(), RegistryError>
+        ensures { ((result ≡ Err Memory) × (self.new.at ≡ self.old.at))
+            ⊎ ((info : Info (Vec (String Global × String Global) Global))
+            × (labels_of (label_set_of info).items ≡ map shown_label facts.now)
+            × AddsOrNot (⟦<Metric<H, X> as EncodeMetric>⟧.types (Constant (constant.Info info)))
+            (named_metric name.now help.now None (Constant (constant.Info info))) self.old.at
+            self.new.at result) }
+    {
+        let facts = owned_labels(self.at.alloc(), facts)?;
+        self.at
+            .register(name, help, None, Metric::from(Info::new(facts)))
+    }
+}

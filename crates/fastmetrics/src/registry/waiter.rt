@@ -1,0 +1,9 @@
+//! What the metrics of a root wait by.
+
+use std::sync::Wait;
+
+/// A handle that a root's metrics wait by at a lock: one that is copied, and sent to other threads. Each handle of that kind is one, as
+/// `HostRuntime` is.
+pub trait Waiter: Wait + Copy + Send + Sync + Drop {}
+
+impl<T: Wait + Copy + Send + Sync + Drop> Waiter for T {}
