@@ -6,18 +6,33 @@ use fastmetrics::encoder::{
     EncodeError, EncodeLabelSet, LabelSetEncoder, LabelValue, StaticStr, encode_labels,
 };
 use fastmetrics::metrics::counter::Counter;
-use fastmetrics::metrics::family::{DefaultFamily, PairFamily, TextFamily, with_pairs, with_texts};
+use fastmetrics::metrics::family::{CounterVec, DefaultFamily, PairFamily, with_pairs};
 use fastmetrics::raw::MetricError;
-use std::alloc::Global;
+use fastmetrics::registry::Waiter;
 use std::sync::Wait;
 
-/// Counts a request in the member of its labels, which is made if it is not there, and returns how many there were before.
-pub fn count_request<H: Wait + Clone + Drop>(
-    alloc: Global,
-    requests: &TextFamily<Counter, H>,
+/// Counts a request in the member of its method, which is made if it is not there, and returns how many there were before.
+pub fn count_request<H: Waiter>(
+    requests: &CounterVec<H>,
     method: &str,
 ) -> Result<u64, MetricError> {
-    with_texts(alloc, requests, &[("method", method)], |count| count.inc())
+    requests.with(&[method], |count| count.inc())
+}
+
+/// A handle of the member of a method, which counts without a look-up.
+pub fn counter_of<H: Waiter>(
+    requests: &CounterVec<H>,
+    method: &str,
+) -> Result<Counter, MetricError> {
+    requests.with_label_values(&[method])
+}
+
+/// Removes the member of a method, and returns whether there was one.
+pub fn forget_method<H: Waiter>(
+    requests: &CounterVec<H>,
+    method: &str,
+) -> Result<bool, MetricError> {
+    requests.remove(&[method])
 }
 
 /// The labels of a response: its status.

@@ -11,6 +11,7 @@ mod histograms;
 mod infos;
 mod many;
 mod pool;
+mod process;
 mod registries;
 mod roots;
 mod threads;
@@ -18,5 +19,5 @@ mod threads;
 fn main(rt: HostRuntime) -> anyhow::Result<()> {
     pool::show(&rt, rt.alloc(), &mut rt.stdout())?;
     globals::show(rt, rt.alloc(), &mut rt.stdout())?;
-    many::show(rt, rt.alloc(), &mut rt.stdout())
+    many::show(rt, &mut rt.stdout())
 }

@@ -1,10 +1,9 @@
 //! Fifty metrics: ten for each of five kinds of work, which one function makes in a subsystem of its own.
 use fastmetrics::metrics::counter::Counter;
 use fastmetrics::metrics::gauge::Gauge;
-use fastmetrics::registry::{RegistryError, Root};
-use std::alloc::Global;
+use fastmetrics::registry::{RegistryError, Root, Waiter};
 use std::io::Write;
-use std::sync::Wait;
+use std::random::RandomSource;
 
 // What is counted of one kind of work.
 #[derive(Drop)]
@@ -22,7 +21,7 @@ struct Work {
 }
 
 // Makes the metrics of the kind of work with this name.
-fn make_work<H: Wait + Copy + Send + Sync + Drop>(
+fn make_work<H: Waiter>(
     root: &mut Root<H>,
     name: &str,
 ) -> Result<Work, RegistryError> {
@@ -43,12 +42,8 @@ fn make_work<H: Wait + Copy + Send + Sync + Drop>(
 }
 
 /// Begins a job of each kind, and writes the document.
-pub fn show<H: Wait + Copy + Send + Sync + Drop, W: Write>(
-    wait: H,
-    alloc: Global,
-    out: &mut W,
-) -> anyhow::Result<()> {
-    let mut root = Root::new(wait, alloc);
+pub fn show<H: Waiter + RandomSource + AllocGlobal, W: Write>(rt: H, out: &mut W) -> anyhow::Result<()> {
+    let mut root = Root::new(rt)?;
     for name in ["mail", "images", "reports", "backups", "imports"] {
         let work = make_work(&mut root, name)?;
         work.begun.inc();

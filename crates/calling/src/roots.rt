@@ -1,12 +1,13 @@
 //! A root under a lock, for a program that registers while it runs.
 use fastmetrics::format::text::EncodeError;
 use fastmetrics::metrics::counter::Counter;
-use fastmetrics::registry::{RegistryError, Root};
+use fastmetrics::metrics::state_set::NamedStates;
+use fastmetrics::registry::{RegistryError, Root, Waiter};
 use std::alloc::Global;
-use std::sync::{Mutex, Wait};
+use std::sync::Mutex;
 
 /// Registers a counter while other threads may have the root. It waits for the lock.
-pub fn register_later<H: Wait + Copy + Send + Sync + Drop>(
+pub fn register_later<H: Waiter>(
     wait: &H,
     root: &Mutex<Root<H>>,
 ) -> Result<Counter, RegistryError> {
@@ -14,8 +15,14 @@ pub fn register_later<H: Wait + Copy + Send + Sync + Drop>(
     root.counter("late", "Registered while the program runs")
 }
 
+/// Registers a state set by its names, which is in the first of them.
+pub fn add_phase<H: Waiter>(root: &mut Root<H>) -> anyhow::Result<NamedStates> {
+    let phase = NamedStates::new(root.alloc(), &["starting", "serving", "closing"])?;
+    Ok(root.keep("phase", "What the server does", phase)?)
+}
+
 /// The document of a root that is under a lock. It waits for the lock.
-pub fn scrape_locked<H: Wait + Copy + Send + Sync + Drop>(
+pub fn scrape_locked<H: Waiter>(
     wait: &H,
     alloc: Global,
     root: &Mutex<Root<H>>,

@@ -1,9 +1,10 @@
 //! Threads that count.
 use fastmetrics::metrics::counter::Counter;
-use fastmetrics::metrics::family::{TextFamily, with_texts};
+use fastmetrics::metrics::family::CounterVec;
 use fastmetrics::metrics::histogram::Histogram;
 use fastmetrics::raw::{Fixed, MetricError};
-use std::alloc::{AllocError, Global};
+use fastmetrics::registry::Waiter;
+use std::alloc::AllocError;
 use std::sync::Wait;
 use std::thread::{self, JoinHandle, Threads};
 
@@ -26,13 +27,12 @@ pub fn observe_in_thread<R: Threads, H: Wait + Clone + Send + Sync + Drop + 'sta
     Ok(thread::spawn(rt, move || mine.observe(seconds)).ok())
 }
 
-/// Starts a thread that counts by texts with a clone of the family.
-pub fn count_member_in_thread<R: Threads, H: Wait + Clone + Send + Sync + Drop + 'static>(
+/// Starts a thread that counts by a label with a clone of the family.
+pub fn count_member_in_thread<R: Threads, H: Waiter + 'static>(
     rt: &R,
-    alloc: Global,
-    requests: &TextFamily<Counter, H>,
+    requests: &CounterVec<H>,
 ) -> Result<Option<JoinHandle<Result<u64, MetricError>>>, AllocError> {
     let mine = requests.clone()?;
-    let count = move || with_texts(alloc, &mine, &[("method", "GET")], |count| count.inc());
+    let count = move || mine.with(&["GET"], |count| count.inc());
     Ok(thread::spawn(rt, count).ok())
 }

@@ -1,10 +1,9 @@
 //! The document of a registry, and whether all ways to it agree.
 use fastmetrics::encoder::EncodeMetric;
 use fastmetrics::format::text::{EncodeError, Exposition, encode_exposition, read};
-use fastmetrics::registry::Root;
+use fastmetrics::registry::{Root, Waiter};
 use replay_metrics::stop::Stop;
 use std::alloc::Global;
-use std::sync::Wait;
 
 /// How many bytes a writer takes without asking for memory.
 pub const ROOM: usize = 100_000;
@@ -32,7 +31,7 @@ pub fn document_of(
 }
 
 /// The document of a root.
-pub fn document<H: Wait + Copy + Send + Sync + Drop, X: EncodeMetric>(
+pub fn document<H: Waiter, X: EncodeMetric>(
     root: &Root<H, X>,
     alloc: Global,
 ) -> Result<String, Stop> {

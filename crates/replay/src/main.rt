@@ -67,25 +67,26 @@ mod reading;
 mod units;
 mod world;
 
+use fastmetrics::registry::{RegistryError, Waiter};
 use kind::Registered;
 use replay_metrics::line::Line;
 use replay_metrics::stop::Stop;
 use std::alloc::{AllocError, Global};
 use std::io;
 use std::process::ExitCode;
-use std::sync::Wait;
+use std::random::RandomSource;
 use world::World;
 
 // A world with an empty registry.
-fn new_world<H: Wait + Copy + Send + Sync + Drop>(
+fn new_world<H: Waiter + RandomSource + AllocGlobal>(
     wait: H,
     alloc: Global,
-) -> World<H, Registered<H>> {
+) -> Result<World<H, Registered<H>>, RegistryError> {
     World::new(wait, alloc)
 }
 
 // Does what a line says, and returns what it prints.
-fn step<H: Wait + Copy + Send + Sync + Drop>(
+fn step<H: Waiter + RandomSource + AllocGlobal>(
     world: &mut World<H, Registered<H>>,
     number: usize,
     text: &str,
@@ -95,7 +96,7 @@ fn step<H: Wait + Copy + Send + Sync + Drop>(
 }
 
 // Does what a line says, and returns what it prints, which may be that it is refused. A mistake in the script is an error.
-fn answer<H: Wait + Copy + Send + Sync + Drop>(
+fn answer<H: Waiter + RandomSource + AllocGlobal>(
     world: &mut World<H, Registered<H>>,
     number: usize,
     text: &str,
@@ -128,7 +129,7 @@ fn refusal_text(alloc: Global, number: usize, stop: &Stop) -> Result<String, All
 fn main(rt: HostRuntime) -> anyhow::Result<ExitCode> {
     let alloc = rt.alloc();
     let script = io::read_to_string(alloc, rt.reader())?;
-    let mut world = new_world(rt, alloc);
+    let mut world = new_world(rt, alloc)?;
     let mut number: usize = 0;
     for text in script.as_str().lines() {
         number = number.saturating_add(1);

@@ -1,7 +1,7 @@
 //! Where the registries of a script are.
 use crate::held::Held;
 use fastmetrics::encoder::EncodeMetric;
-use fastmetrics::registry::{Registry, RegistryBuilder, Root};
+use fastmetrics::registry::{Registry, RegistryBuilder, Root, Waiter};
 use replay_metrics::label::constant_labels;
 use replay_metrics::line::Line;
 use replay_metrics::stop::Stop;
@@ -61,10 +61,7 @@ pub fn path_of(
 }
 
 /// Goes to the subsystem that a path leads to.
-pub fn go<H: Wait + Copy + Send + Sync + Drop, X: EncodeMetric>(
-    root: &mut Root<H, X>,
-    path: &[String],
-) -> Result<(), Stop> {
+pub fn go<H: Waiter, X: EncodeMetric>(root: &mut Root<H, X>, path: &[String]) -> Result<(), Stop> {
     root.leave();
     for name in path {
         root.enter(name.as_str(), &[])?;

@@ -6,12 +6,13 @@ use crate::places::{builder_of, find, go, longer, path_of};
 use crate::reading::{read_again, read_beginnings};
 use crate::units::unit_of;
 use fastmetrics::encoder::EncodeMetric;
-use fastmetrics::registry::{Metric, OneOf, Registry, Root};
+use fastmetrics::registry::{Metric, OneOf, Registry, RegistryError, Root, Waiter};
 use replay_metrics::label::borrowed_labels;
 use replay_metrics::line::Line;
 use replay_metrics::operation::{Operation, operation_of};
 use replay_metrics::stop::Stop;
 use std::alloc::Global;
+use std::random::RandomSource;
 use std::sync::Wait;
 
 /// The registry of a script, its subsystems by their paths, and its metrics that calls change, by their ids.
@@ -35,32 +36,33 @@ impl<H: Wait + Drop, X: Drop> Drop for World<H, X> {
     }
 }
 
-impl<H: Wait + Copy + Send + Sync + Drop, X> World<H, X> {
-    /// A world with an empty registry.
-    pub fn new(wait: H, alloc: Global) -> World<H, X> {
-        World {
+impl<H: Waiter + RandomSource + AllocGlobal, X> World<H, X> {
+    /// A world with an empty registry. It fails if the system gives no random keys.
+    pub fn new(wait: H, alloc: Global) -> Result<World<H, X>, RegistryError> {
+        Ok(World {
             wait,
             alloc,
-            root: Root::with_own(Registry::builder(), wait, alloc),
+            root: Root::built(Registry::builder(), wait)?,
             subsystems: Vec::new(alloc),
             metrics: Vec::new(alloc),
-        }
+        })
     }
 }
 
-impl<H: Wait + Copy + Send + Sync + Drop, X: EncodeMetric + From<Registered<H>>> World<H, X> {
-    /// Forgets the registry and all ids.
-    pub fn forget(&mut self) {
+impl<H: Waiter + RandomSource + AllocGlobal, X: EncodeMetric + From<Registered<H>>> World<H, X> {
+    /// Forgets the registry and all ids. It fails if the system gives no random keys.
+    pub fn forget(&mut self) -> Result<(), Stop> {
         self.subsystems.clear();
         self.metrics.clear();
-        self.root = Root::with_own(Registry::builder(), self.wait, self.alloc);
+        self.root = Root::built(Registry::builder(), self.wait)?;
+        Ok(())
     }
 
     // Begins a new registry, and forgets all ids.
     fn begin(&mut self, line: &Line) -> Result<(), Stop> {
-        self.forget();
+        self.forget()?;
         let builder = builder_of(self.alloc, line)?;
-        self.root = Root::with_own(builder, self.wait, self.alloc);
+        self.root = Root::built(builder, self.wait)?;
         Ok(())
     }
 

@@ -72,6 +72,8 @@ fn kind_of(error: &RegistryError) -> &'static str {
         RegistryError::NoSuchSubsystem { .. } => "NoSuchSubsystem",
         RegistryError::TooDeep { .. } => "TooDeep",
         RegistryError::NameTaken { .. } => "NameTaken",
+        RegistryError::ReservedLabel { .. } => "ReservedLabel",
+        RegistryError::NoRandomKeys => "NoRandomKeys",
     }
 }
 
@@ -85,6 +87,7 @@ fn named_by(error: &RegistryError) -> Option<&str> {
         RegistryError::NoSuchSubsystem { name } => Some(name.as_str()),
         RegistryError::TooDeep { name } => Some(name.as_str()),
         RegistryError::NameTaken { name } => Some(name.as_str()),
+        RegistryError::ReservedLabel { name } => Some(name.as_str()),
         _ => None,
     }
 }
