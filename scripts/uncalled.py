@@ -18,7 +18,7 @@ CALLED = re.compile(r"\b(\w+)(?:::<[^()]*?>)?\s*\(|::(\w+)\b")
 # Made by the library itself, so that tests see what they do by what calls them: by `collect`, `encode` and families, by roots, by `find_bucket` and
 # `observe_all`, and by the label values of each type.
 INSIDE = """
-    listing metric_count metric_at encode_members new_metric build_root run_call into_name pass reaches skip_encoding variants are_taken
+    listing metric_count metric_at encode_members new_metric build_root run_call into_name hold encode_named are pass reaches skip_encoding variants are_taken
     encode_bool_value encode_fixed_value encode_i8_value encode_i16_value encode_i32_value encode_i64_value encode_i128_value encode_isize_value
     encode_u8_value encode_u16_value encode_u32_value encode_u64_value encode_u128_value encode_usize_value
 """.split()
