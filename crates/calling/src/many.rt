@@ -21,10 +21,7 @@ struct Work {
 }
 
 // Makes the metrics of the kind of work with this name.
-fn make_work<H: Waiter>(
-    root: &mut Root<H>,
-    name: &str,
-) -> Result<Work, RegistryError> {
+fn make_work<H: Waiter>(root: &mut Root<H>, name: &str) -> Result<Work, RegistryError> {
     root.leave();
     root.enter(name, &[])?;
     Ok(Work {
@@ -42,7 +39,10 @@ fn make_work<H: Waiter>(
 }
 
 /// Begins a job of each kind, and writes the document.
-pub fn show<H: Waiter + RandomSource + AllocGlobal, W: Write>(rt: H, out: &mut W) -> anyhow::Result<()> {
+pub fn show<H: Waiter + RandomSource + AllocGlobal, W: Write>(
+    rt: H,
+    out: &mut W,
+) -> anyhow::Result<()> {
     let mut root = Root::new(rt)?;
     for name in ["mail", "images", "reports", "backups", "imports"] {
         let work = make_work(&mut root, name)?;

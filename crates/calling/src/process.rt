@@ -5,8 +5,8 @@ use fastmetrics::registry::{RegistryError, Root, Waiter};
 use std::alloc::{AllocError, Global};
 use std::random::RandomSource;
 use std::rt::Files;
-use std::sync::atomic::AtomicI64;
 use std::sync::Arc;
+use std::sync::atomic::AtomicI64;
 
 /// A root with the metrics of the process, and their handles.
 pub fn watched_root<H: Waiter + RandomSource + AllocGlobal + Files>(

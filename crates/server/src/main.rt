@@ -111,7 +111,12 @@ fn main(rt: HostRuntime) -> anyhow::Result<()> {
     let process = register_process(&mut root, &rt)?;
     root.namespace("shop", &[("zone", "west")])?;
     root.info("build", "What runs", &[("version", "1.2")])?;
-    root.register("starts", "Starts of the server", None, ConstCounter::new(1u64))?;
+    root.register(
+        "starts",
+        "Starts of the server",
+        None,
+        ConstCounter::new(1u64),
+    )?;
     let connections = root.counter("connections", "Connections opened")?;
     let uptime = Description::new("uptime", "Since the start").unit(Unit::Seconds);
     let uptime = root.fixed_gauge_with(uptime)?;
