@@ -1,5 +1,5 @@
 -- A root whose metrics fit stays so.
-use Rattle.std.proofs.Common.{Option, Some, None, IfSome, Result, Ok, Err, inl, inr, sym, subst}
+use Rattle.std.proofs.Common.{Option, Some, None, IfSome, Result, Ok, Err, sym, subst}
 use Rattle.fm_grammar.specs.declared.MetricType.{MetricType}
 use Rattle.fm_raw.specs.declared.metadata.Unit as unit
 use Rattle.fm_registry_model.specs.Texts.{Text, Path, Labels, printed_name}
@@ -14,7 +14,7 @@ use Rattle.fm_registry_model.proofs.FittingTreeLemmas.{fitting-root, fitting-sub
 use Rattle.fm_core.specs.HasHistory.{IsNewRoot}
 use Rattle.fm_core.specs.Named.{named_metric}
 use Rattle.fm_core.proofs.FittingLemmas.{fitting_registers}
-use Rattle.fastmetrics.specs.Roots.{RootState, Adds, AddsOrNot, Enters}
+use Rattle.fastmetrics.specs.Roots.{RootState, Adds, Enters}
 use Rattle.fastmetrics.specs.declared.registry.kinds.Metric.{Metric}
 use Rattle.fastmetrics.specs.inside.FittingMetrics.{FitsUnder, HasType, Fits, FitsUnderAt}
 
@@ -27,11 +27,6 @@ module _ {M : Type 0} (Fitting : Listed M → Type 0) where
   pub fitting_adds : (Types : MetricType → Type 0) (asked : MetricType → Registration M) (old new : RootState M) (r : Result (Unit {0}) RegistryError) → Adds Types asked old new r
       → ((t : MetricType) → Types t → FitsAt Fitting old.tree old.path (asked t)) → HasFittingHistory Fitting old.tree → HasFittingHistory Fitting new.tree
   fitting_adds Types asked old new r adds fits h = fitting_registers Fitting old.path Types asked old.tree new.tree r adds.registers fits h
-
-  pub fitting_adds_or_not : (Types : MetricType → Type 0) (asked : MetricType → Registration M) (old new : RootState M) (r : Result (Unit {0}) RegistryError) → AddsOrNot Types asked old new r
-      → ((t : MetricType) → Types t → FitsAt Fitting old.tree old.path (asked t)) → HasFittingHistory Fitting old.tree → HasFittingHistory Fitting new.tree
-  fitting_adds_or_not Types asked old new r (inl (none, same)) fits h = subst (λ (root : RootState M). HasFittingHistory Fitting root.tree) (sym same) h
-  fitting_adds_or_not Types asked old new r (inr adds) fits h = fitting_adds Types asked old new r adds fits h
 
   -- going on in a subsystem
   pub fitting_enters : (name : Text) (labels : Labels) (old new : RootState M) (r : Result (Unit {0}) RegistryError) → Enters name labels old new r → HasFittingHistory Fitting old.tree → HasFittingHistory Fitting new.tree

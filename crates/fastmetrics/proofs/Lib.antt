@@ -7,3 +7,4 @@ mod FittingLemmas
 pub use Rattle.fm_labels.proofs.OwnLabels
 pub use Rattle.fm_family.proofs.PairLabels
 pub mod ConstantsLemmas
+pub mod FitLemmas

@@ -79,11 +79,11 @@ module _ {M : Type 0} (Types : M → MetricType → Type 0) where
       let got = asked path name labels call old new (Ok tt) made ran in
       record { reply = got.0; ok = (is_below, got.1); err = tt; grows = grows }
 
-module _ {M T : Type 0} (refusal : Option Refusal) (Begins : T → Type 0) (IsClone : T → T → Type 0) (Converts : T → M → Type 0) (Types : M → MetricType → Type 0) (asked : M → MetricType → Registration M) (old new : RootState M) where
+module _ {M T : Type 0} (refusal : Option Refusal) (Begins : T → Type 0) (IsClone : T → T → Type 0) (Converts : T → M → Type 0) (refuses : M → Option Refusal) (Types : M → MetricType → Type 0) (asked : M → MetricType → Registration M) (old new : RootState M) where
   -- a family that was made, and then registered or not
-  pub made_named : (family : T) (r : Result T RegistryError) → IsOrMemory None refusal → Begins family → AddsKept family IsClone Converts Types asked old new r → MakesNamed refusal Begins IsClone Converts Types asked old new r
+  pub made_named : (family : T) (r : Result T RegistryError) → IsOrMemory None refusal → Begins family → AddsKept family IsClone Converts refuses Types asked old new r → MakesNamed refusal Begins IsClone Converts refuses Types asked old new r
   made_named family r (inl none) begins adds = absurd cc
   made_named family (Ok made) (inr none) begins (kept, adds) =
-      (sym none, subst Begins (sym kept) begins, subst (λ (made : T). AddsClone (IsClone made) Converts Types asked old new (Ok tt)) (sym kept) adds)
+      (sym none, subst Begins (sym kept) begins, subst (λ (made : T). AddsClone (IsClone made) Converts refuses Types asked old new (Ok tt)) (sym kept) adds)
   made_named family (Err e) (inr none) begins (inl unchanged) = inl unchanged
   made_named family (Err e) (inr none) begins (inr adds) = inr (inr (sym none, (family, adds)))

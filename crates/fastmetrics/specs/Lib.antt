@@ -81,4 +81,5 @@ pub use Rattle.fm_family.specs.Members
 pub use Rattle.fm_family.specs.MemberLends
 pub mod Paths
 pub mod Roots
+pub mod Fits
 pub mod inside

@@ -48,39 +48,47 @@ module _ {M : Type 0} where
     pub grows : Grows old.tree new.tree
     pub path : new.path ≡ old.path
 
-  -- the same, unless there was no memory for the name and the help
-  abbrev pub AddsOrNot : (MetricType → Type 0) → (MetricType → Registration M) → RootState M → RootState M → Result (Unit {0}) RegistryError → Type 0
-  AddsOrNot Types asked old new result = ((result ≡ Err Memory) × (new ≡ old)) ⊎ Adds Types asked old new result
+  -- there was this refusal, and the root is as it was
+  pub record IsRefused {T : Type 0} (refusal : Option Refusal) (old new : RootState M) (result : Result T RegistryError) : Type 0 where
+    pub error : RegistryError
+    pub is : result ≡ Err error
+    pub why : refusal ≡ Some (seen_error error)
+    pub same : new ≡ old
+
+  -- The same, unless there was no memory for the name and the help, or the names of the metric's labels were refused.
+  abbrev pub AddsOrNot : Option Refusal → (MetricType → Type 0) → (MetricType → Registration M) → RootState M → RootState M → Result (Unit {0}) RegistryError → Type 0
+  AddsOrNot refusal Types asked old new result =
+      ((result ≡ Err Memory) × (new ≡ old)) ⊎ (IsRefused refusal old new result ⊎ ((refusal ≡ None) × Adds Types asked old new result))
 
   -- a clone of a metric was registered, as the metric that it converts to
-  pub record AddsClone {T : Type 0} (IsClone : T → Type 0) (Converts : T → M → Type 0) (Types : M → MetricType → Type 0) (asked : M → MetricType → Registration M) (old new : RootState M) (result : Result (Unit {0}) RegistryError) : Type 0 where
+  pub record AddsClone {T : Type 0} (IsClone : T → Type 0) (Converts : T → M → Type 0) (refusal : M → Option Refusal) (Types : M → MetricType → Type 0) (asked : M → MetricType → Registration M) (old new : RootState M) (result : Result (Unit {0}) RegistryError) : Type 0 where
     pub clone : T
     pub is_clone : IsClone clone
     pub metric : M
     pub converts : Converts clone metric
-    pub adds : AddsOrNot (Types metric) (asked metric) old new result
+    pub adds : AddsOrNot (refusal metric) (Types metric) (asked metric) old new result
 
   -- A metric was made that is as `Begins` says, a clone of it was registered, and the metric is the result. At an error a clone was
   -- refused with this error, or there was no memory; the root is as it was.
-  abbrev pub Makes : {T : Type 0} → (T → Type 0) → (T → T → Type 0) → (T → M → Type 0) → (M → MetricType → Type 0) → (M → MetricType → Registration M) → RootState M → RootState M → Result T RegistryError → Type 0
-  Makes {T} Begins IsClone Converts Types asked old new result = MatchResult result
-      (λ made. Begins made × AddsClone (IsClone made) Converts Types asked old new (Ok tt))
-      (λ e. IsUnchanged e old new ⊎ ((made : T) × AddsClone (IsClone made) Converts Types asked old new (Err e)))
+  abbrev pub Makes : {T : Type 0} → (T → Type 0) → (T → T → Type 0) → (T → M → Type 0) → (M → Option Refusal) → (M → MetricType → Type 0) → (M → MetricType → Registration M) → RootState M → RootState M → Result T RegistryError → Type 0
+  Makes {T} Begins IsClone Converts refuses Types asked old new result = MatchResult result
+      (λ made. Begins made × AddsClone (IsClone made) Converts refuses Types asked old new (Ok tt))
+      (λ e. IsUnchanged e old new ⊎ ((made : T) × AddsClone (IsClone made) Converts refuses Types asked old new (Err e)))
 
   -- a clone of this metric was registered, and the metric is the result; or there was an error, and the root is as it was
-  abbrev pub AddsKept : {T : Type 0} → T → (T → T → Type 0) → (T → M → Type 0) → (M → MetricType → Type 0) → (M → MetricType → Registration M) → RootState M → RootState M → Result T RegistryError → Type 0
-  AddsKept metric IsClone Converts Types asked old new result = MatchResult result
-      (λ kept. (kept ≡ metric) × AddsClone (IsClone metric) Converts Types asked old new (Ok tt))
-      (λ e. IsUnchanged e old new ⊎ AddsClone (IsClone metric) Converts Types asked old new (Err e))
+  abbrev pub AddsKept : {T : Type 0} → T → (T → T → Type 0) → (T → M → Type 0) → (M → Option Refusal) → (M → MetricType → Type 0) → (M → MetricType → Registration M) → RootState M → RootState M → Result T RegistryError → Type 0
+  AddsKept metric IsClone Converts refuses Types asked old new result = MatchResult result
+      (λ kept. (kept ≡ metric) × AddsClone (IsClone metric) Converts refuses Types asked old new (Ok tt))
+      (λ e. IsUnchanged e old new ⊎ AddsClone (IsClone metric) Converts refuses Types asked old new (Err e))
 
   -- The same as `Makes` for a family by label names: these names were refused with this error, and the root is as it was; or they are
   -- not refused.
-  abbrev pub MakesNamed : {T : Type 0} → Option Refusal → (T → Type 0) → (T → T → Type 0) → (T → M → Type 0) → (M → MetricType → Type 0) → (M → MetricType → Registration M) → RootState M → RootState M → Result T RegistryError → Type 0
-  MakesNamed {T} refusal Begins IsClone Converts Types asked old new result = MatchResult result
-      (λ made. (refusal ≡ None) × Begins made × AddsClone (IsClone made) Converts Types asked old new (Ok tt))
+  abbrev pub MakesNamed : {T : Type 0} → Option Refusal → (T → Type 0) → (T → T → Type 0) → (T → M → Type 0) → (M → Option Refusal) → (M → MetricType → Type 0) → (M → MetricType → Registration M) → RootState M → RootState M → Result T RegistryError → Type 0
+  MakesNamed {T} refusal Begins IsClone Converts refuses Types asked old new result = MatchResult result
+      (λ made. (refusal ≡ None) × Begins made × AddsClone (IsClone made) Converts refuses Types asked old new (Ok tt))
       (λ e. IsUnchanged e old new
       ⊎ (((refusal ≡ Some (seen_error e)) × (new ≡ old))
-      ⊎ ((refusal ≡ None) × ((made : T) × AddsClone (IsClone made) Converts Types asked old new (Err e)))))
+      ⊎ ((refusal ≡ None) × ((made : T) × AddsClone (IsClone made) Converts refuses Types asked old new (Err e)))))
 
   -- The root goes on in the subsystem with this name, which is made with these labels if it isn't there; the result is that of the
   -- history of the tree. At `Err` the root is as it was.

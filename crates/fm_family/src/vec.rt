@@ -4,4 +4,4 @@ pub mod encoding;
 pub mod hashing;
 pub mod members;
 pub mod metric_vec;
-mod names;
+pub mod names;

@@ -18,7 +18,7 @@ use Rattle.fm_encoder.specs.Points.{Member, values_in}
 use Rattle.fm_encoder.specs.Offers.{MetricHasFault}
 use Rattle.fm_metrics.specs.Constants.{label_set_of}
 use Rattle.fm_histogram.specs.Histogram.{Histogram}
-use Rattle.fm_family.specs.VecNames.{vec_names}
+use Rattle.fastmetrics.specs.Fits.{family_type, family_names}
 use Rattle.fastmetrics.specs.declared.registry.kinds.number.Number.{Number}
 use Rattle.fastmetrics.specs.declared.registry.kinds.number.Number.TheVariants as number
 use Rattle.fastmetrics.specs.declared.registry.kinds.named_family.NamedFamily.{NamedFamily}
@@ -68,23 +68,6 @@ NoneIsReserved type.GaugeHistogram labels = NoBoundLabel labels
 NoneIsReserved _ labels = Unit {0}
 
 module _ {H : Type 0} where
-  -- the type of the members of a family, and their label names
-  abbrev pub family_type : NamedFamily H → MetricType
-  family_type (family.Counters v) = type.Counter
-  family_type (family.FixedCounters v) = type.Counter
-  family_type (family.Gauges v) = type.Gauge
-  family_type (family.FixedGauges v) = type.Gauge
-  family_type (family.Histograms v) = type.Histogram
-  family_type (family.GaugeHistograms v) = type.GaugeHistogram
-
-  abbrev pub family_names : NamedFamily H → List Text
-  family_names (family.Counters v) = vec_names v
-  family_names (family.FixedCounters v) = vec_names v
-  family_names (family.Gauges v) = vec_names v
-  family_names (family.FixedGauges v) = vec_names v
-  family_names (family.Histograms v) = vec_names v
-  family_names (family.GaugeHistograms v) = vec_names v
-
   -- a family under these constant labels
   abbrev pub FamilyFits : Labels → NamedFamily H → Type 0
   FamilyFits labels f = NoneIsReserved (family_type f) labels × NamesFit (family_type f) labels (family_names f)
@@ -117,9 +100,3 @@ module _ {H X : Type 0} where
   -- a metric that is registered at this path
   abbrev pub FitsUnderAt : Tree (Metric H X) → Path → Text → Option unit.Unit → Metric H X → Type 0
   FitsUnderAt t path name u m = IfSome (subtree_from (Some t) path) (λ c. FitsUnder (printed_name c.facts.namespace name (printed_unit (option_map seen_unit u))) c.facts.labels m)
-
-  -- the listed metric is the program's own, and has this fault
-  abbrev pub OwnFault : EncodeError → (X → Option ℕ → List Member → Type 0) → (X → Option ℕ → Type 0) → (X → Type 0) → Listed (Metric H X) → Type 0
-  OwnFault k Offers Stamps MayFault l =
-      (x : X) × (l.registration.metric ≡ metric.Own x)
-      × MetricHasFault k (Offers x) (Stamps x) (MayFault x) (listed_name l) l.registration.metric_type l.labels

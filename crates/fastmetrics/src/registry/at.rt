@@ -5,13 +5,20 @@ ghost use Rattle.fm_grammar.specs.LabelPairs.{labels_of, shown_label};
 ghost use Rattle.fm_registry_model.specs.Answer.{refusal_of};
 ghost use Rattle.fm_registry_model.specs.LabelNames.{IsOrMemory};
 ghost use Rattle.fm_registry_model.specs.declared.RegistryError.TheVariants.{Memory};
-ghost use Rattle.fm_core.specs.HasHistory.{HasHistory, IsNewRoot};
+ghost use Rattle.fm_core.specs.HasHistory.{IsNewRoot};
+ghost use Rattle.fm_registry_model.specs.inside.Fitting.{HasFittingHistory};
 ghost use Rattle.fm_registry_model.specs.Lists.{seen_labels};
 ghost use Rattle.fm_core.specs.Calls.{seen_path};
 ghost use Rattle.fm_core.specs.Named.{named_metric};
-ghost use Rattle.fastmetrics.specs.Roots.{AddsOrNot, AddsKept, Enters, constants_refusal, labels_here};
+ghost use Rattle.fastmetrics.specs.Roots.{Adds, AddsOrNot, AddsKept, Enters, constants_refusal, labels_here};
+ghost use Rattle.fastmetrics.specs.Fits.{fit_refusal_here};
+ghost use Rattle.fastmetrics.specs.inside.FittingMetrics.{Fits, FitsUnderAt};
 ghost use Rattle.fastmetrics.specs.inside.Requests.{Registering, Asking};
 
+use crate::registry::fitting::{Place, test_constants};
+use crate::registry::kinds::Metric;
+use crate::registry::kinds::faults::only_own_faults;
+use crate::registry::waiter::Waiter;
 use fm_core::registry::{Registry, RegistryBuilder, RegistryCall, RegistryError};
 use fm_encoder::EncodeMetric;
 use fm_raw::Unit;
@@ -20,17 +27,18 @@ use fm_text::owned_labels;
 use std::alloc::{AllocError, Global};
 use std::marker::Model;
 use std::mem;
+use std::sync::Wait;
 
-/// A registry whose metrics are values of the type `M`, with the subsystem in which it registers: at first the root itself.
+/// The registry of a root, with the subsystem in which it registers: at first the root itself.
 ///
-/// Its type says that it reads a history of accepted calls.
-pub struct RegistryAt<M> {
-    registry: Registry<M>,
+/// Its type says that it reads a history of accepted calls, and that each metric fits the registry in which it is.
+pub struct RegistryAt<H: Wait, X> {
+    registry: Registry<Metric<H, X>>,
     path: Vec<String>,
     alloc: Global,
 }
 
-impl<M: Drop> Drop for RegistryAt<M> {
+impl<H: Wait + Drop, X: Drop> Drop for RegistryAt<H, X> {
     fn drop(self) {
         let RegistryAt {
             registry: _,
@@ -40,36 +48,23 @@ impl<M: Drop> Drop for RegistryAt<M> {
     }
 }
 
-impl<M> Model for RegistryAt<M> {
+impl<H: Wait, X> Model for RegistryAt<H, X> {
     ghost use Rattle.std.specs.Prelude.{map, string_bytes};
-    ghost use Rattle.fm_core.specs.HasHistory.{HasHistory};
+    ghost use Rattle.std.specs.Coded.{codes};
+    ghost use Rattle.fm_metrics.specs.contracts.named_states.NamedStates as states;
+    ghost use Rattle.fm_registry_model.specs.inside.Fitting.{HasFittingHistory};
     ghost use Rattle.fastmetrics.specs.Roots.{RootState};
     ghost use Rattle.fastmetrics.specs.inside.RootCode.{root_code};
+    ghost use Rattle.fastmetrics.specs.inside.FittingMetrics.{Fits};
+    ghost use Rattle.fastmetrics.specs.declared.registry.kinds.Metric.{Metric};
 
-    ghost Value = { RootState M };
+    ghost Value = { RootState (Metric H X) };
 
-    ghost coded = { root_code M.code };
+    ghost coded = { root_code (Prim.hlevel (codes, states.the_row.coded)) };
 
     ghost view = { λ r. record { tree = r.registry; path = map string_bytes r.path.items } };
 
-    ghost invariant = { λ r. HasHistory r.registry };
-}
-
-// Fails with the name of the first constant label that is among the names.
-fn test_constants(
-    alloc: Global,
-    labels: &[(String, String)],
-    names: &LabelNames,
-) -> Result<(), RegistryError>
-    ensures { IsOrMemory (refusal_of result) (constants_refusal (labels_of labels.now) names.now) }
-{
-    for label in labels {
-        if names.has(label.0.as_str()) {
-            let name = String::from_str(alloc, label.0.as_str())?;
-            return Err(RegistryError::DuplicateLabel { name });
-        }
-    }
-    Ok(())
+    ghost invariant = { λ r. HasFittingHistory Fits r.registry };
 }
 
 /// A call that registers a metric at this path.
@@ -118,9 +113,9 @@ fn path_below(alloc: Global, path: &Vec<String>, name: &str) -> Result<Vec<Strin
     Ok(below)
 }
 
-impl<M> RegistryAt<M> {
+impl<H: Wait, X> RegistryAt<H, X> {
     /// A root with no namespace, no labels and no metrics. It takes no memory.
-    pub fn new(alloc: Global) -> RegistryAt<M>
+    pub fn new(alloc: Global) -> RegistryAt<H, X>
         ensures tree { IsNewRoot None [] result.tree }
         ensures path { result.path ≡ [] }
     {
@@ -132,7 +127,7 @@ impl<M> RegistryAt<M> {
     }
 
     /// A root with the namespace and the constant labels of the builder, and no metrics. It takes no memory.
-    pub fn built(builder: RegistryBuilder, alloc: Global) -> RegistryAt<M>
+    pub fn built(builder: RegistryBuilder, alloc: Global) -> RegistryAt<H, X>
         ensures tree { IsNewRoot (option_map string_bytes builder.namespace)
             (seen_labels builder.const_labels) result.tree }
         ensures path { result.path ≡ [] }
@@ -145,9 +140,9 @@ impl<M> RegistryAt<M> {
     }
 
     /// The registry, for `collect` and `encode`.
-    pub fn registry(&self) -> &Registry<M>
+    pub fn registry(&self) -> &Registry<Metric<H, X>>
         ensures shown { result.now ≡ self.now.tree }
-        ensures sound { HasHistory result.now }
+        ensures sound { HasFittingHistory Fits result.now }
     {
         &self.registry
     }
@@ -204,7 +199,7 @@ impl<M> RegistryAt<M> {
     }
 }
 
-impl<M: EncodeMetric> RegistryAt<M> {
+impl<H: Waiter, X: EncodeMetric> RegistryAt<H, X> {
     /// Goes on in the subsystem with this name below the current one. If it isn't there, it is made, with these labels besides those
     /// of the registries above it. At an error it stays as it was.
     pub fn enter(&mut self, name: &str, labels: &[(&str, &str)]) -> Result<(), RegistryError>
@@ -218,30 +213,73 @@ impl<M: EncodeMetric> RegistryAt<M> {
         Ok(())
     }
 
+    // Fails if the names of a metric's labels can't stand beside the constant labels of the current subsystem.
+    fn test_fit(
+        &self,
+        name: &str,
+        unit: &Option<Unit>,
+        metric: &Metric<H, X>,
+    ) -> Result<(), RegistryError>
+        ensures answer { IsOrMemory (refusal_of result) (fit_refusal_here self.now name.now unit.now metric.now) }
+        ensures fits { OnOk result (FitsUnderAt self.now.tree self.now.path name.now unit.now metric.now) }
+    {
+        match self.registry.at(&self.path) {
+            Some(registry) => {
+                let place = Place {
+                    alloc: self.alloc,
+                    namespace: registry.namespace(),
+                    labels: registry.constant_labels(),
+                };
+                place.test(name, unit, metric)
+            }
+            None => Ok(()),
+        }
+    }
+
+    // Registers a metric that fits in the current subsystem.
+    fn add(
+        &mut self,
+        name: &str,
+        help: &str,
+        unit: Option<Unit>,
+        metric: Metric<H, X>,
+    ) -> Result<(), RegistryError>
+        requires { FitsUnderAt self.old.tree self.old.path name.now unit metric }
+        ensures { ((result ≡ Err Memory) × (self.new ≡ self.old))
+            ⊎ Adds (⟦<Metric<H, X> as EncodeMetric>⟧.types metric)
+            (named_metric name.now help.now unit metric) self.old self.new result }
+    {
+        only_own_faults::<H, X>();
+        let call = registering(self.alloc, &self.path, name, help, unit, metric)?;
+        self.registry.run_call(call)
+    }
+
     /// Registers a metric in the current subsystem, with or without a unit. At an error it stays as it was.
     pub fn register(
         &mut self,
         name: &str,
         help: &str,
         unit: Option<Unit>,
-        metric: M,
+        metric: Metric<H, X>,
     ) -> Result<(), RegistryError>
-        ensures { AddsOrNot (M.types metric) (named_metric name.now help.now unit metric)
-            self.old self.new result }
+        ensures { AddsOrNot (fit_refusal_here self.old name.now unit metric)
+            (⟦<Metric<H, X> as EncodeMetric>⟧.types metric)
+            (named_metric name.now help.now unit metric) self.old self.new result }
     {
-        let call = registering(self.alloc, &self.path, name, help, unit, metric)?;
-        self.registry.run_call(call)
+        self.test_fit(name, &unit, &metric)?;
+        self.add(name, help, unit, metric)
     }
 
     /// Registers a clone of a metric in the current subsystem, and returns the metric. At an error it stays as it was.
-    pub fn keep<T: Into<M> + Clone + Drop>(
+    pub fn keep<T: Into<Metric<H, X>> + Clone + Drop>(
         &mut self,
         name: &str,
         help: &str,
         unit: Option<Unit>,
         metric: T,
     ) -> Result<T, RegistryError>
-        ensures { AddsKept metric T.is_clone T.converts M.types
+        ensures { AddsKept metric T.is_clone T.converts (fit_refusal_here self.old name.now unit)
+            ⟦<Metric<H, X> as EncodeMetric>⟧.types
             (named_metric name.now help.now unit) self.old self.new result }
     {
         let Ok(clone) = metric.clone() else {

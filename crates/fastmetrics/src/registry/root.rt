@@ -2,6 +2,7 @@
 ghost use Rattle.std.specs.Prelude.{◌≡◌, ◌⊎◌, [], None, Some, Err, OnOk, IfOk, IfErr, length, map, string_bytes, take};
 ghost use Rattle.std.specs.Option.{option_map};
 ghost use Rattle.std.specs.Io.KnownBytes.{Keeps};
+ghost use Rattle.std.specs.List.{Any};
 ghost use Rattle.fm_grammar.specs.LabelPairs.{shown_label};
 ghost use Rattle.fm_exposition.specs.Written.{IsWritersFault};
 ghost use Rattle.fm_raw.specs.declared.encode_error.EncodeError.{EncodeError};
@@ -10,10 +11,11 @@ ghost use Rattle.fm_registry_model.specs.Listing.{order};
 ghost use Rattle.fm_registry_model.specs.Tree.{Shows};
 ghost use Rattle.fm_core.specs.HasHistory.{IsNewRoot};
 ghost use Rattle.fm_registry_model.specs.Lists.{seen_labels};
-ghost use Rattle.fm_core.specs.Admits.{AdmittedBy, Fault};
+ghost use Rattle.fm_core.specs.Admits.{AdmittedBy};
 ghost use Rattle.fm_core.specs.Encoded.{WritesAdmitted, BeginsAdmitted};
 ghost use Rattle.fm_core.specs.Named.{named_metric};
 ghost use Rattle.fastmetrics.specs.Roots.{AddsOrNot, Enters};
+ghost use Rattle.fastmetrics.specs.Fits.{fit_refusal_here, OwnFault};
 
 mod constants;
 mod families;
@@ -21,7 +23,8 @@ mod metrics;
 mod own;
 
 use crate::registry::at::RegistryAt;
-use crate::registry::kinds::{Metric, Number};
+use crate::registry::kinds::faults::only_own_faults;
+use crate::registry::kinds::{Metric, NoOwn};
 use crate::registry::waiter::Waiter;
 use fm_core::format::text::{collect, encode};
 use fm_core::registry::{RegistryBuilder, RegistryError};
@@ -50,8 +53,8 @@ fn random_hashing<R: RandomSource>(rt: &R) -> Result<LabelHashing, RegistryError
 ///
 /// Its type says that it reads a history of accepted calls. So any function may make one, register in it, return it or keep it under
 /// a lock, and no clause and no box is needed. Its metrics wait by the handle that it is made with.
-pub struct Root<H: Wait, X = Number> {
-    at: RegistryAt<Metric<H, X>>,
+pub struct Root<H: Wait, X = NoOwn> {
+    at: RegistryAt<H, X>,
     wait: H,
     // How its families hash the values of labels.
     hashing: LabelHashing,
@@ -182,7 +185,8 @@ impl<H: Waiter, X: EncodeMetric> Root<H, X> {
         metric: T,
     ) -> Result<(), RegistryError>
         ensures { (converted : _) × T.converts metric converted
-            × AddsOrNot (⟦<Metric<H, X> as EncodeMetric>⟧.types converted)
+            × AddsOrNot (fit_refusal_here self.old.at name.now unit converted)
+            (⟦<Metric<H, X> as EncodeMetric>⟧.types converted)
             (named_metric name.now help.now unit converted) self.old.at
             self.new.at result }
     {
@@ -198,12 +202,10 @@ impl<H: Waiter, X: EncodeMetric> Root<H, X> {
             self.now.at.tree) }
         ensures fault { IfErr result (λ k. (k ≡ EncodeError.Memory)
             ⊎ ((b : _) → Shows self.now.at.tree b
-            → Fault k (λ m. ⟦<Metric<H, X> as EncodeMetric>⟧.offers m)
-            (λ m. ⟦<Metric<H, X> as EncodeMetric>⟧.stamps m)
-            (λ m. ⟦<Metric<H, X> as EncodeMetric>⟧.may_fault m)
-            (order b))) }
+            → Any (OwnFault k X.offers X.stamps X.may_fault) (order b))) }
         ensures not_writing { IfErr result (λ k. ¬ (IsWritersFault k)) }
     {
+        only_own_faults::<H, X>();
         collect(self.at.alloc(), self.at.registry())
     }
 
@@ -219,10 +221,7 @@ impl<H: Waiter, X: EncodeMetric> Root<H, X> {
             → Keeps (W.contents writer.old) (W.contents writer.new)
             × ((k ≡ EncodeError.Memory)
             ⊎ ((b : _) → Shows self.now.at.tree b
-            → Fault k (λ m. ⟦<Metric<H, X> as EncodeMetric>⟧.offers m)
-            (λ m. ⟦<Metric<H, X> as EncodeMetric>⟧.stamps m)
-            (λ m. ⟦<Metric<H, X> as EncodeMetric>⟧.may_fault m)
-            (order b)))) }
+            → Any (OwnFault k X.offers X.stamps X.may_fault) (order b)))) }
         ensures stopped { IfErr result (λ k. IsWritersFault k → BeginsAdmitted
             (AdmittedBy (λ m. ⟦<Metric<H, X> as EncodeMetric>⟧.offers m)
             (λ m. ⟦<Metric<H, X> as EncodeMetric>⟧.stamps m)
@@ -230,6 +229,7 @@ impl<H: Waiter, X: EncodeMetric> Root<H, X> {
             self.now.at.tree)
             (W.contents writer.old) (W.contents writer.new)) }
     {
+        only_own_faults::<H, X>();
         encode(self.at.alloc(), writer, self.at.registry())
     }
 }

@@ -9,8 +9,8 @@ use fm_registry_model::RegistryError;
 use fm_registry_model::label_names::LabelNames;
 use std::alloc::Global;
 
-// Fails if one of the names is one that the type keeps for itself.
-fn test_reserved(
+/// Fails if one of the names is one that the type keeps for itself.
+pub fn test_reserved(
     alloc: Global,
     metric_type: MetricType,
     names: &LabelNames,

@@ -6,7 +6,8 @@ ghost use Rattle.fm_registry_model.specs.Tree.{Shows};
 ghost use Rattle.fm_registry_model.specs.Listing.{order};
 ghost use Rattle.fm_registry_model.specs.inside.Fitting.{HasFittingHistory};
 ghost use Rattle.fm_core.specs.Admits.{Fault};
-ghost use Rattle.fastmetrics.specs.inside.FittingMetrics.{HasType, Fits, OwnFault};
+ghost use Rattle.fastmetrics.specs.inside.FittingMetrics.{HasType, Fits};
+ghost use Rattle.fastmetrics.specs.Fits.{OwnFault};
 
 use crate::registry::kinds::Metric;
 use crate::registry::waiter::Waiter;

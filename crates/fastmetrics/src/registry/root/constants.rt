@@ -9,6 +9,7 @@ ghost use Rattle.fm_metrics.specs.Constants.{label_set_of};
 ghost use Rattle.fastmetrics.specs.declared.registry.kinds.constant.Constant.TheVariants as constant;
 ghost use Rattle.fastmetrics.specs.declared.registry.kinds.Metric.TheVariants.{Constant};
 ghost use Rattle.fastmetrics.specs.Roots.{AddsOrNot, AddsKept};
+ghost use Rattle.fastmetrics.specs.Fits.{fit_refusal_here};
 
 use super::Root;
 use crate::registry::kinds::Metric;
@@ -27,7 +28,7 @@ impl<H: Waiter, X: EncodeMetric> Root<H, X> {
         help: &str,
         metric: T,
     ) -> Result<T, RegistryError>
-        ensures { AddsKept metric T.is_clone T.converts ⟦<Metric<H, X> as EncodeMetric>⟧.types
+        ensures { AddsKept metric T.is_clone T.converts (fit_refusal_here self.old.at name.now None) ⟦<Metric<H, X> as EncodeMetric>⟧.types
             (named_metric name.now help.now None) self.old.at self.new.at result }
     {
         self.at.keep(name, help, None, metric)
@@ -43,7 +44,8 @@ impl<H: Waiter, X: EncodeMetric> Root<H, X> {
         ensures { ((result ≡ Err Memory) × (self.new.at ≡ self.old.at))
             ⊎ ((info : Info (Vec (String Global × String Global) Global))
             × (labels_of (label_set_of info).items ≡ map shown_label facts.now)
-            × AddsOrNot (⟦<Metric<H, X> as EncodeMetric>⟧.types (Constant (constant.Info info)))
+            × AddsOrNot (fit_refusal_here self.old.at name.now None (Constant (constant.Info info)))
+            (⟦<Metric<H, X> as EncodeMetric>⟧.types (Constant (constant.Info info)))
             (named_metric name.now help.now None (Constant (constant.Info info))) self.old.at
             self.new.at result) }
     {

@@ -5,6 +5,7 @@ ghost use Rattle.fm_core.specs.Named.{named_metric};
 ghost use Rattle.fm_registry_model.specs.Answer.{refusal_of};
 ghost use Rattle.fm_registry_model.specs.LabelNames.{shown_texts, IsOrMemory};
 ghost use Rattle.fastmetrics.specs.Roots.{MakesNamed, names_refusal_here};
+ghost use Rattle.fastmetrics.specs.Fits.{fit_refusal_here};
 ghost use Rattle.fastmetrics.specs.declared.registry.kinds.named_family.NamedFamily.TheVariants.{Counters, FixedCounters, Gauges, FixedGauges, Histograms, GaugeHistograms};
 ghost use Rattle.fastmetrics.specs.declared.registry.kinds.Metric.TheVariants.{Family};
 
@@ -66,6 +67,7 @@ impl<H: Waiter, X: EncodeMetric> Root<H, X> {
             (λ family. vec_names family ≡ shown_texts description.entry.labels.now)
             ⟦<VecOf<M, H> as Clone>⟧.is_clone
             ⟦<Metric<H, X> as From<VecOf<M, H>>>⟧.from_gives
+            (fit_refusal_here self.old.at description.entry.name.now description.entry.unit)
             ⟦<Metric<H, X> as EncodeMetric>⟧.types
             (named_metric description.entry.name.now description.entry.help.now description.entry.unit) self.old.at
             self.new.at
@@ -91,6 +93,7 @@ impl<H: Waiter, X: EncodeMetric> Root<H, X> {
             (λ family. vec_names family ≡ shown_texts labels.now)
             ⟦<CounterVec<H> as Clone>⟧.is_clone
             (λ x metric. metric ≡ Family (Counters x))
+            (fit_refusal_here self.old.at name.now None)
             ⟦<Metric<H, X> as EncodeMetric>⟧.types
             (named_metric name.now help.now None) self.old.at
             self.new.at
@@ -109,6 +112,7 @@ impl<H: Waiter, X: EncodeMetric> Root<H, X> {
             (λ family. vec_names family ≡ shown_texts description.entry.labels.now)
             ⟦<CounterVec<H> as Clone>⟧.is_clone
             (λ x metric. metric ≡ Family (Counters x))
+            (fit_refusal_here self.old.at description.entry.name.now description.entry.unit)
             ⟦<Metric<H, X> as EncodeMetric>⟧.types
             (named_metric description.entry.name.now description.entry.help.now description.entry.unit) self.old.at
             self.new.at
@@ -133,6 +137,7 @@ impl<H: Waiter, X: EncodeMetric> Root<H, X> {
             (λ family. vec_names family ≡ shown_texts labels.now)
             ⟦<FixedCounterVec<H> as Clone>⟧.is_clone
             (λ x metric. metric ≡ Family (FixedCounters x))
+            (fit_refusal_here self.old.at name.now None)
             ⟦<Metric<H, X> as EncodeMetric>⟧.types
             (named_metric name.now help.now None) self.old.at
             self.new.at
@@ -151,6 +156,7 @@ impl<H: Waiter, X: EncodeMetric> Root<H, X> {
             (λ family. vec_names family ≡ shown_texts description.entry.labels.now)
             ⟦<FixedCounterVec<H> as Clone>⟧.is_clone
             (λ x metric. metric ≡ Family (FixedCounters x))
+            (fit_refusal_here self.old.at description.entry.name.now description.entry.unit)
             ⟦<Metric<H, X> as EncodeMetric>⟧.types
             (named_metric description.entry.name.now description.entry.help.now description.entry.unit) self.old.at
             self.new.at
@@ -175,6 +181,7 @@ impl<H: Waiter, X: EncodeMetric> Root<H, X> {
             (λ family. vec_names family ≡ shown_texts labels.now)
             ⟦<GaugeVec<H> as Clone>⟧.is_clone
             (λ x metric. metric ≡ Family (Gauges x))
+            (fit_refusal_here self.old.at name.now None)
             ⟦<Metric<H, X> as EncodeMetric>⟧.types
             (named_metric name.now help.now None) self.old.at
             self.new.at
@@ -193,6 +200,7 @@ impl<H: Waiter, X: EncodeMetric> Root<H, X> {
             (λ family. vec_names family ≡ shown_texts description.entry.labels.now)
             ⟦<GaugeVec<H> as Clone>⟧.is_clone
             (λ x metric. metric ≡ Family (Gauges x))
+            (fit_refusal_here self.old.at description.entry.name.now description.entry.unit)
             ⟦<Metric<H, X> as EncodeMetric>⟧.types
             (named_metric description.entry.name.now description.entry.help.now description.entry.unit) self.old.at
             self.new.at
@@ -217,6 +225,7 @@ impl<H: Waiter, X: EncodeMetric> Root<H, X> {
             (λ family. vec_names family ≡ shown_texts labels.now)
             ⟦<FixedGaugeVec<H> as Clone>⟧.is_clone
             (λ x metric. metric ≡ Family (FixedGauges x))
+            (fit_refusal_here self.old.at name.now None)
             ⟦<Metric<H, X> as EncodeMetric>⟧.types
             (named_metric name.now help.now None) self.old.at
             self.new.at
@@ -235,6 +244,7 @@ impl<H: Waiter, X: EncodeMetric> Root<H, X> {
             (λ family. vec_names family ≡ shown_texts description.entry.labels.now)
             ⟦<FixedGaugeVec<H> as Clone>⟧.is_clone
             (λ x metric. metric ≡ Family (FixedGauges x))
+            (fit_refusal_here self.old.at description.entry.name.now description.entry.unit)
             ⟦<Metric<H, X> as EncodeMetric>⟧.types
             (named_metric description.entry.name.now description.entry.help.now description.entry.unit) self.old.at
             self.new.at
@@ -259,6 +269,7 @@ impl<H: Waiter, X: EncodeMetric> Root<H, X> {
             (λ family. vec_names family ≡ shown_texts labels.now)
             ⟦<HistogramVec<H> as Clone>⟧.is_clone
             (λ x metric. metric ≡ Family (Histograms x))
+            (fit_refusal_here self.old.at name.now None)
             ⟦<Metric<H, X> as EncodeMetric>⟧.types
             (named_metric name.now help.now None) self.old.at
             self.new.at
@@ -277,6 +288,7 @@ impl<H: Waiter, X: EncodeMetric> Root<H, X> {
             (λ family. vec_names family ≡ shown_texts description.entry.labels.now)
             ⟦<HistogramVec<H> as Clone>⟧.is_clone
             (λ x metric. metric ≡ Family (Histograms x))
+            (fit_refusal_here self.old.at description.entry.name.now description.entry.unit)
             ⟦<Metric<H, X> as EncodeMetric>⟧.types
             (named_metric description.entry.name.now description.entry.help.now description.entry.unit) self.old.at
             self.new.at
@@ -301,6 +313,7 @@ impl<H: Waiter, X: EncodeMetric> Root<H, X> {
             (λ family. vec_names family ≡ shown_texts labels.now)
             ⟦<GaugeHistogramVec<H> as Clone>⟧.is_clone
             (λ x metric. metric ≡ Family (GaugeHistograms x))
+            (fit_refusal_here self.old.at name.now None)
             ⟦<Metric<H, X> as EncodeMetric>⟧.types
             (named_metric name.now help.now None) self.old.at
             self.new.at
@@ -319,6 +332,7 @@ impl<H: Waiter, X: EncodeMetric> Root<H, X> {
             (λ family. vec_names family ≡ shown_texts description.entry.labels.now)
             ⟦<GaugeHistogramVec<H> as Clone>⟧.is_clone
             (λ x metric. metric ≡ Family (GaugeHistograms x))
+            (fit_refusal_here self.old.at description.entry.name.now description.entry.unit)
             ⟦<Metric<H, X> as EncodeMetric>⟧.types
             (named_metric description.entry.name.now description.entry.help.now description.entry.unit) self.old.at
             self.new.at

@@ -2,6 +2,7 @@
 ghost use Rattle.std.specs.Prelude.{◌≡◌, None, Some};
 ghost use Rattle.fm_core.specs.Named.{named_metric};
 ghost use Rattle.fastmetrics.specs.Roots.{Makes};
+ghost use Rattle.fastmetrics.specs.Fits.{fit_refusal_here};
 ghost use Rattle.fastmetrics.specs.declared.registry.kinds.number.Number.TheVariants as number;
 ghost use Rattle.fastmetrics.specs.declared.registry.kinds.Metric.TheVariants.{Number, Histogram, GaugeHistogram};
 
@@ -27,6 +28,7 @@ impl<H: Waiter, X: EncodeMetric> Root<H, X> {
         Metric<H, X>: From<T>,
         ensures { Makes (T.is_made description.entry.created) T.is_clone
             ⟦<Metric<H, X> as From<T>>⟧.from_gives
+            (fit_refusal_here self.old.at description.entry.name.now description.entry.unit)
             ⟦<Metric<H, X> as EncodeMetric>⟧.types
             (named_metric description.entry.name.now description.entry.help.now description.entry.unit) self.old.at
             self.new.at
@@ -51,6 +53,7 @@ impl<H: Waiter, X: EncodeMetric> Root<H, X> {
     pub fn counter(&mut self, name: &str, help: &str) -> Result<Counter<u64>, RegistryError>
         ensures { Makes (⟦<Counter<u64> as Made<H>>⟧.is_made None) ⟦<Counter<u64> as Clone>⟧.is_clone
             (λ x metric. metric ≡ Number (number.Counter x))
+            (fit_refusal_here self.old.at name.now None)
             ⟦<Metric<H, X> as EncodeMetric>⟧.types
             (named_metric name.now help.now None) self.old.at
             self.new.at
@@ -66,6 +69,7 @@ impl<H: Waiter, X: EncodeMetric> Root<H, X> {
     ) -> Result<Counter<u64>, RegistryError>
         ensures { Makes (⟦<Counter<u64> as Made<H>>⟧.is_made description.entry.created) ⟦<Counter<u64> as Clone>⟧.is_clone
             (λ x metric. metric ≡ Number (number.Counter x))
+            (fit_refusal_here self.old.at description.entry.name.now description.entry.unit)
             ⟦<Metric<H, X> as EncodeMetric>⟧.types
             (named_metric description.entry.name.now description.entry.help.now description.entry.unit) self.old.at
             self.new.at
@@ -78,6 +82,7 @@ impl<H: Waiter, X: EncodeMetric> Root<H, X> {
     pub fn fixed_counter(&mut self, name: &str, help: &str) -> Result<Counter<Fixed>, RegistryError>
         ensures { Makes (⟦<Counter<Fixed> as Made<H>>⟧.is_made None) ⟦<Counter<Fixed> as Clone>⟧.is_clone
             (λ x metric. metric ≡ Number (number.FixedCounter x))
+            (fit_refusal_here self.old.at name.now None)
             ⟦<Metric<H, X> as EncodeMetric>⟧.types
             (named_metric name.now help.now None) self.old.at
             self.new.at
@@ -93,6 +98,7 @@ impl<H: Waiter, X: EncodeMetric> Root<H, X> {
     ) -> Result<Counter<Fixed>, RegistryError>
         ensures { Makes (⟦<Counter<Fixed> as Made<H>>⟧.is_made description.entry.created) ⟦<Counter<Fixed> as Clone>⟧.is_clone
             (λ x metric. metric ≡ Number (number.FixedCounter x))
+            (fit_refusal_here self.old.at description.entry.name.now description.entry.unit)
             ⟦<Metric<H, X> as EncodeMetric>⟧.types
             (named_metric description.entry.name.now description.entry.help.now description.entry.unit) self.old.at
             self.new.at
@@ -105,6 +111,7 @@ impl<H: Waiter, X: EncodeMetric> Root<H, X> {
     pub fn gauge(&mut self, name: &str, help: &str) -> Result<Gauge<i64>, RegistryError>
         ensures { Makes (⟦<Gauge<i64> as Made<H>>⟧.is_made None) ⟦<Gauge<i64> as Clone>⟧.is_clone
             (λ x metric. metric ≡ Number (number.Gauge x))
+            (fit_refusal_here self.old.at name.now None)
             ⟦<Metric<H, X> as EncodeMetric>⟧.types
             (named_metric name.now help.now None) self.old.at
             self.new.at
@@ -117,6 +124,7 @@ impl<H: Waiter, X: EncodeMetric> Root<H, X> {
     pub fn gauge_with(&mut self, description: Description<'_>) -> Result<Gauge<i64>, RegistryError>
         ensures { Makes (⟦<Gauge<i64> as Made<H>>⟧.is_made description.entry.created) ⟦<Gauge<i64> as Clone>⟧.is_clone
             (λ x metric. metric ≡ Number (number.Gauge x))
+            (fit_refusal_here self.old.at description.entry.name.now description.entry.unit)
             ⟦<Metric<H, X> as EncodeMetric>⟧.types
             (named_metric description.entry.name.now description.entry.help.now description.entry.unit) self.old.at
             self.new.at
@@ -129,6 +137,7 @@ impl<H: Waiter, X: EncodeMetric> Root<H, X> {
     pub fn fixed_gauge(&mut self, name: &str, help: &str) -> Result<Gauge<Fixed>, RegistryError>
         ensures { Makes (⟦<Gauge<Fixed> as Made<H>>⟧.is_made None) ⟦<Gauge<Fixed> as Clone>⟧.is_clone
             (λ x metric. metric ≡ Number (number.FixedGauge x))
+            (fit_refusal_here self.old.at name.now None)
             ⟦<Metric<H, X> as EncodeMetric>⟧.types
             (named_metric name.now help.now None) self.old.at
             self.new.at
@@ -144,6 +153,7 @@ impl<H: Waiter, X: EncodeMetric> Root<H, X> {
     ) -> Result<Gauge<Fixed>, RegistryError>
         ensures { Makes (⟦<Gauge<Fixed> as Made<H>>⟧.is_made description.entry.created) ⟦<Gauge<Fixed> as Clone>⟧.is_clone
             (λ x metric. metric ≡ Number (number.FixedGauge x))
+            (fit_refusal_here self.old.at description.entry.name.now description.entry.unit)
             ⟦<Metric<H, X> as EncodeMetric>⟧.types
             (named_metric description.entry.name.now description.entry.help.now description.entry.unit) self.old.at
             self.new.at
@@ -156,6 +166,7 @@ impl<H: Waiter, X: EncodeMetric> Root<H, X> {
     pub fn histogram(&mut self, name: &str, help: &str) -> Result<Histogram<H>, RegistryError>
         ensures { Makes (⟦<Histogram<H> as Made<H>>⟧.is_made None) ⟦<Histogram<H> as Clone>⟧.is_clone
             (λ x metric. metric ≡ Histogram x)
+            (fit_refusal_here self.old.at name.now None)
             ⟦<Metric<H, X> as EncodeMetric>⟧.types
             (named_metric name.now help.now None) self.old.at
             self.new.at
@@ -171,6 +182,7 @@ impl<H: Waiter, X: EncodeMetric> Root<H, X> {
     ) -> Result<Histogram<H>, RegistryError>
         ensures { Makes (⟦<Histogram<H> as Made<H>>⟧.is_made description.entry.created) ⟦<Histogram<H> as Clone>⟧.is_clone
             (λ x metric. metric ≡ Histogram x)
+            (fit_refusal_here self.old.at description.entry.name.now description.entry.unit)
             ⟦<Metric<H, X> as EncodeMetric>⟧.types
             (named_metric description.entry.name.now description.entry.help.now description.entry.unit) self.old.at
             self.new.at
@@ -187,6 +199,7 @@ impl<H: Waiter, X: EncodeMetric> Root<H, X> {
     ) -> Result<GaugeHistogram<H>, RegistryError>
         ensures { Makes (⟦<GaugeHistogram<H> as Made<H>>⟧.is_made None) ⟦<GaugeHistogram<H> as Clone>⟧.is_clone
             (λ x metric. metric ≡ GaugeHistogram x)
+            (fit_refusal_here self.old.at name.now None)
             ⟦<Metric<H, X> as EncodeMetric>⟧.types
             (named_metric name.now help.now None) self.old.at
             self.new.at
@@ -202,6 +215,7 @@ impl<H: Waiter, X: EncodeMetric> Root<H, X> {
     ) -> Result<GaugeHistogram<H>, RegistryError>
         ensures { Makes (⟦<GaugeHistogram<H> as Made<H>>⟧.is_made description.entry.created) ⟦<GaugeHistogram<H> as Clone>⟧.is_clone
             (λ x metric. metric ≡ GaugeHistogram x)
+            (fit_refusal_here self.old.at description.entry.name.now description.entry.unit)
             ⟦<Metric<H, X> as EncodeMetric>⟧.types
             (named_metric description.entry.name.now description.entry.help.now description.entry.unit) self.old.at
             self.new.at

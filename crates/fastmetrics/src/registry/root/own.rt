@@ -3,6 +3,7 @@ ghost use Rattle.std.specs.Prelude.{◌≡◌, None};
 ghost use Rattle.fm_core.specs.Named.{named_metric};
 ghost use Rattle.fastmetrics.specs.declared.registry.kinds.Metric.TheVariants.{Own};
 ghost use Rattle.fastmetrics.specs.Roots.{AddsOrNot, Makes};
+ghost use Rattle.fastmetrics.specs.Fits.{fit_refusal_here};
 
 use super::Root;
 use crate::registry::description::Description;
@@ -18,7 +19,7 @@ impl<H: Waiter, X: EncodeMetric> Root<H, X> {
     where
         X: Holds<T, I>,
         ensures { (held : X) × X.holds metric held
-            × AddsOrNot (⟦<Metric<H, X> as EncodeMetric>⟧.types (Own held))
+            × AddsOrNot (fit_refusal_here self.old.at name.now None (Own held)) (⟦<Metric<H, X> as EncodeMetric>⟧.types (Own held))
             (named_metric name.now help.now None (Own held)) self.old.at
             self.new.at result }
     {
@@ -35,7 +36,7 @@ impl<H: Waiter, X: EncodeMetric> Root<H, X> {
     where
         X: Holds<T, I>,
         ensures { (held : X) × X.holds metric held
-            × AddsOrNot (⟦<Metric<H, X> as EncodeMetric>⟧.types (Own held))
+            × AddsOrNot (fit_refusal_here self.old.at description.entry.name.now description.entry.unit (Own held)) (⟦<Metric<H, X> as EncodeMetric>⟧.types (Own held))
             (named_metric description.entry.name.now description.entry.help.now description.entry.unit (Own held)) self.old.at
             self.new.at result }
     {
@@ -58,6 +59,7 @@ impl<H: Waiter, X: EncodeMetric> Root<H, X> {
         X: Holds<T, I>,
         ensures { Makes T.is_default T.is_clone
             (λ x own. (held : X) × X.holds x held × (own ≡ Own held))
+            (fit_refusal_here self.old.at name.now None)
             ⟦<Metric<H, X> as EncodeMetric>⟧.types
             (named_metric name.now help.now None) self.old.at
             self.new.at

@@ -1,10 +1,12 @@
 use Rattle.std.proofs.Common.{inr}
+use Rattle.fastmetrics.specs.inside.FittingMetrics.{Fits}
 use Rattle.fastmetrics.proofs.RootLemmas.{entered}
+use Rattle.fastmetrics.proofs.FittingLemmas.{fitting_enters}
 use Rattle.fastmetrics.proofs.registry.at.RegistryAt.enter.Goals as goal
 
 pub invariant_of-self-2 : goal.invariant_of-self-2
-invariant_of-self-2 g c = c.run_call.ensures.sound c.self.invariant
+invariant_of-self-2 g c = fitting_enters Fits _ _ _ _ _ (entered _ _ _ _ _ _ _ _ c.in_ok-call.ensures c.in_ok-run_call.ensures.runs c.run_call.ensures.grows c.in_ok-below.ensures) c.self.invariant
 
 pub returns : goal.returns
 returns g c = rw (← c.self.view_is)
-    (inr (entered g.M.EncodeMetric.types _ _ _ _ _ _ _ c.in_ok-call.ensures c.in_ok-run_call.ensures.runs c.run_call.ensures.grows c.in_ok-below.ensures))
+    (inr (entered _ _ _ _ _ _ _ _ c.in_ok-call.ensures c.in_ok-run_call.ensures.runs c.run_call.ensures.grows c.in_ok-below.ensures))

@@ -15,7 +15,8 @@ use Rattle.fastmetrics.specs.declared.registry.kinds.Metric.{Metric}
 use Rattle.fastmetrics.specs.declared.registry.kinds.Metric.TheVariants as metric
 use Rattle.fastmetrics.specs.declared.registry.kinds.named_family.NamedFamily.TheVariants as family
 use Rattle.fastmetrics.specs.contracts.registry.kinds.MetricEncodeMetric.TheImpl.{ghosts}
-use Rattle.fastmetrics.specs.inside.FittingMetrics.{FitsUnder, HasType, Fits, OwnFault}
+use Rattle.fastmetrics.specs.inside.FittingMetrics.{FitsUnder, HasType, Fits}
+use Rattle.fastmetrics.specs.Fits.{OwnFault}
 use Rattle.fastmetrics.proofs.FaultLemmas.{vec_fits, counter_points, gauge_points, histogram_points, gauge_histogram_points, number_fits, histogram_fits, gauge_histogram_fits, states_fits, constant_fits, number_declares, constant_declares}
 use Rattle.fastmetrics.proofs.registry.kinds.faults.only_own_faults.Given.{Over}
 use Rattle.fastmetrics.proofs.registry.kinds.faults.only_own_faults.Goals as goal

@@ -5,7 +5,7 @@ use Rattle.fm_registry_model.specs.Answer.{DuplicateLabel}
 use Rattle.fm_grammar.specs.LabelPairs.{labels_of}
 use Rattle.fastmetrics.specs.Roots.{constants_refusal}
 use Rattle.fastmetrics.proofs.ConstantsLemmas.{refused_there, none_there}
-use Rattle.fastmetrics.proofs.registry.at.test_constants.Goals as goal
+use Rattle.fastmetrics.proofs.registry.fitting.test_constants.Goals as goal
 
 pub returns-then-has : goal.returns-then-has
 returns-then-has c =
