@@ -5,7 +5,7 @@ library declare, which these clauses take from them: the ghost members of each i
     scripts/definitions.py [--names] [--most N] [--most-declared N]
 
 Lines are counted without comments, imports and blank lines, and only those of definitions that are reached. It fails where there are
-more than N (580 and 560 without an argument), or where the clauses of `encode` reach a definition of an `inside` folder.
+more than N (580 and 570 without an argument), or where the clauses of `encode` reach a definition of an `inside` folder.
 """
 import re
 import sys
@@ -245,7 +245,7 @@ def main():
         print(f"reached, and yet inside: {path}", file=sys.stderr)
     if total > most:
         print(f"more than {most} lines", file=sys.stderr)
-    is_declared = print_declared(found, limit("--most-declared", 560))
+    is_declared = print_declared(found, limit("--most-declared", 570))
     sys.exit(1 if wrong or total > most or not is_declared else 0)
 
 
