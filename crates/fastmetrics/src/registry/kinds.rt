@@ -9,7 +9,6 @@ mod constant;
 pub(crate) mod faults;
 mod holds;
 mod named_family;
-mod no_own;
 mod number;
 mod one_of;
 
@@ -28,7 +27,6 @@ pub use named_family::{
     CounterVec, FixedCounterVec, FixedGaugeVec, GaugeHistogramVec, GaugeVec, HistogramVec,
     NamedFamily, VecOf,
 };
-pub use no_own::NoOwn;
 pub use number::Number;
 pub use one_of::OneOf;
 use std::sync::Wait;
@@ -38,7 +36,7 @@ use std::time::Duration;
 /// that has none leaves `X` out.
 ///
 /// It declares and offers what the metric in it does.
-pub enum Metric<H: Wait, X = NoOwn> {
+pub enum Metric<H: Wait, X = Number> {
     /// A counter or a gauge.
     Number(Number),
     /// A histogram.

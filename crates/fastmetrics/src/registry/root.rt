@@ -24,7 +24,7 @@ mod own;
 
 use crate::registry::at::RegistryAt;
 use crate::registry::kinds::faults::only_own_faults;
-use crate::registry::kinds::{Metric, NoOwn};
+use crate::registry::kinds::{Metric, Number};
 use crate::registry::waiter::Waiter;
 use fm_core::format::text::{collect, encode};
 use fm_core::registry::{RegistryBuilder, RegistryError};
@@ -53,7 +53,7 @@ fn random_hashing<R: RandomSource>(rt: &R) -> Result<LabelHashing, RegistryError
 ///
 /// Its type says that it reads a history of accepted calls. So any function may make one, register in it, return it or keep it under
 /// a lock, and no clause and no box is needed. Its metrics wait by the handle that it is made with.
-pub struct Root<H: Wait, X = NoOwn> {
+pub struct Root<H: Wait, X = Number> {
     at: RegistryAt<H, X>,
     wait: H,
     // How its families hash the values of labels.
