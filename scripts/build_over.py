@@ -17,6 +17,8 @@ def built(crate, crates):
     """Whether a crate is proved and built."""
     words = crate.words(crates, Run(None, None))
     words[1] = "build"
+    # Where functions are left out a check names what they call; a crate that is whole calls no such thing.
+    words[words.index("--links") + 1] = f"{crate.name}="
     is_program = os.path.isfile(f"{crate.folder}/src/main.rt")
     target = f"{crate.folder}/out/{crate.name}.o" if is_program else f"{crate.folder}/out/rlib/{crate.name}.rlib"
     os.makedirs(os.path.dirname(target), exist_ok=True)

@@ -38,6 +38,14 @@ fn counter_family(members: u64) -> Family<Request, Counter> {
     family
 }
 
+/// Labels whose names only the program knows.
+type Pairs = Vec<(String, String)>;
+
+fn pairs(member: u64) -> Pairs {
+    let [method, path] = scenes::member_values(member);
+    vec![("method".to_string(), method), ("path".to_string(), path)]
+}
+
 impl Peer for Client {
     const NAME: &'static str = "prometheus-client";
     type Registry = Registry;
@@ -102,9 +110,28 @@ impl Peer for Client {
     }
 
     fn labels(member: u64) -> Request {
-        Request {
-            method: scenes::method(member).to_string(),
-            path: scenes::path(member),
+        let [method, path] = scenes::member_values(member);
+        Request { method, path }
+    }
+
+    fn named(members: u64) -> Registry {
+        let family = Family::<Pairs, Counter>::default();
+        for member in 0..members {
+            let counter = family.get_or_create(&pairs(member));
+            counter.inc_by(scenes::value(member));
         }
+        with(Registry::default(), family)
+    }
+
+    // A label set owns its texts: whoever has others copies them for each call.
+    fn values() -> (Registry, impl Fn(&[String; 2]) + Sync) {
+        let (registry, look_up) = Self::lookup();
+        let copy_and_look_up = move |[method, path]: &[String; 2]| {
+            look_up(&Request {
+                method: method.clone(),
+                path: path.clone(),
+            })
+        };
+        (registry, copy_and_look_up)
     }
 }

@@ -82,6 +82,7 @@ pub fn measure<P: Peer>(wish: Wish) {
         labeled,
     };
     encode::<P>(wish, scene("counters", 1, false), &P::counters(members));
+    encode::<P>(wish, scene("named", 1, false), &P::named(members));
     encode::<P>(wish, scene("labeled", 1, true), &P::labeled(members));
     // The buckets, the one of +Inf, the sum and the count.
     let lines_each = scenes::bounds(12).len() as u64 + 3;

@@ -1,9 +1,12 @@
-//! `peers [MEMBERS] [--show]`: how long other crates take for the scenes of the bench.
+//! `peers [MEMBERS] [--show | --series CRATE]`: how long other crates take for the scenes of the bench.
 //!
 //! A line has the crate, the scene, its members, what was measured, and nanoseconds of the least
 //! round: `encode` for a sample line of a document, `call` for a call by one thread, `call_by_4`
 //! for a call by four threads at once. The members of `inc` and `set` are threads, those of
 //! `observe12` and the like bounds; `_same` scenes observe one value over and over.
+//!
+//! With `--series` one crate only makes so many members: `made` is for one, and `bytes` are those of
+//! memory that it has.
 //!
 //! As in the bench, the time of four threads is that until the last has ended, over all their calls.
 mod client;
@@ -11,6 +14,7 @@ mod documents;
 mod peer;
 mod prometheus;
 mod scenes;
+mod series;
 mod updates;
 
 use peer::Peer;
@@ -34,17 +38,27 @@ fn measure<P: Peer>(wish: Wish) {
 }
 
 fn main() {
+    const USAGE: &str = "peers [MEMBERS] [--show | --series CRATE]";
     let mut wish = Wish {
         members: 1_000,
         show: false,
     };
-    for word in std::env::args().skip(1) {
-        if word == "--show" {
-            wish.show = true;
-        } else {
-            wish.members = word.parse().expect("peers [MEMBERS] [--show]");
+    let mut series = None;
+    let mut words = std::env::args().skip(1);
+    while let Some(word) = words.next() {
+        match word.as_str() {
+            "--show" => wish.show = true,
+            "--series" => series = Some(words.next().expect(USAGE)),
+            _ => wish.members = word.parse().expect(USAGE),
         }
     }
-    measure::<client::Client>(wish);
-    measure::<prometheus::Prometheus>(wish);
+    match series.as_deref() {
+        None => {
+            measure::<client::Client>(wish);
+            measure::<prometheus::Prometheus>(wish);
+        }
+        Some("prometheus-client") => series::measure::<client::Client>(wish.members),
+        Some("prometheus") => series::measure::<prometheus::Prometheus>(wish.members),
+        Some(_) => panic!("{USAGE}"),
+    }
 }

@@ -28,4 +28,10 @@ pub trait Peer {
     /// adds one to it.
     fn lookup() -> (Self::Registry, impl Fn(&Self::Labels) + Sync);
     fn labels(member: u64) -> Self::Labels;
+
+    /// A registry with a family of so many counters by two labels whose names only the program knows.
+    fn named(members: u64) -> Self::Registry;
+    /// A registry with a family of counters by two labels, and what gets or makes the member of two
+    /// values, which are texts that the caller has, and adds one to it.
+    fn values() -> (Self::Registry, impl Fn(&[String; 2]) + Sync);
 }

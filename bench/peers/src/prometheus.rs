@@ -104,6 +104,15 @@ impl Peer for Prometheus {
     }
 
     fn labels(member: u64) -> [String; 2] {
-        [scenes::method(member).to_string(), scenes::path(member)]
+        scenes::member_values(member)
+    }
+
+    // All its families are of this kind.
+    fn named(members: u64) -> Registry {
+        Self::counters(members)
+    }
+
+    fn values() -> (Registry, impl Fn(&[String; 2]) + Sync) {
+        Self::lookup()
     }
 }

@@ -24,6 +24,20 @@ pub fn path(member: u64) -> String {
     format!("/api/v1/items/{member}")
 }
 
+/// The values of a member.
+pub fn member_values(member: u64) -> [String; 2] {
+    [method(member).to_string(), path(member)]
+}
+
+/// The values of a member of together so many bytes, at least 15: one of four methods, and a path of
+/// its own.
+pub fn long_values(member: u64, bytes: usize) -> [String; 2] {
+    let method = method(member).to_string();
+    let digits = bytes - method.len() - "/items/".len();
+    let path = format!("/items/{member:0>digits$}");
+    [method, path]
+}
+
 /// A value below 1,000,003 for a member.
 pub fn value(member: u64) -> u64 {
     member.wrapping_mul(2_654_435_761) % 1_000_003

@@ -90,13 +90,21 @@ fn observe<P: Peer>(scene: &str, bounds: u64, values: &[f64]) {
     assert_eq!(sum::<P>(&registry, "_count"), TURNS * steps);
 }
 
-fn lookup<P: Peer>() {
-    const KEYS: u64 = 1_000;
+/// The members that are looked up, in an order that no table has.
+const KEYS: u64 = 1_000;
+
+fn keys() -> impl Iterator<Item = u64> {
+    (0..KEYS).map(|step| step * 619 % KEYS)
+}
+
+/// Looks keys up in a family of a registry.
+fn hits<P: Peer, K: Sync>(
+    scene: &str,
+    (registry, look_up): (P::Registry, impl Fn(&K) + Sync),
+    keys: &[K],
+) {
     const PASSES: u64 = 20;
-    let (registry, look_up) = P::lookup();
     let look_up = black_box(&look_up);
-    // In an order that no table has.
-    let keys: Vec<_> = (0..KEYS).map(|step| P::labels(step * 619 % KEYS)).collect();
     let turn = || {
         for _ in 0..PASSES {
             keys.iter().for_each(look_up);
@@ -105,8 +113,8 @@ fn lookup<P: Peer>() {
     // One turn unmeasured, which makes the members.
     turn();
     let (one, four) = times(turn);
-    report::<P>("lookup", KEYS, "call", one, PASSES * KEYS);
-    report::<P>("lookup", KEYS, "call_by_4", four, THREADS * PASSES * KEYS);
+    report::<P>(scene, KEYS, "call", one, PASSES * KEYS);
+    report::<P>(scene, KEYS, "call_by_4", four, THREADS * PASSES * KEYS);
     assert_eq!(sum::<P>(&registry, "_total"), (1 + TURNS) * PASSES * KEYS);
 }
 
@@ -118,5 +126,8 @@ pub fn measure<P: Peer>() {
     observe::<P>("observe12_same", 12, &same);
     observe::<P>("observe256", 256, &values);
     observe::<P>("observe256_same", 256, &same);
-    lookup::<P>();
+    let labels: Vec<_> = keys().map(P::labels).collect();
+    hits::<P, _>("lookup", P::lookup(), &labels);
+    let values: Vec<_> = keys().map(scenes::member_values).collect();
+    hits::<P, _>("values", P::values(), &values);
 }
