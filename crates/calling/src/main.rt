@@ -10,6 +10,7 @@ mod globals;
 mod histograms;
 mod infos;
 mod many;
+mod own;
 mod pool;
 mod process;
 mod registries;
@@ -19,5 +20,6 @@ mod threads;
 fn main(rt: HostRuntime) -> anyhow::Result<()> {
     pool::show(&rt, rt.alloc(), &mut rt.stdout())?;
     globals::show(rt, rt.alloc(), &mut rt.stdout())?;
-    many::show(rt, &mut rt.stdout())
+    many::show(rt, &mut rt.stdout())?;
+    own::show(rt, &mut rt.stdout())
 }

@@ -1,5 +1,7 @@
-//! A root under a lock, for a program that registers while it runs.
-use fastmetrics::format::text::EncodeError;
+//! A root under a lock, for a program that registers while it runs; and a scrape that is never refused.
+ghost use Rattle.std.specs.Prelude.{◌≡◌, IfErr};
+
+use fastmetrics::format::text::{EncodeError, Exposition};
 use fastmetrics::metrics::counter::Counter;
 use fastmetrics::metrics::state_set::NamedStates;
 use fastmetrics::registry::{RegistryError, Root, Waiter};
@@ -31,4 +33,12 @@ pub fn scrape_locked<H: Waiter>(
     let root = root.lock(wait);
     root.encode(&mut document)?;
     Ok(document)
+}
+
+/// What a root without metrics of the program's own shows. Only want of memory keeps it from being collected.
+pub fn shown<H: Waiter>(root: &Root<H>) -> Result<Exposition, EncodeError>
+    ensures { IfErr result (λ error. error ≡ EncodeError.Memory) }
+{
+    root.is_never_refused();
+    root.collect()
 }

@@ -1,6 +1,7 @@
 -- Why a root refuses a metric for its labels' names, which could not stand beside the constant labels of the registry in which it is to
 -- be. Each name is tested when the metric is registered, so that no document is refused for it later.
 use Rattle.std.specs.Prelude.{◌≡◌, ℕ, List, [], ◌∷◌, Option, None, Some, map, codes, if◌then◌else◌}
+use Rattle.std.specs.List.{Any}
 use Rattle.std.specs.Option.{option_map}
 use Rattle.fm_grammar.specs.LabelPairs.{labels_of}
 use Rattle.fm_grammar.specs.declared.MetricType.{MetricType}
@@ -12,8 +13,9 @@ use Rattle.fm_registry_model.specs.Texts.{Text, Labels, has_text, printed_name}
 use Rattle.fm_registry_model.specs.Registration.{printed_unit}
 use Rattle.fm_registry_model.specs.Answer.{Refusal, DuplicateLabel, or_then}
 use Rattle.fm_registry_model.specs.LabelNames.{names_refusal}
-use Rattle.fm_registry_model.specs.Tree.{Tree, subtree_from}
-use Rattle.fm_registry_model.specs.Listing.{Listed, listed_name}
+use Rattle.fm_registry_model.specs.History.{History}
+use Rattle.fm_registry_model.specs.Tree.{Tree, Shows, subtree_from}
+use Rattle.fm_registry_model.specs.Listing.{Listed, listed_name, order}
 use Rattle.fm_encoder.specs.Points.{Member}
 use Rattle.fm_encoder.specs.Offers.{MetricHasFault}
 use Rattle.fm_labels.specs.ReservedNames.{reserved_refusal}
@@ -95,3 +97,9 @@ module _ {H X : Type 0} where
   OwnFault k Offers Stamps MayFault l =
       (x : X) × (l.registration.metric ≡ metric.Own x)
       × MetricHasFault k (Offers x) (Stamps x) (MayFault x) (listed_name l) l.registration.metric_type l.labels
+
+  -- a metric of the program's own has this fault, in each history that the tree shows
+  pub record HasOwnFault (k : EncodeError) (Offers : X → Option ℕ → List Member → Type 0) (Stamps : X → Option ℕ → Type 0) (MayFault : X → Type 0) (t : Tree (Metric H X)) : Type 0 where
+    pub history : History (Metric H X)
+    pub shown : Shows t history
+    pub fault : (b : History (Metric H X)) → Shows t b → Any (OwnFault k Offers Stamps MayFault) (order b)

@@ -83,3 +83,4 @@ pub mod Paths
 pub mod Roots
 pub mod Fits
 pub mod inside
+pub mod Collectors

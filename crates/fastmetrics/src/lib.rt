@@ -55,8 +55,8 @@ pub mod metrics {
             CounterVec, FixedCounterVec, FixedGaugeVec, GaugeHistogramVec, GaugeVec, HistogramVec,
         };
         pub use fm_family::{
-            DefaultFactory, DefaultFamily, Family, FamilyCore, LabelHashing, MetricFactory,
-            MetricVec, PairFamily, with_pairs,
+            Collected, CollectedMembers, Collector, DefaultFactory, DefaultFamily, Family,
+            FamilyCore, LabelHashing, MetricFactory, MetricVec, PairFamily, with_pairs,
         };
         pub use fm_labels::label_values::LabelValues;
     }

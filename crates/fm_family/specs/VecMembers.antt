@@ -1,5 +1,5 @@
 -- The members of a family whose label names are declared: pairs of the values of their labels and a metric.
-use Rattle.std.specs.Prelude.{◌≡◌, ◌<◌, ◌≤◌, ℕ, Bool, List, [], ◌∷◌, ◌++◌, length, Result, Ok, Err, MatchResult, ◌⊎◌, MatchOption, IsOkAnd}
+use Rattle.std.specs.Prelude.{◌≡◌, ◌<◌, ◌≤◌, ℕ, Bool, true, false, List, [], ◌∷◌, ◌++◌, length, Result, Ok, Err, MatchResult, ◌⊎◌, MatchOption, IsOkAnd}
 use Rattle.std.specs.List.{AllByRecursion, IsDistinct}
 use Rattle.std.specs.Map.{lookup, keys_of}
 use Rattle.fm_raw.specs.declared.error.MetricError.{MetricError}
@@ -35,3 +35,12 @@ NeverFaults _ = ⊥
 -- there are more or fewer values than names
 abbrev pub HasOtherCount : {V : Type 0} → List Text → List V → Type 0
 HasOtherCount names values = ¬ (length values ≡ length names)
+
+-- A metric is added under these values as the last member, and the result is true; or there is a member of these values, all stay as they are, and the
+-- result is false. At an error all stay as they are, and there is no memory, or there are as many members as the limit allows.
+abbrev pub AddsNew : {M : Type 0} → ℕ → List Text → M → List (List Text × M) → List (List Text × M) → Result Bool MetricError → Type 0
+AddsNew {M} limit values metric old new result = MatchOption (lookup (values_eq values) old)
+    (MatchResult result
+    (λ added. (added ≡ true) × (new ≡ old ++ (values, metric) ∷ []))
+    (λ e. (new ≡ old) × ((e ≡ Memory) ⊎ ((e ≡ TooManyMembers) × (limit ≤ length old)))))
+    (λ m. (new ≡ old) × (result ≡ Ok false))

@@ -13,11 +13,11 @@ use std::sync::Wait;
 /// Each closure without arguments that returns `Result<M, MetricError>` is a factory. A boxed family needs a closure: a
 /// function pointer is refused there.
 pub trait MetricFactory<M> {
-    /// Holds of a factory that can be called.
-    ghost is_ready: { Self → Type 0 };
+    /// Holds of a factory that can be called. If nothing is said, any can.
+    ghost is_ready: { Self → Type 0 } = { λ _. ⊤ };
 
-    /// Holds of each result that the factory may return.
-    ghost promises: { Self → Result M Refusal → Type 0 };
+    /// Holds of each result that the factory may return. If nothing is said, it may return any.
+    ghost promises: { Self → Result M Refusal → Type 0 } = { λ _ _. ⊤ };
 
     /// A new metric, or the factory's error.
     fn new_metric(&self) -> Result<M, MetricError>

@@ -11,5 +11,6 @@ pub use factory::{DefaultFactory, MetricFactory};
 pub use family::{DefaultFamily, Family};
 pub use members::FamilyCore;
 pub use pairs::{PairFamily, with_pairs};
+pub use vec::collected::{Collected, CollectedMembers, Collector};
 pub use vec::hashing::LabelHashing;
 pub use vec::metric_vec::MetricVec;

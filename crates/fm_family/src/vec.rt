@@ -1,5 +1,6 @@
 //! Families whose label names are declared when they are made.
 
+pub mod collected;
 pub mod encoding;
 pub mod hashing;
 pub mod members;

@@ -10,8 +10,10 @@ ghost use Rattle.fm_labels.specs.LabelValues.{shown_texts, ended, joined, values
 ghost use Rattle.fm_labels.specs.inside.JoinedValues.{IsBlock};
 
 mod hashing;
+mod short;
 
 pub use hashing::hash_values;
+pub use short::ShortValues;
 use std::alloc::{AllocError, Global};
 use std::marker::Model;
 

@@ -1,13 +1,13 @@
-//! A server's metrics: twenty families of eleven kinds, most in two subsystems, two workers that count, and a scrape in memory. It has no
-//! clause and no proof.
+//! A server's metrics, some twenty families, with two workers that count, and a scrape in memory. It has no clause and no proof.
 #![tactic(auto)]
 
-use fastmetrics::metrics::counter::{ConstCounter, Counter};
-use fastmetrics::metrics::family::{CounterVec, HistogramVec};
-use fastmetrics::metrics::gauge::Gauge;
+use fastmetrics::metrics::counter::Counter;
+use fastmetrics::metrics::family::{
+    Collected, CollectedMembers, Collector, CounterVec, HistogramVec,
+};
+use fastmetrics::metrics::gauge::{ConstGauge, Gauge};
 use fastmetrics::metrics::gauge_histogram::GaugeHistogram;
 use fastmetrics::metrics::histogram::Histogram;
-use fastmetrics::metrics::source::SourceGauge;
 use fastmetrics::process::register_process;
 use fastmetrics::raw::{Fixed, MetricError, Unit};
 use fastmetrics::registry::{Description, Registry, RegistryError, Root, Waiter};
@@ -17,8 +17,29 @@ use std::sync::atomic::Ordering::SeqCst;
 use std::sync::{Arc, Wait};
 use std::thread;
 
-// The length of the queue, which each scrape asks for.
-type Queue = SourceGauge<i64, Arc<AtomicI64>>;
+// The jobs that wait, which each scrape collects.
+#[derive(Drop)]
+struct Queues {
+    mail: AtomicI64,
+    pages: AtomicI64,
+}
+
+type Members = CollectedMembers<ConstGauge<i64>>;
+
+type Own = Collected<ConstGauge<i64>, Arc<Queues>>;
+
+impl Collector<ConstGauge<i64>> for Queues {
+    fn collect(&self, family: usize, members: &mut Members) -> Result<(), MetricError> {
+        let (mail, pages) = (self.mail.load(SeqCst), self.pages.load(SeqCst));
+        if family == 0 {
+            members.add(&["mail"], ConstGauge::new(mail))?;
+            members.add(&["pages"], ConstGauge::new(pages))?;
+        } else {
+            members.add(&[], ConstGauge::new(mail.saturating_add(pages)))?;
+        }
+        Ok(())
+    }
+}
 
 // The bounds of times: 10, 100 and 250 milliseconds.
 fn bounds() -> [Fixed; 3] {
@@ -41,12 +62,11 @@ struct Http<H: Wait> {
 struct Pool<H: Wait> {
     jobs: Counter,
     busy: Gauge,
-    load: Gauge<Fixed>,
     time: Counter<Fixed>,
     waits: HistogramVec<H>,
 }
 
-fn make_http<H: Waiter>(root: &mut Root<H, Queue>) -> Result<Http<H>, RegistryError> {
+fn make_http<H: Waiter>(root: &mut Root<H, Own>) -> Result<Http<H>, RegistryError> {
     root.enter("http", &[("protocol", "1.1")])?;
     let latency = Description::new("latency", "Time to serve").unit(Unit::Seconds);
     Ok(Http {
@@ -59,14 +79,13 @@ fn make_http<H: Waiter>(root: &mut Root<H, Queue>) -> Result<Http<H>, RegistryEr
     })
 }
 
-fn make_pool<H: Waiter>(root: &mut Root<H, Queue>) -> Result<Pool<H>, RegistryError> {
+fn make_pool<H: Waiter>(root: &mut Root<H, Own>) -> Result<Pool<H>, RegistryError> {
     root.enter("pool", &[])?;
     let time = Description::new("time", "Time of all jobs").unit(Unit::Seconds);
     let waits = Description::new("waits", "Waits by queue and place").labels(&["queue", "place"]);
     Ok(Pool {
         jobs: root.counter("jobs", "Jobs that were done")?,
         busy: root.gauge("busy", "Workers that have a job")?,
-        load: root.fixed_gauge("load", "How busy the pool is")?,
         time: root.fixed_counter_with(time)?,
         waits: root.histograms_with(waits.bounds(&bounds()).limit(100))?,
     })
@@ -91,12 +110,11 @@ fn run_job<H: Waiter>(pool: &Pool<H>) -> Result<(), MetricError> {
     let waited = Fixed::from_millionths(20_000);
     pool.waits
         .with(&["mail", "out"], |wait| wait.observe(waited))??;
-    pool.load.set(Fixed::from_millionths(500_000));
     Ok(())
 }
 
 // The document, without what the process tells, which is another at each run.
-fn scrape<H: Waiter>(root: &Root<H, Queue>) -> anyhow::Result<String> {
+fn scrape<H: Waiter>(root: &Root<H, Own>) -> anyhow::Result<String> {
     let mut document = Vec::new(root.alloc());
     root.encode(&mut document)?;
     let text = String::from_utf8(document)?;
@@ -107,28 +125,22 @@ fn scrape<H: Waiter>(root: &Root<H, Queue>) -> anyhow::Result<String> {
 }
 
 fn main(rt: HostRuntime) -> anyhow::Result<()> {
-    let mut root: Root<_, Queue> = Root::built(Registry::builder(), rt)?;
+    let mut root: Root<_, Own> = Root::built(Registry::builder(), rt)?;
     let process = register_process(&mut root, &rt)?;
     root.namespace("shop", &[("zone", "west")])?;
     root.info("build", "What runs", &[("version", "1.2")])?;
-    root.register(
-        "starts",
-        "Starts of the server",
-        None,
-        ConstCounter::new(1u64),
-    )?;
-    let connections = root.counter("connections", "Connections opened")?;
-    let uptime = Description::new("uptime", "Since the start").unit(Unit::Seconds);
-    let uptime = root.fixed_gauge_with(uptime)?;
-    let length = Arc::new(root.alloc(), AtomicI64::new(0))?;
-    root.add_own("queue", "Jobs that wait", SourceGauge::new(length.clone()?))?;
+    let load = root.fixed_gauge("load", "How busy the machine is")?;
+    let (mail, pages) = (AtomicI64::new(2), AtomicI64::new(5));
+    let queues = Arc::new(root.alloc(), Queues { mail, pages })?;
+    let queue = Description::new("queue", "Jobs that wait").labels(&["name"]);
+    let all = Description::new("queues", "Jobs that wait in all queues");
+    root.collector(&[queue, all], queues.clone()?)?;
     let http = make_http(&mut root)?;
     root.leave();
     let pool = make_pool(&mut root)?;
 
-    connections.inc();
-    length.store(3, SeqCst);
-    uptime.set(Fixed::from_millionths(60_000_000));
+    queues.mail.store(3, SeqCst);
+    load.set(Fixed::from_millionths(500_000));
     let (served, done) = thread::join(&rt, || serve(&http), || run_job(&pool));
     served?;
     done?;

@@ -9,6 +9,7 @@ mod constant;
 pub(crate) mod faults;
 mod holds;
 mod named_family;
+mod no_own;
 mod number;
 mod one_of;
 
@@ -27,6 +28,7 @@ pub use named_family::{
     CounterVec, FixedCounterVec, FixedGaugeVec, GaugeHistogramVec, GaugeVec, HistogramVec,
     NamedFamily, VecOf,
 };
+pub use no_own::NoOwn;
 pub use number::Number;
 pub use one_of::OneOf;
 use std::sync::Wait;
@@ -36,7 +38,7 @@ use std::time::Duration;
 /// that has none leaves `X` out.
 ///
 /// It declares and offers what the metric in it does.
-pub enum Metric<H: Wait, X = Number> {
+pub enum Metric<H: Wait, X = NoOwn> {
     /// A counter or a gauge.
     Number(Number),
     /// A histogram.

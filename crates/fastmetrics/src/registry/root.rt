@@ -2,21 +2,19 @@
 ghost use Rattle.std.specs.Prelude.{◌≡◌, ◌⊎◌, [], None, Some, Err, OnOk, IfOk, IfErr, length, map, string_bytes, take};
 ghost use Rattle.std.specs.Option.{option_map};
 ghost use Rattle.std.specs.Io.KnownBytes.{Keeps};
-ghost use Rattle.std.specs.List.{Any};
 ghost use Rattle.fm_grammar.specs.LabelPairs.{shown_label};
 ghost use Rattle.fm_exposition.specs.Written.{IsWritersFault};
 ghost use Rattle.fm_raw.specs.declared.encode_error.EncodeError.{EncodeError};
 ghost use Rattle.fm_registry_model.specs.declared.RegistryError.TheVariants.{Memory, NoRandomKeys};
-ghost use Rattle.fm_registry_model.specs.Listing.{order};
-ghost use Rattle.fm_registry_model.specs.Tree.{Shows};
 ghost use Rattle.fm_core.specs.HasHistory.{IsNewRoot};
 ghost use Rattle.fm_registry_model.specs.Lists.{seen_labels};
 ghost use Rattle.fm_core.specs.Admits.{AdmittedBy};
 ghost use Rattle.fm_core.specs.Encoded.{WritesAdmitted, BeginsAdmitted};
 ghost use Rattle.fm_core.specs.Named.{named_metric};
 ghost use Rattle.fastmetrics.specs.Roots.{AddsOrNot, Enters};
-ghost use Rattle.fastmetrics.specs.Fits.{fit_refusal_here, OwnFault};
+ghost use Rattle.fastmetrics.specs.Fits.{fit_refusal_here, HasOwnFault};
 
+mod collectors;
 mod constants;
 mod families;
 mod metrics;
@@ -24,7 +22,7 @@ mod own;
 
 use crate::registry::at::RegistryAt;
 use crate::registry::kinds::faults::only_own_faults;
-use crate::registry::kinds::{Metric, Number};
+use crate::registry::kinds::{Metric, NoOwn};
 use crate::registry::waiter::Waiter;
 use fm_core::format::text::{collect, encode};
 use fm_core::registry::{RegistryBuilder, RegistryError};
@@ -53,7 +51,7 @@ fn random_hashing<R: RandomSource>(rt: &R) -> Result<LabelHashing, RegistryError
 ///
 /// Its type says that it reads a history of accepted calls. So any function may make one, register in it, return it or keep it under
 /// a lock, and no clause and no box is needed. Its metrics wait by the handle that it is made with.
-pub struct Root<H: Wait, X = Number> {
+pub struct Root<H: Wait, X = NoOwn> {
     at: RegistryAt<H, X>,
     wait: H,
     // How its families hash the values of labels.
@@ -111,6 +109,17 @@ impl<H: Waiter + RandomSource + AllocGlobal, X> Root<H, X> {
             hashing,
             base: 0,
         })
+    }
+}
+
+impl<H: Waiter> Root<H> {
+    /// A law, which does nothing: no metric of a root has a fault where the program has none of its own. So `collect` fails with
+    /// `Memory` alone, and `encode` with that or by the writer.
+    pub fn is_never_refused(&self)
+        ensures { (k : EncodeError) → HasOwnFault k ⟦<NoOwn as EncodeMetric>⟧.offers ⟦<NoOwn as EncodeMetric>⟧.stamps
+            ⟦<NoOwn as EncodeMetric>⟧.may_fault self.now.at.tree → ⊥ }
+    {
+        let _root = self;
     }
 }
 
@@ -201,8 +210,7 @@ impl<H: Waiter, X: EncodeMetric> Root<H, X> {
             (λ m. ⟦<Metric<H, X> as EncodeMetric>⟧.may_be_empty m)
             self.now.at.tree) }
         ensures fault { IfErr result (λ k. (k ≡ EncodeError.Memory)
-            ⊎ ((b : _) → Shows self.now.at.tree b
-            → Any (OwnFault k X.offers X.stamps X.may_fault) (order b))) }
+            ⊎ HasOwnFault k X.offers X.stamps X.may_fault self.now.at.tree) }
         ensures not_writing { IfErr result (λ k. ¬ (IsWritersFault k)) }
     {
         only_own_faults::<H, X>();
@@ -220,8 +228,7 @@ impl<H: Waiter, X: EncodeMetric> Root<H, X> {
         ensures refused { IfErr result (λ k. ¬ (IsWritersFault k)
             → Keeps (W.contents writer.old) (W.contents writer.new)
             × ((k ≡ EncodeError.Memory)
-            ⊎ ((b : _) → Shows self.now.at.tree b
-            → Any (OwnFault k X.offers X.stamps X.may_fault) (order b)))) }
+            ⊎ HasOwnFault k X.offers X.stamps X.may_fault self.now.at.tree)) }
         ensures stopped { IfErr result (λ k. IsWritersFault k → BeginsAdmitted
             (AdmittedBy (λ m. ⟦<Metric<H, X> as EncodeMetric>⟧.offers m)
             (λ m. ⟦<Metric<H, X> as EncodeMetric>⟧.stamps m)

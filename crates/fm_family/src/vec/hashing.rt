@@ -1,12 +1,13 @@
 //! How the values of labels are hashed.
 ghost use Rattle.std.proofs.Common.{ap};
+ghost use Rattle.std.specs.Str.{bytes_eq};
 ghost use Rattle.std.specs.Cmp.Lexicographic.{bytes_decides, nat_list_eq_equiv};
 ghost use Rattle.std.specs.Hash.FoldHasher.{initial};
 ghost use Rattle.fm_labels.specs.LabelValues.{shown_texts, shown_same, joined, values_eq, writes_of};
 ghost use Rattle.fm_family.specs.declared.vec.hashing.LabelHashing.TheVariants.{Keyed, Fixed};
 ghost use Rattle.fm_family.specs.declared.vec.hashing.LabelHasher.TheVariants as hasher;
 
-use fm_labels::label_values::{LabelValues, hash_values};
+use fm_labels::label_values::{LabelValues, ShortValues, hash_values};
 use indexmap::Equivalent;
 use std::hash::{BuildHasher, DefaultHasher, FoldHasher, Hash, Hasher, RandomState};
 
@@ -97,5 +98,34 @@ impl Equivalent<LabelValues> for SoughtValues<'_> {
 
     fn equivalent(&self, key: &LabelValues) -> bool {
         key.are(self.values)
+    }
+}
+
+/// Short values by which `LabelValues` are looked up.
+#[derive(Clone, Copy, PartialEq, Eq)]
+pub struct SoughtBlock<'a> {
+    /// The values.
+    pub values: &'a ShortValues,
+}
+
+impl Hash for SoughtBlock<'_> {
+    ghost hash_input = { λ s. writes_of s.values.now };
+
+    ghost respects_eq = { λ x y same. ap writes_of ((bytes_decides x.values.now y.values.now).0 same) };
+
+    fn hash<H: Hasher>(&self, state: &mut H) {
+        self.values.hash(state);
+    }
+}
+
+impl Equivalent<LabelValues> for SoughtBlock<'_> {
+    ghost equivalent = { λ s k. bytes_eq s.values.now (joined k) };
+
+    ghost respects_hash = { λ s k same. ap writes_of ((bytes_decides s.values.now (joined k)).0 same) };
+
+    ghost respects_eq = { λ s x y. nat_list_eq_equiv.congr s.values.now (joined x) (joined y) };
+
+    fn equivalent(&self, key: &LabelValues) -> bool {
+        self.values.are(key)
     }
 }

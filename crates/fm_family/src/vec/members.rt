@@ -8,13 +8,13 @@ ghost use Rattle.fm_raw.specs.declared.error.MetricError.TheVariants.{Memory, To
 ghost use Rattle.fm_encoder.specs.Emits.{EmitsMembers};
 ghost use Rattle.fm_labels.specs.LabelValues.{shown_texts, values_eq};
 ghost use Rattle.fm_family.specs.Members.{OffersFirst, MayFault, CalledAtMember};
-ghost use Rattle.fm_family.specs.VecMembers.{named_labels};
+ghost use Rattle.fm_family.specs.VecMembers.{named_labels, AddsNew};
 ghost use Rattle.fm_family.specs.inside.VecCode.{FindsOrAdds};
 ghost use Rattle.fm_family.specs.inside.Indexed.{HoldsMetric};
 
 use crate::factory::MetricFactory;
-use crate::vec::hashing::{LabelHashing, SoughtValues};
-use fm_labels::label_values::LabelValues;
+use crate::vec::hashing::{LabelHashing, SoughtBlock, SoughtValues};
+use fm_labels::label_values::{LabelValues, ShortValues};
 use fm_raw::MetricError;
 use indexmap::IndexMap;
 use std::alloc::Global;
@@ -92,6 +92,10 @@ impl<M> VecMembers<M> {
     pub fn get(&self, values: &[&str]) -> Option<&M>
         ensures { option_copied result ≡ lookup (values_eq (shown_texts values.now)) self.now.entries }
     {
+        let mut short = ShortValues::new();
+        if short.hold(values) {
+            return self.members.get(SoughtBlock { values: &short });
+        }
         self.members.get(SoughtValues { values })
     }
 
@@ -170,6 +174,30 @@ impl<M: Drop> VecMembers<M> {
         let key = LabelValues::new(alloc, values)?;
         self.add(key, metric)?;
         Ok(index)
+    }
+
+    /// Adds a metric under these values as the last member, and returns whether it did: a member of these values that is there
+    /// stays as it is. Fails with `TooManyMembers` where there are as many members as the limit allows, or with `Memory` if memory runs
+    /// out; then the members stay as they were.
+    pub(crate) fn add_new(
+        &mut self,
+        alloc: Global,
+        values: &[&str],
+        metric: M,
+    ) -> Result<bool, MetricError>
+        requires count { length values.now ≡ self.old.count }
+        ensures counts { (self.new.count ≡ self.old.count) × (self.new.limit ≡ self.old.limit) }
+        ensures adds { AddsNew self.old.limit (shown_texts values.now) metric self.old.entries self.new.entries result }
+    {
+        if self.index_of(values).is_some() {
+            return Ok(false);
+        }
+        if self.len() >= self.limit {
+            return Err(MetricError::TooManyMembers);
+        }
+        let key = LabelValues::new(alloc, values)?;
+        self.add(key, metric)?;
+        Ok(true)
     }
 
     /// Removes the metric of these values, and returns whether there was one. The others keep their order and their values. It takes no

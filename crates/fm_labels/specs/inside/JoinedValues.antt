@@ -1,5 +1,5 @@
 -- What holds of the bytes in which label values are kept.
-use Rattle.std.specs.Prelude.{◌≡◌, ◌≤◌, List, length}
+use Rattle.std.specs.Prelude.{◌≡◌, ◌≤◌, ℕ, List, length, take}
 use Rattle.std.specs.List.{AllByRecursion}
 use Rattle.std.specs.Str.{IsUtf8}
 use Rattle.fm_grammar.specs.Exposition.{Text}
@@ -14,3 +14,8 @@ pub record AreJoined (bytes : Text) : Type 0 where
 pub record IsBlock (text block : Text) : Type 0 where
   pub fits : length text ≤ 64
   pub is : block ≡ in_block text
+
+-- the first bytes of the block, so many, are a text, and the others are zeros
+pub record AreInBlock (used : ℕ) (block : Text) : Type 0 where
+  pub within : used ≤ 64
+  pub whole : IsBlock (take used block) block

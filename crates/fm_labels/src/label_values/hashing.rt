@@ -30,7 +30,7 @@ fn put_value(block: &mut [u8; 64], used: usize, value: &[u8]) -> Option<usize>
 }
 
 // Puts values into an empty block, and returns how many bytes are used then; or `None` if the block has no room for them.
-fn fill(block: &mut [u8; 64], values: &[&str]) -> Option<usize>
+pub(super) fn fill(block: &mut [u8; 64], values: &[&str]) -> Option<usize>
     requires { IsBlock [] block.old }
     ensures filled { IfSome result (λ used. (used ≡ length (joined (shown_texts values.now)))
         × IsBlock (joined (shown_texts values.now)) block.new) }
@@ -57,7 +57,7 @@ fn block_of(bytes: &[u8]) -> [u8; 64]
 }
 
 // Feeds the used bytes of a block, with zeros up to a multiple of eight.
-fn feed_block<H: Hasher>(block: &[u8; 64], used: usize, state: &mut H)
+pub(super) fn feed_block<H: Hasher>(block: &[u8; 64], used: usize, state: &mut H)
     requires { used ≤ 64 }
     ensures { state.new ≡ H.write state.old (take (rounded used) block.now) }
 {

@@ -1,5 +1,4 @@
 //! Which faults a root may have: a law, a function that does nothing and whose contract is a theorem.
-ghost use Rattle.std.specs.List.{Any};
 ghost use Rattle.fm_grammar.specs.declared.MetricType.{MetricType};
 ghost use Rattle.fm_raw.specs.declared.encode_error.EncodeError.{EncodeError};
 ghost use Rattle.fm_registry_model.specs.Tree.{Shows};
@@ -7,7 +6,7 @@ ghost use Rattle.fm_registry_model.specs.Listing.{order};
 ghost use Rattle.fm_registry_model.specs.inside.Fitting.{HasFittingHistory};
 ghost use Rattle.fm_core.specs.Admits.{Fault};
 ghost use Rattle.fastmetrics.specs.inside.FittingMetrics.{HasType, Fits};
-ghost use Rattle.fastmetrics.specs.Fits.{OwnFault};
+ghost use Rattle.fastmetrics.specs.Fits.{HasOwnFault};
 
 use crate::registry::kinds::Metric;
 use crate::registry::waiter::Waiter;
@@ -18,10 +17,11 @@ use fm_encoder::EncodeMetric;
 pub(crate) fn only_own_faults<H: Waiter, X: EncodeMetric>()
     ensures types { (m : _) (t : MetricType) → ⟦<Metric<H, X> as EncodeMetric>⟧.types m t
         → HasType m t }
-    ensures faults { (k : EncodeError) (t : _) (b : _) → HasFittingHistory Fits t → Shows t b
+    ensures faults { (k : EncodeError) (t : _) → HasFittingHistory Fits t
+        → ((b : _) → Shows t b
         → Fault k (λ m. ⟦<Metric<H, X> as EncodeMetric>⟧.offers m)
         (λ m. ⟦<Metric<H, X> as EncodeMetric>⟧.stamps m)
         (λ m. ⟦<Metric<H, X> as EncodeMetric>⟧.may_fault m)
-        (order b)
-        → Any (OwnFault k X.offers X.stamps X.may_fault) (order b) }
+        (order b))
+        → HasOwnFault k X.offers X.stamps X.may_fault t }
 {}

@@ -69,6 +69,9 @@ pub returns-clause-types : goal.returns-clause-types
 returns-clause-types g c m t is = own_type g m t is
 
 pub returns-clause-faults : goal.returns-clause-faults
-returns-clause-faults g c k t b =
-    fault_of_fitting k (offers g) (stamps g) (may_fault g) (OwnFault k g.X.EncodeMetric.offers g.X.EncodeMetric.stamps g.X.EncodeMetric.may_fault) Fits
-    (λ l listable fit. by_kind g k _ l.labels listable.labels l.registration.metric_type l.registration.metric fit.0 fit.1) t b
+returns-clause-faults g c k t sound faults = record {
+  history = sound.history;
+  shown = sound.reads.shows;
+  fault = λ b shows. fault_of_fitting k (offers g) (stamps g) (may_fault g) (OwnFault k g.X.EncodeMetric.offers g.X.EncodeMetric.stamps g.X.EncodeMetric.may_fault) Fits
+      (λ l listable fit. by_kind g k _ l.labels listable.labels l.registration.metric_type l.registration.metric fit.0 fit.1) t b sound shows (faults b shows);
+}
