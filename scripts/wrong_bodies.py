@@ -342,7 +342,12 @@ def work(left, crates, run, waits, lock, counts):
         if not crate:
             time.sleep(1)
             continue
-        answers = crate.tried(crates, run) if crate.name in run.proved else [(it, None) for it in listed(crate, "wrong_bodies")]
+        answers = [(it, None) for it in listed(crate, "wrong_bodies")]
+        try:
+            answers = crate.tried(crates, run) if crate.name in run.proved else answers
+        except (OSError, SystemExit) as error:
+            # Such as a line that names a proof that isn't there: then none of the crate's bodies was tried.
+            print(f"wrong bodies of {crate.name}: {error}", flush=True)
         with lock:
             for wrong, found in answers:
                 counts[found is not None and found[0] < 2] += 1
