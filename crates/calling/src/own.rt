@@ -68,7 +68,7 @@ pub struct Sizes<H: Wait> {
 
 impl<H: Wait + Copy + Drop> MetricFactory<Histogram<H>> for Sizes<H> {
     fn new_metric(&self) -> Result<Histogram<H>, MetricError> {
-        let bounds = [1, 16, 256].map(|size| Fixed::from_millionths(1_000_000 * size));
+        let bounds = [1_000_000, 16_000_000, 256_000_000].map(Fixed::from_millionths);
         Histogram::new(self.wait, self.alloc, bounds.into_iter())
     }
 }

@@ -92,11 +92,10 @@ impl<M> VecMembers<M> {
     pub fn get(&self, values: &[&str]) -> Option<&M>
         ensures { option_copied result ≡ lookup (values_eq (shown_texts values.now)) self.now.entries }
     {
-        let mut short = ShortValues::new();
-        if short.hold(values) {
-            return self.members.get(SoughtBlock { values: &short });
+        match &ShortValues::new(values) {
+            Some(short) => self.members.get(SoughtBlock { values: short }),
+            None => self.members.get(SoughtValues { values }),
         }
-        self.members.get(SoughtValues { values })
     }
 
     // The index of the metric of these values, if there is one.
@@ -195,8 +194,7 @@ impl<M: Drop> VecMembers<M> {
         if self.len() >= self.limit {
             return Err(MetricError::TooManyMembers);
         }
-        let key = LabelValues::new(alloc, values)?;
-        self.add(key, metric)?;
+        self.add(LabelValues::new(alloc, values)?, metric)?;
         Ok(true)
     }
 

@@ -1,5 +1,5 @@
 // Short values of labels, in one block: they are hashed and compared as one piece.
-ghost use Rattle.std.specs.Prelude.{◌≡◌, ◌<◌, [], length, IsTrue, IsFalse};
+ghost use Rattle.std.specs.Prelude.{◌≡◌, ◌<◌, [], length, MatchOption};
 ghost use Rattle.std.specs.Str.{bytes_eq};
 ghost use Rattle.std.proofs.Common.{ap};
 ghost use Rattle.std.specs.Cmp.{partial_equiv_from_equiv};
@@ -37,32 +37,15 @@ impl Model for ShortValues {
 }
 
 impl ShortValues {
-    /// No values. It takes no memory.
-    pub fn new() -> ShortValues
-        ensures { result ≡ [] }
+    /// These values, or `None` if they take more bytes. It takes no memory.
+    pub fn new(values: &[&str]) -> Option<ShortValues>
+        ensures { MatchOption result (64 < length (joined (shown_texts values.now)))
+            (λ short. short ≡ joined (shown_texts values.now)) }
     {
-        ShortValues {
-            block: [0; 64],
-            used: 0,
-        }
-    }
-
-    /// Takes these values, where it has none, and returns whether they are so short: else it still has none. It takes no memory.
-    pub fn hold(&mut self, values: &[&str]) -> bool
-        requires none { self.old ≡ [] }
-        ensures held { IsTrue result → self.new ≡ joined (shown_texts values.now) }
-        ensures long { IsFalse result → 64 < length (joined (shown_texts values.now)) }
-    {
-        match fill(&mut self.block, values) {
-            Some(used) => {
-                self.used = used;
-                true
-            }
-            None => {
-                self.block = [0; 64];
-                self.used = 0;
-                false
-            }
+        let mut block = [0; 64];
+        match fill(&mut block, values) {
+            Some(used) => Some(ShortValues { block, used }),
+            None => None,
         }
     }
 
