@@ -1,9 +1,10 @@
 #!/usr/bin/env bash
 # Tries the server of examples/server with a real Prometheus: sends it 2,000 requests while Prometheus scrapes it each second,
-# and compares what both say of its metrics. Prints a line for each comparison. Its last line says whether all is well; its
-# status is then 0, else 1. It is no part of the gate.
+# and compares what both say of its metrics; then scrapes it beside clients that are silent or slow. Prints a line for each
+# comparison. Its last line says whether all is well; its status is then 0, else 1. It is no part of the gate.
 #
 #   scripts/try_server.sh [REQUESTS]       at least 100
+#   scripts/try_server.sh --prove          proves the server by `rt ci` instead, and the library under the server's HANDLES
 #
 # The server is compiled with run-time checks by `rt try`, in a scratch folder with copies of the library's crates, and not
 # proved. Where no `prometheus` is installed, its part is left out with a line that begins with SKIP. All listen on the loopback
@@ -108,6 +109,10 @@ end_server() {
 }
 
 lay_out "$scratch/repository"
+if [[ $requests == --prove ]]; then
+    (cd "$scratch/repository" && rt ci web_server) | tail -n 1
+    exit "${PIPESTATUS[0]}"
+fi
 read -r port its_port < <(free_ports)
 start_server
 scrapers=alone
@@ -130,5 +135,6 @@ if [[ $prometheus ]]; then
     kill "$prometheus" && wait "$prometheus"
     prometheus=''
 fi
+python3 "$example/slow.py" "$port" 8 || fail "a scrape waited for another client"
 end_server
 echo "all is well: $requests requests were answered and counted"
