@@ -6,7 +6,7 @@
 #   scripts/try_server.sh [REQUESTS]       at least 100
 #   scripts/try_server.sh --prove          proves the server by `rt ci` instead, and the library under the server's HANDLES
 #
-# The server is compiled with run-time checks by `rt try`, in a scratch folder with copies of the library's crates, and not
+# The server is compiled with run-time checks by `rt try`, in a scratch folder with copies of the library's crates, and else not
 # proved. Where no `prometheus` is installed, its part is left out with a line that begins with SKIP. All listen on the loopback
 # address alone.
 set -u
