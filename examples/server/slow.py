@@ -3,7 +3,8 @@
 
 usage: slow.py PORT SECONDS
 
-Fifty clients connect and send nothing, five send a byte of a request a second, five send a request and read nothing of the response.
+Three hundred clients, more than the server keeps, connect and send nothing; five send a byte of a request a second; five send a
+request and read nothing of the response.
 It scrapes twice a second, and prints how many scrapes there were and how long the longest took. Its status is 1 where one took more
 than a second, or had no whole document.
 """
@@ -32,7 +33,7 @@ def send_byte(connection, number):
 
 def main():
     port, seconds = int(sys.argv[1]), int(sys.argv[2])
-    others = [connected(port) for _ in range(50)]
+    others = [connected(port) for _ in range(300)]
     slow = [connected(port) for _ in range(5)]
     for _ in range(5):
         others.append(connected(port))
