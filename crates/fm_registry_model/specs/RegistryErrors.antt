@@ -1,5 +1,7 @@
--- The numbers of the errors.
-use Rattle.std.specs.Prelude.{ℕ}
+-- The numbers of the errors, and their texts.
+use Rattle.std.specs.Prelude.{ℕ, Option, Some, None}
+use Rattle.std.specs.String.{string_bytes}
+use Rattle.fm_grammar.specs.Exposition.{Text}
 use Rattle.fm_registry_model.specs.declared.RegistryError.{RegistryError}
 use Rattle.fm_registry_model.specs.declared.RegistryError.TheVariants.{InvalidNameFormat, MustHaveAnEmptyUnitString, OtherUnitFormatMustBeLowercase, AlreadyExists, Memory, InvalidNamespace, InvalidSubsystemName, InvalidLabelName, DuplicateLabel, NoSuchSubsystem, TooDeep, NameTaken, ReservedLabel, NoRandomKeys}
 
@@ -19,3 +21,20 @@ error_number (TooDeep name) = 11
 error_number (NameTaken name) = 12
 error_number (ReservedLabel name) = 13
 error_number NoRandomKeys = 14
+
+-- the name, or the unit, that was refused
+abbrev pub error_text : RegistryError → Option Text
+error_text (InvalidNameFormat name) = Some (string_bytes name)
+error_text (MustHaveAnEmptyUnitString name) = Some (string_bytes name)
+error_text (OtherUnitFormatMustBeLowercase unit) = Some (string_bytes unit)
+error_text (AlreadyExists name) = Some (string_bytes name)
+error_text Memory = None
+error_text (InvalidNamespace namespace) = Some (string_bytes namespace)
+error_text (InvalidSubsystemName name) = Some (string_bytes name)
+error_text (InvalidLabelName name) = Some (string_bytes name)
+error_text (DuplicateLabel name) = Some (string_bytes name)
+error_text (NoSuchSubsystem name) = Some (string_bytes name)
+error_text (TooDeep name) = Some (string_bytes name)
+error_text (NameTaken name) = Some (string_bytes name)
+error_text (ReservedLabel name) = Some (string_bytes name)
+error_text NoRandomKeys = None

@@ -3,7 +3,8 @@
 #![tactic(auto)]
 
 ghost use Rattle.std.specs.Prelude.{◌≡◌};
-ghost use Rattle.fm_registry_model.specs.RegistryErrors.{error_number};
+ghost use Rattle.std.specs.Option.{option_map};
+ghost use Rattle.fm_registry_model.specs.RegistryErrors.{error_number, error_text};
 ghost use Rattle.fm_registry_model.specs.declared.RegistryError.TheVariants.{Memory};
 
 pub mod label_names;
@@ -82,6 +83,28 @@ impl RegistryError {
             RegistryError::NameTaken { .. } => 12,
             RegistryError::ReservedLabel { .. } => 13,
             RegistryError::NoRandomKeys => 14,
+        }
+    }
+
+    /// The name, or the unit, that was refused, which most kinds don't display; of a label the label's own name. `None` for `Memory` and
+    /// `NoRandomKeys`.
+    pub fn refused_text(&self) -> Option<&str>
+        ensures { option_map (λ text. text.now) result ≡ error_text self.now }
+    {
+        match self {
+            RegistryError::InvalidNameFormat { name }
+            | RegistryError::MustHaveAnEmptyUnitString { name }
+            | RegistryError::OtherUnitFormatMustBeLowercase { unit: name }
+            | RegistryError::AlreadyExists { name }
+            | RegistryError::InvalidNamespace { namespace: name }
+            | RegistryError::InvalidSubsystemName { name }
+            | RegistryError::InvalidLabelName { name }
+            | RegistryError::DuplicateLabel { name }
+            | RegistryError::NoSuchSubsystem { name }
+            | RegistryError::TooDeep { name }
+            | RegistryError::NameTaken { name }
+            | RegistryError::ReservedLabel { name } => Some(name.as_str()),
+            RegistryError::Memory | RegistryError::NoRandomKeys => None,
         }
     }
 }
