@@ -18,16 +18,29 @@ import urllib.request
 DOCUMENT_TYPE = "application/openmetrics-text; version=1.0.0; charset=utf-8"
 SAMPLE = re.compile(r"(\w+)(?:\{(.*)\})? (\S+)")
 LABEL = re.compile(r'(\w+)="([^"]*)"')
-# The family, its type and its unit.
+# The family, its type, its unit and its labels.
 METADATA = [
-    ("example_build", "info", ""),
-    ("example_start_time_seconds", "gauge", "seconds"),
-    ("example_connections", "counter", ""),
-    ("example_jobs", "counter", ""),
-    ("example_in_flight", "gauge", ""),
-    ("example_requests", "counter", ""),
-    ("example_latency_seconds", "histogram", "seconds"),
+    ("example_build", "info", "", ["version"]),
+    ("example_start_time_seconds", "gauge", "seconds", []),
+    ("example_connections", "counter", "", []),
+    ("example_jobs", "counter", "", []),
+    ("example_in_flight", "gauge", "", []),
+    ("example_requests", "counter", "", ["code", "method"]),
+    ("example_latency_seconds", "histogram", "seconds", ["path"]),
 ]
+# What the names of a type's samples end with, and the labels that the sample has beside those of its family.
+SUFFIXES = {
+    "counter": {"_total": []},
+    "gauge": {"": []},
+    "histogram": {"_bucket": ["le"], "_count": [], "_sum": []},
+    "info": {"_info": []},
+}
+# The names of all samples, and their labels.
+SAMPLE_LABELS = {
+    name + suffix: sorted(labels + more)
+    for name, kind, _, labels in METADATA
+    for suffix, more in SUFFIXES[kind].items()
+}
 differing = 0
 
 
@@ -111,6 +124,18 @@ def quantile(q, document):
     return below + (bound - below) * (rank - before) / (count - before)
 
 
+def compare_names(document):
+    """Compares the names of samples and of their labels with the table."""
+    labels_of = {}
+    for name, labels in document:
+        names = sorted(label for label, _ in labels)
+        if names not in labels_of.setdefault(name, []):
+            labels_of[name].append(names)
+    for name in sorted(SAMPLE_LABELS.keys() | labels_of.keys()):
+        wanted = [SAMPLE_LABELS[name]] if name in SAMPLE_LABELS else []
+        compare(f"labels of {name}", wanted, labels_of.get(name, []))
+
+
 def compare_document(counts, headers, file, alone):
     """Compares a document that curl received."""
     with open(headers) as lines:
@@ -121,6 +146,7 @@ def compare_document(counts, headers, file, alone):
     compare("content length", str(len(body)), said.get("Content-Length"))
     compare("last line", b"# EOF\n", body.splitlines(keepends=True)[-1])
     document, wanted = read_document(file), by_labels(counts)
+    compare_names(document)
     for key in wanted:
         if key not in SCRAPED:
             compare(text(key), wanted[key], int(document.get(key, -1)))
@@ -209,7 +235,7 @@ def compare_prometheus(counts, file, port, not_before):
     total = "example_latency_seconds_sum", frozenset([("path", "/work")])
     compare(text(total), document[total], prometheus.value(text(total)))
     metadata = prometheus.get("metadata")
-    for name, kind, unit in METADATA:
+    for name, kind, unit, _ in METADATA:
         found = [(it["type"], it["unit"]) for it in metadata.get(name, [])]
         compare(f"type and unit of {name}", [(kind, unit)], found)
     print(f"scrapes by Prometheus: {begun}, of which {succeeded} succeeded")
