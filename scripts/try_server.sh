@@ -1,7 +1,8 @@
 #!/usr/bin/env bash
-# Tries the server of examples/server with a real Prometheus: sends it 2,000 requests while Prometheus scrapes it each second,
-# and compares what both say of its metrics; then scrapes it beside clients that are silent or slow. Prints a line for each
-# comparison. Its last line says whether all is well; its status is then 0, else 1. It is no part of the gate.
+# Tries the server of examples/server with a real Prometheus: sends it 2,000
+# requests while Prometheus scrapes it each second by prometheus.yml, and compares what both say of its metrics; then scrapes it
+# beside clients that are silent or slow. Prints a line for each comparison. Its last line says whether all is well; its status is
+# then 0, else 1. It is no part of the gate.
 #
 #   scripts/try_server.sh [REQUESTS]       at least 100
 #   scripts/try_server.sh --prove          proves the server by `rt ci` instead, and the library under the server's HANDLES
@@ -77,14 +78,9 @@ start_server() {
 }
 
 start_prometheus() {
-    cat >"$scratch/prometheus.yml" <<YAML
-global:
-  scrape_interval: 1s
-scrape_configs:
-  - job_name: example
-    static_configs:
-      - targets: ["127.0.0.1:$port"]
-YAML
+    cp "$example/alerts.yml" "$scratch/"
+    sed -e 's/_interval: .*/_interval: 1s/' -e "s/127\.0\.0\.1:[0-9]*/127.0.0.1:$port/" \
+        "$example/prometheus.yml" >"$scratch/prometheus.yml"
     prometheus --config.file="$scratch/prometheus.yml" --storage.tsdb.path="$scratch/data" \
         --web.listen-address="127.0.0.1:$its_port" --log.level=warn >"$scratch/prometheus" 2>&1 &
     prometheus=$!
