@@ -1,5 +1,5 @@
 #!/usr/bin/env bash
-# Tries the server of examples/server with a real Prometheus: sends it 2,000
+# Tries the server of examples/server with a real Prometheus: tests the alerts and the dashboard by names.py, sends the server 2,000
 # requests while Prometheus scrapes it each second by prometheus.yml, and compares what both say of its metrics; then scrapes it
 # beside clients that are silent or slow. Prints a line for each comparison. Its last line says whether all is well; its status is
 # then 0, else 1. It is no part of the gate.
@@ -109,6 +109,7 @@ if [[ $requests == --prove ]]; then
     (cd "$scratch/repository" && rt ci web_server) | tail -n 1
     exit "${PIPESTATUS[0]}"
 fi
+python3 "$example/names.py" || fail "the alerts or the dashboard don't fit the server"
 read -r port its_port < <(free_ports)
 start_server
 scrapers=alone
