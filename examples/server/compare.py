@@ -9,12 +9,14 @@ status is 1 where one differs.
 """
 
 import json
+import os
 import re
 import sys
 import time
 import urllib.parse
 import urllib.request
 
+HERE = os.path.dirname(os.path.abspath(__file__))
 DOCUMENT_TYPE = "application/openmetrics-text; version=1.0.0; charset=utf-8"
 SAMPLE = re.compile(r"(\w+)(?:\{(.*)\})? (\S+)")
 LABEL = re.compile(r'(\w+)="([^"]*)"')
@@ -185,6 +187,7 @@ class Prometheus:
 
     def wait_after(self, not_before):
         """Waits for a scrape that began after a time and succeeded as those before it, and asks about its moment from then on."""
+        self.moment = None
         for _ in range(240):
             found = self.samples("timestamp(up) and min_over_time(up[3s]) == 1")
             if found and float(found[0]["value"][1]) > not_before:
@@ -216,6 +219,21 @@ def compare_totals(prometheus, counts):
     compare("requests that are served now", 1, prometheus.whole("example_in_flight"))
 
 
+def compare_shown(prometheus):
+    """Compares what the dashboard and the alerts find: each expression of a panel gives samples, and each alert is evaluated."""
+    with open(os.path.join(HERE, "dashboard.json")) as file:
+        panels = json.load(file)["panels"]
+    # A rate is of two scrapes at least.
+    prometheus.wait_after(float(prometheus.moment) + 2)
+    for query in (target["expr"] for panel in panels for target in panel["targets"]):
+        query = query.replace("$__rate_interval", "1m")
+        compare(f"there are samples of {query}", True, bool(prometheus.samples(query)))
+    with open(os.path.join(HERE, "alerts.yml")) as file:
+        alerts = re.findall(r"- alert: (\w+)", file.read())
+    rules = [rule for group in prometheus.get("rules")["groups"] for rule in group["rules"]]
+    compare("alerts that are evaluated", alerts, [rule["name"] for rule in rules if rule["health"] == "ok"])
+
+
 def compare_prometheus(counts, file, port, not_before):
     """Compares what a Prometheus has of the last scrape."""
     prometheus, document = Prometheus(port), read_document(file)
@@ -238,6 +256,7 @@ def compare_prometheus(counts, file, port, not_before):
     for name, kind, unit, _ in METADATA:
         found = [(it["type"], it["unit"]) for it in metadata.get(name, [])]
         compare(f"type and unit of {name}", [(kind, unit)], found)
+    compare_shown(prometheus)
     print(f"scrapes by Prometheus: {begun}, of which {succeeded} succeeded")
 
 
