@@ -3,8 +3,8 @@
 # than 130 columns. The fenced block after a line
 # `<!-- cut: FILE -->` is that file, whole; after a line `<!-- cut: FILE | FIRST | LAST -->` it is the part from the line that begins
 # with FIRST to the next one that ends with LAST, without the indentation of its first line; a LAST of `}` is one that stands no
-# deeper than that first line. Fails where they differ, where a file has no such part, and where a block of code names no file. With
-# --write it puts the files' text there.
+# deeper than that first line. The block after a line `<!-- calls: .. -->` is that of scripts/public.py, which compares it. Fails where
+# they differ, where a file has no such part, and where a block of code names no file. With --write it puts the files' text there.
 set -eu
 cd "$(dirname "$0")/.."
 
@@ -19,11 +19,12 @@ cut_again() {
             parts = split(substr($0, 11, length($0) - 14), part, " [|] ")
             file = part[1]
         }
+        /^<!-- calls: .* -->$/ { calls = FNR }
         in_block && /^```$/ { in_block = 0; print; next }
         in_block == 2 { next }
         { print }
         !in_block && /^```/ {
-            if (file == "" && /^```rust/) fail("the code is cut from no file")
+            if (file == "" && /^```rust/ && FNR != calls + 1) fail("the code is cut from no file")
             in_block = file == "" ? 1 : 2
             if (file == "") next
             began = ended = parts == 1

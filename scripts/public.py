@@ -1,0 +1,345 @@
+#!/usr/bin/env python3
+"""Compares what two pages have of the library's public names and calls with the sources, or writes it, and finds public calls that nothing makes.
+
+    scripts/public.py [--write]
+
+A name is public if `fastmetrics` has it, by itself or in a module that it re-exports. A public call is a public function, a `pub fn` of a public type, or a
+function of a public trait. Looked at are
+
+- the list of public names in docs/ARCHITECTURE.md, by the crate that declares them;
+- the blocks of docs/CALLS.md, each after a line `<!-- calls: MODULE .. -->`: the `use` lines of these modules of `fastmetrics`, and the signatures of what they
+  have. A name that several modules have stands in the first block alone. The block of `std` has the `use` lines of its names in all others;
+- the text of docs/CALLS.md, which names each public name and call; one is enough of those with a unit, with a description, and for each whole number;
+- the tests, the programs, and the one that replays scripts: one of their files makes each public call, and names its type.
+
+--write renews the list and the blocks. Prints a line for each difference; the status is 0 if there is none.
+"""
+import difflib
+import re
+import sys
+import textwrap
+from collections import namedtuple
+from fnmatch import fnmatchcase
+from functools import cache
+from pathlib import Path
+
+TOP = Path(__file__).resolve().parent.parent
+LIST, PAGE = TOP / "docs/ARCHITECTURE.md", TOP / "docs/CALLS.md"
+LISTED = re.compile(r"(?<=Every public name stands in the crate that declares it:\n\n```text\n).*?(?=```\n)", re.S)
+BLOCK = re.compile(r"(?<=^<!-- calls: )([\w: ]+)( -->\n```rust\n)(.*?)(?=^```\n)", re.M | re.S)
+TICKED = re.compile(r"(?<!`)(`+)(?!`)(.+?)(?<!`)\1(?!`)", re.S)
+WIDTH = 130
+
+# Traits that a block shows at each type that has them.
+TRAITS = {"TryDefault", "Default", "Iterator", "Deref"}
+# The head of a file whose calls are for other crates of the library alone, and functions for these that stand beside public ones.
+INTERNAL = re.compile(r"//! What .* call[^\n]*, and no ")
+HIDDEN = {"encode_all", "encode_written", "whole_millis"}
+# Calls of which docs/CALLS.md names one.
+TOGETHER = re.compile(r"\w+_with_unit|\w*(counter|gauge|histogram)s?_with|encode_[iu](\d+|size)(_value)?")
+# Made by the library itself, so that tests see what they do by what calls them: by `collect`, `encode` and families, by roots, by `find_bucket` and
+# `observe_all`, and by the label values of each type.
+INSIDE = """
+    Registry::listing Registry::metric_* Registry::at Registry::run_call FamilyCore::* Collected::names Collector::* Holds::* Made::* MetricFamilyEncoder::*
+    Encode*Value::encode EncodeLabelName::encode ValueEncoder::* LabelEncoder::encode_*_value LabelSetEncoder::encode_named LabelValues::a* StateSetValue::*
+    ExemplarLabels::are_taken Exemplar::* Info::get Metadata::* Probe::* Gate::*
+""".split()
+# Looked for by the name of the call alone: the first are made where their type isn't named, the last three are made by no test.
+ALIKE = "RegistrySubsystemBuilder::* ConstCounter::created ConstGauge::get Subsystem::name".split()
+
+KINDS = "struct|enum|trait|const fn|fn|const|type"
+# Where the head of an item ends: before its body, its clauses, or a semicolon.
+END = r"(?=\s*\{\}?$|;$|\s*\n\s+(?:requires|ensures|ghost)\b)"
+REEXPORT = re.compile(r"^ *pub use (\w+)((?:::\w+)*)(?:::\{([^}]*)\})?(?: as (\w+))?;", re.M)
+OF_STD = re.compile(r"^use (std(?:::[a-z_]+)*)::(?:\{([^}]*)\}|(\w+));", re.M)
+CALLED = re.compile(r"\b(\w+)(?:::<[^()]*?>)?\s*\(|::(\w+)\b")
+# What stays in one line where a signature is wrapped.
+WHOLE = re.compile(r"<[^<>:]*>|\[[^\[\]]*\]|\w \{ [^{}]{,60} \}|'\w+ |\w: |-> |mut |for |dyn ")
+# A public declaration, or an `impl`: its head in one line, and what stands below it.
+Item = namedtuple("Item", "crate path kind name head body")
+
+
+@cache
+def source(path):
+    """A file without its comments and attributes."""
+    return re.sub(r"^\s*#!?\[.*\n|\s*//.*", "", path.read_text(), flags=re.M)
+
+
+@cache
+def libraries():
+    """The crates that `fastmetrics` is made of, in the order of crates.txt, and it, each with its files."""
+    crates = dict(re.findall(r"^(\w+)[^:\n]*:(.*)$", (TOP / "crates.txt").read_text(), re.M))
+    names = [it for it in crates if it in [*crates["fastmetrics"].split(), "fastmetrics"]]
+    return {it: sorted((TOP / "crates" / it).glob("src/**/*.rt")) for it in names}
+
+
+def joined(text):
+    """A text in one line, without `pub`, what only a body needs, and the value of a constant if it is no literal."""
+    text = re.sub(r"\bpub |\b(?:mut |_)(?=\w+: )", "", " ".join(text.split()))
+    text = re.sub(r"(?<=[(<\[]) |, (?=[)>\]])|,(?= \}|$)", "", text)
+    return re.sub(r'^(const \w+: [^=]*?) = (?!\d+$|"|true$|false$).*', r"\1", text)
+
+
+@cache
+def items():
+    """Each public declaration and each `impl` of the libraries, file by file."""
+    found = []
+    for crate, path in ((crate, path) for crate, paths in libraries().items() for path in paths if not INTERNAL.match(path.read_text())):
+        for text in re.split(r"^(?=[a-z])(?!where\b)", source(path), flags=re.M):
+            kind = re.match(rf"pub ({KINDS}) (\w+)|(impl)\b", text)
+            if kind:
+                head = re.match(rf".*?{END}", text, re.S | re.M)[0]
+                found.append(Item(crate, path, kind[1] or kind[3], kind[2], joined(head), text[len(head) :]))
+    return found
+
+
+def reexported(crate, text):
+    """Each name that a text re-exports, with its crate and its name there, which is empty for a crate."""
+    for first, path, listed, alias in REEXPORT.findall(text):
+        for name in (it.strip() for it in (listed or path.split("::")[-1]).split(",")):
+            if name or alias:
+                yield alias or name, first if first in libraries() else crate, name
+
+
+@cache
+def declaration(crate, name):
+    """The declaration of a name that a crate has, or None for a module."""
+    found = [it for it in items() if (it.crate, it.name) == (crate, name)]
+    if len(found) > 1:
+        sys.exit(f"{crate} declares {name} in {found[0].path} and in {found[1].path}: scripts/public.py can't tell them apart")
+    for other, home, its_name in () if found else (it for path in libraries()[crate] for it in reexported(crate, source(path))):
+        if other == name and home != crate:
+            found.append(declaration(home, its_name))
+    return next((it for it in found if it), None)
+
+
+def modules(path, crate, folder, text):
+    """A module and all that can be had from it, each by its path with its names and their declarations."""
+    own = re.sub(r"^pub mod \w+ \{\n.*?^\}", "", text, flags=re.M | re.S)
+    exports = list(reexported(crate, own))
+    names = {name: declaration(crate, name) for _, name in re.findall(rf"^pub ({KINDS}) (\w+)", own, re.M)}
+    names |= {name: declaration(home, its_name) for name, home, its_name in exports if its_name}
+    yield path, {name: it for name, it in names.items() if it and name not in HIDDEN}
+    for name, inner in re.findall(r"^pub mod (\w+)(?: \{\n(.*?)^\}|;)", text, re.M | re.S):
+        yield from modules(f"{path}::{name}", crate, folder / name, textwrap.dedent(inner) or source(folder / f"{name}.rt"))
+    for name, home, its_name in exports:
+        if home != crate and not names.get(name):
+            for other, found in from_root(home):
+                if f"{other}::".startswith(f"::{its_name}::" if its_name else ""):
+                    yield f"{path}::{name}{other.removeprefix(f'::{its_name}')}", found
+
+
+def from_root(crate):
+    folder = TOP / "crates" / crate / "src"
+    return modules("", crate, folder, source(folder / "lib.rt"))
+
+
+@cache
+def public():
+    """What each module of `fastmetrics` has, by its path: each name with its declaration."""
+    return {path.removeprefix("::"): names for path, names in from_root("fastmetrics")}
+
+
+def meant(item):
+    """The type that a type alias stands for in the end, or what else is declared."""
+    other = item.kind == "type" and declaration(item.crate, re.search(r" = (\w+)", item.head)[1])
+    return meant(other) if other else item
+
+
+@cache
+def by_meaning():
+    """The public declarations, those of the same type together."""
+    found = {}
+    for item in dict.fromkeys(it for names in public().values() for it in names.values()):
+        found.setdefault(meant(item), []).append(item)
+    return found
+
+
+def parts(item):
+    """The generic parameters, the trait and the type of an `impl`."""
+    text, depth = item.head.removeprefix("impl"), 0
+    for at, sign in enumerate(text):
+        depth += (sign == "<") - (sign == ">" and text[at - 1] != "-")
+        if depth == 0:
+            break
+    trait, _, type_ = text[at + 1 :].strip().rpartition(" for ")
+    return text[: at + 1], trait, type_
+
+
+def first_word(text):
+    return re.match(r"\W*(\w*)", text)[1]
+
+
+@cache
+def implementations():
+    """The `impl` blocks of each type, those beside its declaration first, and those of each trait, by its name."""
+    of_types, of_traits = {}, {}
+    for item in (it for it in items() if it.kind == "impl"):
+        _, trait, type_ = parts(item)
+        its = declaration(item.crate, first_word(type_))
+        of_types.setdefault(its and meant(its), []).append(item)
+        of_traits.setdefault(first_word(trait), []).append(item)
+    return {it: sorted(found, key=lambda other: not it or other.path != it.path) for it, found in of_types.items()}, of_traits
+
+
+def members(item):
+    """What a trait has, or what is public in an `impl`, each in one line."""
+    for text in re.split(r"^(?=    (?:pub |const |fn |type |ghost ))", item.body.rstrip()[:-1], flags=re.M):
+        found = re.match(rf"    {'' if item.kind == 'trait' else 'pub '}(?:const )?(?:fn|const|type) .*?{END}", text, re.S | re.M)
+        if found:
+            is_given = item.kind == "trait" and text.rstrip().endswith("}")
+            yield joined(found[0]) + (" { .. }" if is_given else "")
+
+
+def declared_as(item):
+    """A declaration in one line, with its variants or public fields."""
+    if item.kind == "enum":
+        return f"{item.head} {joined(re.sub(r' = [0-9]+(?=,)', '', item.body))}"
+    fields = re.findall(r"^    pub (\w+: .*?),$", item.body, re.M | re.S) if item.kind == "struct" else []
+    return item.head + (f" {{ {', '.join(map(joined, fields))} }}" if fields else "")
+
+
+def of_trait(item):
+    """The lines on which types have a trait. Private ones are left out."""
+    private = {it for paths in libraries().values() for path in paths for it in re.findall(r"^(?:struct|enum) (\w+)", source(path), re.M)}
+    by_trait = {}
+    for it in implementations()[1].get(item.name, []):
+        generics, trait, type_ = parts(it)
+        if re.search(rf"[<,] ?{re.escape(type_)}[:,>]", generics):
+            yield it.head
+        elif first_word(type_) not in private:
+            by_trait.setdefault(trait, []).append(type_)
+    for trait, types in by_trait.items():
+        if len(types) > 1 or "<" not in trait:
+            yield f"impl {trait} for {', '.join(types)}"
+
+
+def group(type_, its):
+    """The lines of declarations that mean the same type, and of what it has, if its declaration is among them or has no path."""
+    heads = {}
+    for it in implementations()[0].get(type_, []) if type_ in its or type_ not in by_meaning()[type_] else []:
+        trait, found = parts(it)[1], list(members(it))
+        if first_word(trait) in TRAITS or found and not trait:
+            heads.setdefault(it.head, []).extend([] if trait else found)
+    for it in its:
+        line = declared_as(it)
+        if it.kind != "struct" or not heads or re.search(r" [={] |\(", line):
+            yield line
+        if it.kind == "trait":
+            yield from (*(f"    {member}" for member in members(it)), *of_trait(it))
+    for head, found in heads.items():
+        yield from (head, *(f"    {member}" for member in found))
+
+
+def wrapped(line):
+    """A line, in several if it is too long."""
+    text, indent = WHOLE.sub(lambda it: it[0].replace(" ", "\0"), line), " " * (len(line) - len(line.lstrip()) + 8)
+    lines = textwrap.wrap(text, WIDTH, subsequent_indent=indent, break_long_words=False, break_on_hyphens=False)
+    return "\n".join(lines).replace("\0", " ") + "\n"
+
+
+def use_line(path, names):
+    listed = ", ".join(sorted(names))
+    return wrapped(f"use {path}::{{{listed}}};" if len(names) > 1 else f"use {path}::{listed};")
+
+
+def block(paths, shown):
+    """The block of these modules, without what was shown before."""
+    uses, groups = "", {}
+    for path in paths:
+        found = {name: it for name, it in public()[path].items() if it not in shown}
+        shown |= set(found.values())
+        uses += use_line(f"fastmetrics::{path}", found)
+        for _, it in sorted(found.items()):
+            groups.setdefault(meant(it), []).append(it)
+    return uses + "\n" + "".join(wrapped(line) for type_, its in groups.items() for line in group(type_, its))
+
+
+def std_block(text):
+    """The `use` lines of std's names that a text has."""
+    words, found = set(re.findall(r"\b[A-Z]\w*|\bio\b", text)) - {name for names in public().values() for name in names}, {}
+    for path in (path for paths in libraries().values() for path in paths):
+        for module, listed, single in OF_STD.findall(source(path)):
+            found.setdefault(module, set()).update({it.strip() for it in (listed or single).split(",")} & words)
+    return "".join(use_line(module, names) for module, names in sorted(found.items()) if names)
+
+
+def with_blocks(text, shown):
+    """The page with its blocks as they should be."""
+
+    def filled(found):
+        paths = found[1].split()
+        for path in set(paths) - {"std", *public()}:
+            sys.exit(f"docs/CALLS.md: fastmetrics has no module {path}")
+        return found[1] + found[2] + (found[3] if paths == ["std"] else block(paths, shown))
+
+    text = BLOCK.sub(filled, text)
+    others = "".join(it[3] for it in BLOCK.finditer(text) if it[1] != "std")
+    return BLOCK.sub(lambda it: it[1] + it[2] + (std_block(others) if it[1] == "std" else it[3]), text)
+
+
+def by_crate():
+    """The list of public names by the crate that declares them."""
+    lines = []
+    for crate in libraries():
+        names = sorted({it.name for its in by_meaning().values() for it in its if it.crate == crate}, key=lambda it: (it.lower(), it))
+        if names:
+            lines += textwrap.wrap(f"{crate + ':':19} {' '.join(names)}", WIDTH, subsequent_indent=" " * 20, break_long_words=False)
+    return "\n".join(lines) + "\n"
+
+
+def calls():
+    """Each public call, as `TYPE::CALL` or as the name of a function, with the names of its type, and its file."""
+    for type_, its in by_meaning().items():
+        if type_.kind.endswith("fn"):
+            yield type_.name, set(), type_.path
+        for it in [type_] if type_.kind == "trait" else [it for it in implementations()[0].get(type_, []) if not parts(it)[1]]:
+            for found in re.finditer(r"^(?:const )?fn (\w+)", "\n".join(members(it)), re.M):
+                yield f"{type_.name}::{found[1]}", {type_.name, *(it.name for it in its)}, it.path
+
+
+def unnamed(text):
+    """The public names and calls that the page's own text doesn't name."""
+    prose = re.sub(r"^```.*?^```$", "", text, flags=re.M | re.S)
+    words = {word for _, ticked in TICKED.findall(prose) for word in re.findall(r"\w+", ticked)}
+    names = {it.name: it.path for its in by_meaning().values() for it in its} | {call.split("::")[-1]: path for call, _, path in calls()}
+    for name, path in names.items():
+        if name not in words and not TOGETHER.fullmatch(name):
+            yield f"docs/CALLS.md doesn't name {name}: {path.relative_to(TOP)}"
+
+
+def uncalled():
+    """The public calls that nothing makes."""
+    files = []
+    for path in [*TOP.glob("crates/*/src/**/*.rt"), *TOP.glob("bench/replay/src/**/*.rt.in"), *TOP.glob("bench/tests/src/**/*.rt.in")]:
+        made = {first or second for first, second in CALLED.findall(re.sub(r"\bfn \w+", "", source(path)))}
+        files.append((path.relative_to(TOP).parts[1] in libraries(), made, set(re.findall(r"\w+", source(path)))))
+    for call, names, path in calls():
+        is_inside, is_alike = (any(fnmatchcase(call, it) for it in listed) for listed in (INSIDE, ALIKE))
+        makers = [words for is_library, made, words in files if call.split("::")[-1] in made and (is_inside or not is_library)]
+        if not any(is_alike or not names or names & words for words in makers):
+            yield f"no test and no program calls {call}: {path.relative_to(TOP)}"
+    for it in (*INSIDE, *ALIKE):
+        if not any(fnmatchcase(call, it) for call, _, _ in calls()):
+            yield f"there is no public call {it}, which scripts/public.py lists"
+
+
+def main():
+    shown, wrong = set(), []
+    for path, renewed in (LIST, lambda text: LISTED.sub(lambda _: by_crate(), text)), (PAGE, lambda text: with_blocks(text, shown)):
+        text, name = path.read_text(), str(path.relative_to(TOP))
+        fresh = renewed(text)
+        if "--write" in sys.argv[1:]:
+            path.write_text(fresh)
+        elif fresh != text:
+            wrong += difflib.unified_diff(text.split("\n"), fresh.split("\n"), name, "sources", n=0, lineterm="")
+            wrong.append(f"{name} differs from the sources (scripts/public.py --write mends it)")
+    wrong += [f"no block of docs/CALLS.md has {it.name}: {it.path.relative_to(TOP)}" for its in by_meaning().values() for it in its if it not in shown]
+    wrong += [] if LISTED.search(LIST.read_text()) else ["docs/ARCHITECTURE.md has no list of public names"]
+    wrong += [*unnamed(PAGE.read_text()), *uncalled()]
+    print("\n".join(wrong), end="\n" if wrong else "")
+    return 1 if wrong else 0
+
+
+if __name__ == "__main__":
+    sys.exit(main())
