@@ -103,3 +103,9 @@ module _ {H X : Type 0} where
     pub history : History (Metric H X)
     pub shown : Shows t history
     pub fault : (b : History (Metric H X)) → Shows t b → Any (OwnFault k Offers Stamps MayFault) (order b)
+
+  -- a metric of the program's own that is printed under this name has this fault, in each history that the tree shows
+  pub record HasOwnFaultNamed (name : Text) (k : EncodeError) (Offers : X → Option ℕ → List Member → Type 0) (Stamps : X → Option ℕ → Type 0) (MayFault : X → Type 0) (t : Tree (Metric H X)) : Type 0 where
+    pub history : History (Metric H X)
+    pub shown : Shows t history
+    pub fault : (b : History (Metric H X)) → Shows t b → Any (λ l. (name ≡ listed_name l) × OwnFault k Offers Stamps MayFault l) (order b)

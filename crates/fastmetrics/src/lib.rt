@@ -5,6 +5,7 @@
 //!   families of them, tallies.
 //! - [`registry`]: registries of metrics, with their subsystems.
 //! - [`format`]: `format::text::encode` writes a registry's document, and `format::text::read` reads one back.
+//! - [`lint`]: what a linter advises of metrics' names, units and helps.
 //! - [`encoder`]: what metrics, points and labels of your own implement.
 //! - [`raw`]: numbers, units and metadata.
 //! - [`process`]: processor time, memory, open files and start of the process, from the files of `/proc`.
@@ -14,7 +15,7 @@
 pub mod process;
 pub mod registry;
 
-pub use fm_core::{encoder, format};
+pub use fm_core::{encoder, format, lint};
 pub use fm_laws as laws;
 
 pub mod raw {

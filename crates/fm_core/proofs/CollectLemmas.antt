@@ -1,5 +1,5 @@
 -- One metric more in a collection.
-use Rattle.std.proofs.Common.{◌≡◌, ◌≢◌, ℕ, ◌<◌, ◌≤◌, ◌+◌, zero, suc, List, [], ◌∷◌, ◌++◌, map, Option, None, Some, Result, Ok, Err, MatchResult, IfOk, IfErr, ◌⊎◌, Bor, length, get_or, slice_get, take, inl, inr, refl, sym, ap, subst, ◌∙◌, append_assoc, append-nil, arith, true≢false, is_some}
+use Rattle.std.proofs.Common.{◌≡◌, ◌≢◌, ℕ, ◌<◌, ◌≤◌, ◌+◌, zero, suc, List, [], ◌∷◌, ◌++◌, map, Option, None, Some, Result, Ok, Err, MatchResult, OnOk, IfOk, IfErr, ◌⊎◌, Bor, length, get_or, slice_get, take, inl, inr, refl, sym, ap, subst, ◌∙◌, append_assoc, append-nil, arith, true≢false, is_some}
 use Rattle.std.specs.List.{AllByRecursion}
 use Rattle.std.specs.Option.{option_map}
 use Rattle.std.proofs.lemmas.List.{take_more, map-append}
@@ -23,7 +23,7 @@ use Rattle.fm_encoder.proofs.FaultLemmas.{MetricHasFault-not_writing}
 use Rattle.fm_core.specs.Seen.{listed_in}
 use Rattle.fm_core.proofs.ListingLemmas.{listed_in-push}
 use Rattle.fm_core.specs.Families.{Heading, FaultUnder}
-use Rattle.fm_core.specs.Admits.{Admits, AdmitsNext, FaultOf, Fault}
+use Rattle.fm_core.specs.Admits.{Admits, AdmitsNext, HoldsOfOne, Fault}
 use Rattle.fm_core.specs.inside.Documents.{AddsFamilies}
 
 all_left : {A : Type 0} (P : A → Type 0) (xs ys : List A) → AllByRecursion P (xs ++ ys) → AllByRecursion P xs
@@ -169,27 +169,38 @@ module _ {M : Type 0} where
       ∙ ap (λ (ms : List Text). befores ++ ms) (map-append listed_name (own_metrics r.now.facts) split.0) ∙ sym (append_assoc befores own rest) in
       families_differ Offers Stamps Empty (listed_in (take i registries)) e own admits (differ_left (befores ++ own) rest (subst AllDifferent parts differ))
 
-module _ {M : Type 0} (k : EncodeError) (Offers : M → Option ℕ → List Member → Type 0) (Stamps : M → Option ℕ → Type 0) (MayFault : M → Type 0) where
-  Fault-left : (ls ms : List (Listed M)) → Fault k Offers Stamps MayFault ls → Fault k Offers Stamps MayFault (ls ++ ms)
-  Fault-left [] ms never = absurd never
-  Fault-left (l ∷ ls) ms (inl fault) = inl fault
-  Fault-left (l ∷ ls) ms (inr fault) = inr (Fault-left ls ms fault)
+module _ {M : Type 0} (P : Listed M → Type 0) where
+  one-left : (ls ms : List (Listed M)) → HoldsOfOne P ls → HoldsOfOne P (ls ++ ms)
+  one-left [] ms never = absurd never
+  one-left (l ∷ ls) ms (inl here) = inl here
+  one-left (l ∷ ls) ms (inr later) = inr (one-left ls ms later)
 
-  Fault-right : (ls ms : List (Listed M)) → Fault k Offers Stamps MayFault ms → Fault k Offers Stamps MayFault (ls ++ ms)
-  Fault-right [] ms fault = fault
-  Fault-right (l ∷ ls) ms fault = inr (Fault-right ls ms fault)
+  one-right : (ls ms : List (Listed M)) → HoldsOfOne P ms → HoldsOfOne P (ls ++ ms)
+  one-right [] ms one = one
+  one-right (l ∷ ls) ms one = inr (one-right ls ms one)
 
-  -- a fault in one metric of a list
-  pub Fault-at : (ls : List (Listed M)) (i : ℕ) (l : Listed M) → slice_get ls i ≡ Some l → FaultOf k Offers Stamps MayFault l → Fault k Offers Stamps MayFault ls
-  Fault-at ls i l at fault =
+  -- it holds of the metric at an index of a list
+  pub one-at : (ls : List (Listed M)) (i : ℕ) (l : Listed M) → slice_get ls i ≡ Some l → P l → HoldsOfOne P ls
+  one-at ls i l at here =
       let split = split_at ls i l (slice_get_within ls i l at) (sym (get_or_from_slice_get ls i l l at)) in
-      subst (λ ms. Fault k Offers Stamps MayFault ms) (sym split.1) (Fault-right (take i ls) (l ∷ split.0) (inl fault))
+      subst (λ ms. HoldsOfOne P ms) (sym split.1) (one-right (take i ls) (l ∷ split.0) (inl here))
 
-  -- a fault in a metric of one registry
-  pub Fault-in : (registries : List (Bor (Tree M))) (i : ℕ) (r : Bor (Tree M)) → i < length registries → r ≡ get_or registries i r → Fault k Offers Stamps MayFault (own_metrics r.now.facts) → Fault k Offers Stamps MayFault (listed_in registries)
-  Fault-in registries i r within is fault =
+  -- it holds of a metric of one registry
+  pub one-in : (registries : List (Bor (Tree M))) (i : ℕ) (r : Bor (Tree M)) → i < length registries → r ≡ get_or registries i r → HoldsOfOne P (own_metrics r.now.facts) → HoldsOfOne P (listed_in registries)
+  one-in registries i r within is one =
       let split = registry_at registries i r within is in
-      subst (λ ms. Fault k Offers Stamps MayFault ms) (sym split.1) (Fault-right (listed_in (take i registries)) (own_metrics r.now.facts ++ split.0) (Fault-left (own_metrics r.now.facts) split.0 fault))
+      subst (λ ms. HoldsOfOne P ms) (sym split.1) (one-right (listed_in (take i registries)) (own_metrics r.now.facts ++ split.0) (one-left (own_metrics r.now.facts) split.0 one))
+
+  -- what follows from it holds of one too
+  pub one-weaker : (Q : Listed M → Type 0) → ((l : Listed M) → P l → Q l) → (ls : List (Listed M)) → HoldsOfOne P ls → HoldsOfOne Q ls
+  one-weaker Q step [] never = absurd never
+  one-weaker Q step (l ∷ ls) (inl here) = inl (step l here)
+  one-weaker Q step (l ∷ ls) (inr later) = inr (one-weaker Q step ls later)
+
+-- what an Ok promises holds of a result that is no error
+pub on_ok : {A E P : Type 0} (r : Result A E) → ((e : E) → r ≢ Err e) → OnOk r P → P
+on_ok (Ok x) not h = h
+on_ok (Err e) not h = absurd (not e refl)
 
 -- the names that a tree with a history lists differ
 pub names_differ : {M : Type 0} (t : Tree M) (b : History M) (ls : List (Listed M)) → Reads t b → ls ≡ order b → AllDifferent (map listed_name ls)

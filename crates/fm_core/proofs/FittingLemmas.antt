@@ -16,7 +16,7 @@ use Rattle.fm_registry_model.proofs.FittingTreeLemmas.{fits_there, fitting-accep
 use Rattle.fm_encoder.specs.Points.{Member}
 use Rattle.fm_core.specs.HasHistory.{HasHistory}
 use Rattle.fm_core.specs.Registers.{RegistersAt}
-use Rattle.fm_core.specs.Admits.{FaultOf, Fault}
+use Rattle.fm_core.specs.Admits.{HoldsOfOne}
 
 module _ {M : Type 0} (Fits : Listed M → Type 0) where
   -- it reads a history
@@ -43,22 +43,22 @@ any-first P x xs here = (0, x, omega arith, refl, here)
 any-later : {X : Type 0} (P : X → Type 0) (x : X) (xs : List X) → Any P xs → Any P (x ∷ xs)
 any-later P x xs (i, y, within, is, here) = (suc i, y, omega (arith, within), is, here)
 
-module _ {M : Type 0} (k : EncodeError) (Offers : M → Option ℕ → List Member → Type 0) (Stamps : M → Option ℕ → Type 0) (MayFault : M → Type 0) (P : Listed M → Type 0) where
-  -- a fault among listed metrics is that of one of them
-  some_fault : (ls : List (Listed M)) → AllByRecursion (λ l. FaultOf k Offers Stamps MayFault l → P l) ls → Fault k Offers Stamps MayFault ls → Any P ls
-  some_fault [] each fault = absurd fault
-  some_fault (l ∷ ls) each (inl fault) = any-first P l ls (each.0 fault)
-  some_fault (l ∷ ls) each (inr fault) = any-later P l ls (some_fault ls each.1 fault)
+module _ {M : Type 0} (P Q : Listed M → Type 0) where
+  -- what holds of one of the listed metrics, and implies this for each
+  some_one : (ls : List (Listed M)) → AllByRecursion (λ l. P l → Q l) ls → HoldsOfOne P ls → Any Q ls
+  some_one [] each one = absurd one
+  some_one (l ∷ ls) each (inl here) = any-first Q l ls (each.0 here)
+  some_one (l ∷ ls) each (inr later) = any-later Q l ls (some_one ls each.1 later)
 
-  both_hold : (Q R : Listed M → Type 0) (ls : List (Listed M)) → AllByRecursion Q ls → AllByRecursion R ls → AllByRecursion (λ l. Q l × R l) ls
-  both_hold Q R [] q r = tt
-  both_hold Q R (l ∷ ls) q r = ((q.0, r.0), both_hold Q R ls q.1 r.1)
+  both_hold : (R S : Listed M → Type 0) (ls : List (Listed M)) → AllByRecursion R ls → AllByRecursion S ls → AllByRecursion (λ l. R l × S l) ls
+  both_hold R S [] r s = tt
+  both_hold R S (l ∷ ls) r s = ((r.0, s.0), both_hold R S ls r.1 s.1)
 
-  -- where fitting metrics have this fault only as P says, a fault of the registry is that of a metric as P says
-  pub fault_of_fitting : (Fits : Listed M → Type 0) → ((l : Listed M) → IsListable l → Fits l → FaultOf k Offers Stamps MayFault l → P l)
-      → (t : Tree M) (b : History M) → HasFittingHistory Fits t → Shows t b → Fault k Offers Stamps MayFault (order b) → Any P (order b)
-  fault_of_fitting Fits each t b h shows fault =
-      some_fault (order b)
-      (all_weaker (λ l. IsListable l × Fits l) (λ l. FaultOf k Offers Stamps MayFault l → P l) (λ l both. each l both.0 both.1) (order b)
+  -- where it implies this for each metric that fits
+  pub one_of_fitting : (Fits : Listed M → Type 0) → ((l : Listed M) → IsListable l → Fits l → P l → Q l)
+      → (t : Tree M) (b : History M) → HasFittingHistory Fits t → Shows t b → HoldsOfOne P (order b) → Any Q (order b)
+  one_of_fitting Fits each t b h shows one =
+      some_one (order b)
+      (all_weaker (λ l. IsListable l × Fits l) (λ l. P l → Q l) (λ l both. each l both.0 both.1) (order b)
       (both_hold IsListable Fits (order b) (shown_listable Fits t b h shows) (shown_fits Fits t b h shows)))
-      fault
+      one

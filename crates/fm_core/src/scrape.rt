@@ -1,5 +1,5 @@
 //! What a scrape does: collecting a registry, or writing its document.
-ghost use Rattle.std.specs.Prelude.{◌≡◌, ◌⊎◌, ◌++◌, map, None, OnOk, IfOk, IfErr};
+ghost use Rattle.std.specs.Prelude.{◌≡◌, ◌⊎◌, ◌++◌, [], map, None, OnOk, IfOk, IfErr};
 ghost use Rattle.std.specs.Io.KnownBytes.{Keeps};
 ghost use Rattle.std.specs.List.{AllByRecursion};
 ghost use Rattle.fm_grammar.specs.Names.{AllDifferent};
@@ -8,21 +8,25 @@ ghost use Rattle.fm_raw.specs.declared.encode_error.EncodeError.{EncodeError};
 ghost use Rattle.fm_exposition.specs.Written.{IsWritersFault};
 ghost use Rattle.fm_registry_model.specs.Listing.{listed_name, own_metrics, order, IsListable};
 ghost use Rattle.fm_registry_model.specs.Tree.{Shows};
-ghost use Rattle.fm_core.specs.Seen.{seen_listed};
+ghost use Rattle.fm_core.specs.Seen.{seen_listed, listed_in};
 ghost use Rattle.fm_core.specs.HasHistory.{HasHistory};
 ghost use Rattle.fm_core.specs.Families.{AddsFamily, FaultUnder};
-ghost use Rattle.fm_core.specs.Admits.{AdmittedBy, AdmitsNext, FaultOf, Fault};
+ghost use Rattle.fm_core.specs.Admits.{Admits, AdmittedBy, AdmitsNext, FaultOf, Fault, FaultNamed};
 ghost use Rattle.fm_core.specs.Encoded.{WritesAdmitted, BeginsAdmitted};
 ghost use Rattle.fm_core.specs.inside.Documents.{heading_within, AddsFamilies};
 
 mod document;
 mod family;
+mod family_fault;
 mod scope;
 mod taking;
 
 use crate::registry::{ListedMetric, Registry};
+pub(crate) use document::print_name;
 use document::{document_lines, write_lines};
 pub use family::MetricFamilyEncoder;
+pub(crate) use family::text_of;
+pub use family_fault::{FamilyFault, fault};
 use fm_encoder::EncodeMetric;
 use fm_exposition::Exposition;
 use fm_raw::{EncodeError, Metadata};
@@ -78,11 +82,18 @@ fn encode_listed<'a, M: EncodeMetric>(
     encode_under(encoder, scope, listed.metadata, listed.metric)
 }
 
+// At which metric a scrape stopped, and why.
+#[derive(Drop)]
+pub(crate) struct Stop<'a, M> {
+    pub(crate) listed: ListedMetric<'a, M>,
+    pub(crate) error: EncodeError,
+}
+
 // Takes a registry's own metrics, whose names are new.
 fn encode_registry<'a, M: EncodeMetric>(
     encoder: &mut MetricFamilyEncoder<'a>,
     registry: &'a Registry<M>,
-) -> Result<(), EncodeError>
+) -> Result<(), Stop<'a, M>>
     requires listable { AllByRecursion IsListable (own_metrics registry.now.facts) }
     requires new_names { AllDifferent
         (map (λ family. family.name) encoder.old.families
@@ -93,13 +104,38 @@ fn encode_registry<'a, M: EncodeMetric>(
         (AddsFamilies (λ m. M.offers m) (λ m. M.stamps m) (λ m. M.may_be_empty m)
         (own_metrics registry.now.facts) encoder.old.families
         encoder.new.families) }
-    ensures err { IfErr result (λ k. (k ≡ EncodeError.Memory)
-        ⊎ Fault k (λ m. M.offers m) (λ m. M.stamps m) (λ m. M.may_fault m) (own_metrics registry.now.facts)) }
+    ensures err { IfErr result (λ stop. (stop.error ≡ EncodeError.Memory)
+        ⊎ FaultNamed stop.error (λ m. M.offers m) (λ m. M.stamps m) (λ m. M.may_fault m)
+        (listed_name (seen_listed stop.listed)) (own_metrics registry.now.facts)) }
 {
     for index in 0..registry.metric_count() {
         if let Some(listed) = registry.metric_at(index) {
-            encode_listed(encoder, &listed)?;
+            if let Err(error) = encode_listed(encoder, &listed) {
+                return Err(Stop { listed, error });
+            }
         }
+    }
+    Ok(())
+}
+
+// Takes the metrics of registries, one after the other, whose names all differ, with an encoder that has taken none.
+fn gather<'a, M: EncodeMetric>(
+    encoder: &mut MetricFamilyEncoder<'a>,
+    registries: &[&'a Registry<M>],
+) -> Result<(), Stop<'a, M>>
+    requires listable { AllByRecursion IsListable (listed_in registries.now) }
+    requires names { AllDifferent (map listed_name (listed_in registries.now)) }
+    requires new { (encoder.old.families ≡ []) × (encoder.old.refused ≡ None) }
+    ensures accepting { OnOk result (encoder.new.refused ≡ None) }
+    ensures admitted { OnOk result
+        (Admits (λ m. M.offers m) (λ m. M.stamps m) (λ m. M.may_be_empty m)
+        (listed_in registries.now) encoder.new.families) }
+    ensures err { IfErr result (λ stop. (stop.error ≡ EncodeError.Memory)
+        ⊎ FaultNamed stop.error (λ m. M.offers m) (λ m. M.stamps m) (λ m. M.may_fault m)
+        (listed_name (seen_listed stop.listed)) (listed_in registries.now)) }
+{
+    for registry in registries {
+        encode_registry(encoder, registry)?;
     }
     Ok(())
 }
@@ -127,8 +163,8 @@ pub fn collect<M: EncodeMetric>(
         return Err(EncodeError::Memory);
     };
     let mut encoder = MetricFamilyEncoder::new(alloc)?;
-    for registry in &list {
-        encode_registry(&mut encoder, registry)?;
+    if let Err(stop) = gather(&mut encoder, &list) {
+        return Err(stop.error);
     }
     encoder.end()
 }

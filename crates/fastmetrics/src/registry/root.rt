@@ -1,18 +1,21 @@
 //! A registry that always reads a history, so that its callers need no clause.
-ghost use Rattle.std.specs.Prelude.{◌≡◌, ◌⊎◌, [], None, Some, Err, OnOk, IfOk, IfErr, length, map, string_bytes, take};
+ghost use Rattle.std.specs.Prelude.{◌≡◌, ◌⊎◌, [], None, Some, Err, OnOk, IfOk, IfErr, IfSome, length, map, string_bytes, take};
 ghost use Rattle.std.specs.Option.{option_map};
 ghost use Rattle.std.specs.Io.KnownBytes.{Keeps};
+ghost use Rattle.fm_grammar.specs.Exposition.{Text, Exposition};
 ghost use Rattle.fm_grammar.specs.LabelPairs.{shown_label};
 ghost use Rattle.fm_exposition.specs.Written.{IsWritersFault};
 ghost use Rattle.fm_raw.specs.declared.encode_error.EncodeError.{EncodeError};
 ghost use Rattle.fm_registry_model.specs.declared.RegistryError.TheVariants.{Memory, NoRandomKeys};
 ghost use Rattle.fm_core.specs.HasHistory.{IsNewRoot};
 ghost use Rattle.fm_registry_model.specs.Lists.{seen_labels};
+ghost use Rattle.fm_registry_model.specs.Listing.{listed_tree};
 ghost use Rattle.fm_core.specs.Admits.{AdmittedBy};
 ghost use Rattle.fm_core.specs.Encoded.{WritesAdmitted, BeginsAdmitted};
+ghost use Rattle.fm_core.specs.Lint.{seen_warning, warnings_of_all};
 ghost use Rattle.fm_core.specs.Named.{named_metric};
 ghost use Rattle.fastmetrics.specs.Roots.{AddsOrNot, Enters};
-ghost use Rattle.fastmetrics.specs.Fits.{fit_refusal_here, HasOwnFault};
+ghost use Rattle.fastmetrics.specs.Fits.{fit_refusal_here, HasOwnFault, HasOwnFaultNamed};
 
 mod collectors;
 mod constants;
@@ -24,13 +27,14 @@ use crate::registry::at::RegistryAt;
 use crate::registry::kinds::faults::only_own_faults;
 use crate::registry::kinds::{Metric, NoOwn};
 use crate::registry::waiter::Waiter;
-use fm_core::format::text::{collect, encode};
+use fm_core::format::text::{FamilyFault, collect, encode, fault};
+use fm_core::lint::{Warning, lint};
 use fm_core::registry::{RegistryBuilder, RegistryError};
 use fm_encoder::EncodeMetric;
 use fm_exposition::Exposition;
 use fm_family::LabelHashing;
 use fm_raw::{EncodeError, Unit};
-use std::alloc::Global;
+use std::alloc::{AllocError, Global};
 use std::hash::RandomState;
 use std::io::Write;
 use std::random::RandomSource;
@@ -114,9 +118,12 @@ impl<H: Waiter + RandomSource + AllocGlobal, X> Root<H, X> {
 
 impl<H: Waiter> Root<H> {
     /// A law, which does nothing: no metric of a root has a fault where the program has none of its own. So `collect` fails with
-    /// `Memory` alone, and `encode` with that or by the writer.
+    /// `Memory` alone, `encode` with that or by the writer, and `fault` finds none.
     pub fn is_never_refused(&self)
-        ensures { (k : EncodeError) → HasOwnFault k ⟦<NoOwn as EncodeMetric>⟧.offers ⟦<NoOwn as EncodeMetric>⟧.stamps
+        ensures any { (k : EncodeError) → HasOwnFault k ⟦<NoOwn as EncodeMetric>⟧.offers ⟦<NoOwn as EncodeMetric>⟧.stamps
+            ⟦<NoOwn as EncodeMetric>⟧.may_fault self.now.at.tree → ⊥ }
+        ensures named { (name : Text) (k : EncodeError) → HasOwnFaultNamed name k
+            ⟦<NoOwn as EncodeMetric>⟧.offers ⟦<NoOwn as EncodeMetric>⟧.stamps
             ⟦<NoOwn as EncodeMetric>⟧.may_fault self.now.at.tree → ⊥ }
     {
         let _root = self;
@@ -238,5 +245,28 @@ impl<H: Waiter, X: EncodeMetric> Root<H, X> {
     {
         only_own_faults::<H, X>();
         encode(self.at.alloc(), writer, self.at.registry())
+    }
+    /// The first family that a document can't show at this moment, and why, or `None`: what a server prints where `encode` was refused.
+    /// It collects the registry, so it waits as `collect` does.
+    pub fn fault(&self) -> Result<Option<FamilyFault>, AllocError>
+        ensures found { IfOk result (λ found. IfSome found (λ f.
+            HasOwnFaultNamed (string_bytes f.name) f.error X.offers X.stamps X.may_fault
+            self.now.at.tree)) }
+        ensures none { IfOk result (λ found. found ≡ None → (e : Exposition)
+            × AdmittedBy (λ m. ⟦<Metric<H, X> as EncodeMetric>⟧.offers m)
+            (λ m. ⟦<Metric<H, X> as EncodeMetric>⟧.stamps m)
+            (λ m. ⟦<Metric<H, X> as EncodeMetric>⟧.may_be_empty m)
+            self.now.at.tree e) }
+    {
+        only_own_faults::<H, X>();
+        fault(self.at.alloc(), self.at.registry())
+    }
+
+    /// What a linter advises of the metrics, as a program's test asks it: of those too that show nothing yet.
+    pub fn lint(&self) -> Result<Vec<Warning>, AllocError>
+        ensures { IfOk result (λ warnings. map seen_warning warnings.items
+            ≡ warnings_of_all (listed_tree self.now.at.tree)) }
+    {
+        lint(self.at.alloc(), self.at.registry())
     }
 }

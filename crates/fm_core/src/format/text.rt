@@ -1,6 +1,6 @@
 //! The OpenMetrics text format: collecting a registry, writing its document, and reading documents back; where two texts differ.
 
-pub use crate::scrape::{collect, encode};
+pub use crate::scrape::{FamilyFault, collect, encode, fault};
 pub use fm_exposition::{Exemplar, Exposition, FamilySamples, Sample, Value};
 pub use fm_grammar::SampleKind;
 pub use fm_raw::EncodeError;

@@ -24,7 +24,10 @@ use std::alloc::{AllocError, Global};
 use std::io::Write;
 
 // Replaces a text by the printed name of a listed metric.
-fn print_name<M>(text: &mut String, listed: &ListedMetric<'_, M>) -> Result<(), AllocError>
+pub(crate) fn print_name<M>(
+    text: &mut String,
+    listed: &ListedMetric<'_, M>,
+) -> Result<(), AllocError>
     ensures { OnOk result (string_bytes text.new ≡ listed_name (seen_listed listed.now)) }
 {
     join_name(text, listed.namespace, listed.tail, None)

@@ -1,9 +1,8 @@
-use Rattle.std.proofs.Common.{◌≤◌, length, arith, inl, inr, sym}
-use Rattle.std.proofs.lemmas.Result.{err_from_is_err_and}
+use Rattle.std.proofs.Common.{◌≤◌, length, arith, inl, inr, refl, sym}
 use Rattle.fm_registry_model.specs.Listing.{own_metrics, IsListable}
 use Rattle.fm_core.specs.Seen.{seen_listed}
-use Rattle.fm_core.proofs.CollectLemmas.{all_at, next_new, none_past, AddsFamilies-next, Fault-at}
-use Rattle.fm_core.proofs.scrape.encode_registry.Goals.{in-Some+in_ok-encode_listed, in_default}
+use Rattle.fm_core.proofs.CollectLemmas.{all_at, next_new, none_past, AddsFamilies-next, one-at, on_ok}
+use Rattle.fm_core.proofs.scrape.encode_registry.Goals.{in-Some+in_default-encode_listed, in_default}
 use Rattle.fm_core.proofs.scrape.encode_registry.Goals as goal
 
 pub encode_listed-requires-clause-listable : goal.encode_listed-requires-clause-listable
@@ -15,21 +14,20 @@ encode_listed-requires-clause-new_name g c κs within =
     next_new _ _ _ (own_metrics c.args.registry.now.facts) c.loop-index.index (seen_listed c.in-Some.listed) c.args.encoder.now.families c.loop-index.encoder.families
     (sym c.in-Some.ensures) c.requires.new_names c.loop-index.invariant.added
 
-pub returns-in_err-encode_listed-clause-err : goal.returns-in_err-encode_listed-clause-err
-returns-in_err-encode_listed-clause-err g c =
-    let exit = err_from_is_err_and c.from_residual.result c.from_residual.ensures.1 in
-    let refusal = rw c.in_err-encode_listed.was at c.encode_listed.ensures.err in
-    rw (exit.1, exit.2) (elim refusal [
+pub returns-in-Err-clause-err : goal.returns-in-Err-clause-err
+returns-in-Err-clause-err g c =
+    let facts = own_metrics c.args.registry.now.facts in
+    elim (rw c.in-Err.is at c.encode_listed.ensures.err) [
       | inl memory ↦ inl memory
-      | inr fault ↦ inr (Fault-at _ _ _ _ (own_metrics c.args.registry.now.facts) c.loop-index.index (seen_listed c.in-Some.listed) (sym c.in-Some.ensures) fault)
-    ])
+      | inr fault ↦ inr (one-at _ facts c.loop-index.index (seen_listed c.in-Some.listed) (sym c.in-Some.ensures) (refl, fault))
+    ]
 
 pub loop-index-preserved : goal.loop-index-preserved
 loop-index-preserved g c = elim c.match-metric_at.branch [
-  | in-Some+in_ok-encode_listed w ↦ rw w.encoder-is (record {
+  | in-Some+in_default-encode_listed w ↦ rw w.encoder-is (record {
     added = AddsFamilies-next _ _ _ (own_metrics c.args.registry.now.facts) c.loop-index.index (seen_listed w.in-Some.listed) c.args.encoder.now.families c.loop-index.encoder.families w.encode_listed.new.encoder.families
-        (sym w.in-Some.ensures) c.loop-index.invariant.added (rw w.in_ok-encode_listed.was at w.encode_listed.ensures.ok);
-    accepting = rw w.in_ok-encode_listed.was at w.encode_listed.ensures.accepting;
+        (sym w.in-Some.ensures) c.loop-index.invariant.added (on_ok w.encode_listed.result w.in_default-encode_listed.not-Err w.encode_listed.ensures.ok);
+    accepting = on_ok w.encode_listed.result w.in_default-encode_listed.not-Err w.encode_listed.ensures.accepting;
   })
   | in_default w ↦
       let past : length (own_metrics c.args.registry.now.facts) ≤ c.loop-index.index = none_past seen_listed (own_metrics c.args.registry.now.facts) c.loop-index.index c.metric_at.result c.metric_at.ensures w.in_default.not-Some in

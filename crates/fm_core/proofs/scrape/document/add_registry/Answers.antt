@@ -3,7 +3,7 @@ use Rattle.std.proofs.lemmas.Result.{err_from_is_err_and}
 use Rattle.fm_registry_model.specs.Listing.{own_metrics, IsListable}
 use Rattle.fm_core.specs.Seen.{seen_listed}
 use Rattle.fm_core.specs.inside.Documents.{text_so_far}
-use Rattle.fm_core.proofs.CollectLemmas.{all_at, labels_at, none_past, Fault-at}
+use Rattle.fm_core.proofs.CollectLemmas.{all_at, labels_at, none_past, one-at}
 use Rattle.fm_core.proofs.DocumentLemmas.{AddsRowsOf-next}
 use Rattle.fm_core.proofs.scrape.document.add_registry.Goals.{in-Some+in_ok-add_listed, in_default}
 use Rattle.fm_core.proofs.scrape.document.add_registry.Goals as goal
@@ -22,7 +22,7 @@ returns-in_err-add_listed g c =
     let refusal = rw c.in_err-add_listed.was at c.add_listed.ensures.added in
     rw (exit.1, exit.2) (elim refusal [
       | inl memory ↦ inl memory
-      | inr fault ↦ inr (Fault-at _ _ _ _ (own_metrics c.args.registry.now.facts) c.loop-index.index (seen_listed c.in-Some.listed) (sym c.in-Some.ensures) fault)
+      | inr fault ↦ inr (one-at _ (own_metrics c.args.registry.now.facts) c.loop-index.index (seen_listed c.in-Some.listed) (sym c.in-Some.ensures) fault)
     ])
 
 pub loop-index-preserved : goal.loop-index-preserved

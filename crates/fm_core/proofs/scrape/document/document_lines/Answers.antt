@@ -7,9 +7,9 @@ use Rattle.fm_registry_model.proofs.OrderLemmas.{listed_tree-fits}
 use Rattle.fm_core.specs.Seen.{listed_in}
 use Rattle.fm_grammar.specs.Exposition.{Text}
 use Rattle.fm_writer.specs.Output.{OutputText}
-use Rattle.fm_core.specs.Admits.{Admits, Fault}
+use Rattle.fm_core.specs.Admits.{Admits, FaultOf, Fault}
 use Rattle.fm_core.specs.inside.Documents.{text_so_far, AddsRowsOf}
-use Rattle.fm_core.proofs.CollectLemmas.{names_differ, Fault-in, IsListable-in, listed_in-next, refusal-not_writing}
+use Rattle.fm_core.proofs.CollectLemmas.{names_differ, one-in, IsListable-in, listed_in-next, refusal-not_writing}
 use Rattle.fm_core.proofs.DocumentLemmas.{AddsRowsOf-none, AddsRowsOf-++, exposition_of}
 use Rattle.fm_core.proofs.scrape.document.document_lines.Goals as goal
 
@@ -49,7 +49,7 @@ returns-in_err-add_registry-clause-fault g c =
     rw (exit.1, exit.2) (elim refusal [
       | inl memory ↦ inl memory
       | inr fault ↦ inr (λ b shows. subst (λ ls. Fault k (λ m. g.M.EncodeMetric.offers m) (λ m. g.M.EncodeMetric.stamps m) (λ m. g.M.EncodeMetric.may_fault m) ls) (ap listed_in c.deref-registry-items.ensures.value ∙ c.in-Ok.ensures.history c.requires b shows)
-          (Fault-in k (λ m. g.M.EncodeMetric.offers m) (λ m. g.M.EncodeMetric.stamps m) (λ m. g.M.EncodeMetric.may_fault m) c.deref-registry-items.result.now c.loop-registry.registry-index c.registry-item.result within c.registry-item.is fault))
+          (one-in (FaultOf k (λ m. g.M.EncodeMetric.offers m) (λ m. g.M.EncodeMetric.stamps m) (λ m. g.M.EncodeMetric.may_fault m)) c.deref-registry-items.result.now c.loop-registry.registry-index c.registry-item.result within c.registry-item.is fault))
     ])
 
 pub returns-in_err-add_registry-clause-not_writing : goal.returns-in_err-add_registry-clause-not_writing

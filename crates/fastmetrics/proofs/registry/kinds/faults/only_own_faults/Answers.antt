@@ -8,9 +8,11 @@ use Rattle.fm_raw.specs.declared.encode_error.EncodeError.{EncodeError}
 use Rattle.fm_labels.proofs.NameLemmas.{AreFree-named}
 use Rattle.fm_labels.proofs.FittingLemmas.{all_free}
 use Rattle.fm_encoder.specs.Points.{Member, millis}
+use Rattle.fm_registry_model.specs.Listing.{listed_name}
 use Rattle.fm_metrics.specs.Counters.{counter_created}
 use Rattle.fm_encoder.specs.Offers.{MetricHasFault}
-use Rattle.fm_core.proofs.FittingLemmas.{fault_of_fitting}
+use Rattle.fm_core.specs.Admits.{FaultOf}
+use Rattle.fm_core.proofs.FittingLemmas.{one_of_fitting}
 use Rattle.fastmetrics.specs.declared.registry.kinds.Metric.{Metric}
 use Rattle.fastmetrics.specs.declared.registry.kinds.Metric.TheVariants as metric
 use Rattle.fastmetrics.specs.declared.registry.kinds.named_family.NamedFamily.TheVariants as family
@@ -72,6 +74,14 @@ pub returns-clause-faults : goal.returns-clause-faults
 returns-clause-faults g c k t sound faults = record {
   history = sound.history;
   shown = sound.reads.shows;
-  fault = λ b shows. fault_of_fitting k (offers g) (stamps g) (may_fault g) (OwnFault k g.X.EncodeMetric.offers g.X.EncodeMetric.stamps g.X.EncodeMetric.may_fault) Fits
+  fault = λ b shows. one_of_fitting (FaultOf k (offers g) (stamps g) (may_fault g)) (OwnFault k g.X.EncodeMetric.offers g.X.EncodeMetric.stamps g.X.EncodeMetric.may_fault) Fits
       (λ l listable fit. by_kind g k _ l.labels listable.labels l.registration.metric_type l.registration.metric fit.0 fit.1) t b sound shows (faults b shows);
+}
+
+pub returns-clause-named : goal.returns-clause-named
+returns-clause-named g c k t name sound faults = record {
+  history = sound.history;
+  shown = sound.reads.shows;
+  fault = λ b shows. one_of_fitting (λ l. (name ≡ listed_name l) × FaultOf k (offers g) (stamps g) (may_fault g) l) (λ l. (name ≡ listed_name l) × OwnFault k g.X.EncodeMetric.offers g.X.EncodeMetric.stamps g.X.EncodeMetric.may_fault l) Fits
+      (λ l listable fit here. (here.0, by_kind g k _ l.labels listable.labels l.registration.metric_type l.registration.metric fit.0 fit.1 here.1)) t b sound shows (faults b shows);
 }

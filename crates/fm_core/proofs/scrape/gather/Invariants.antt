@@ -1,13 +1,13 @@
 use Rattle.std.proofs.Common.{◌≡◌, None, take}
 use Rattle.fm_core.specs.Seen.{listed_in}
 use Rattle.fm_core.specs.Admits.{Admits}
-use Rattle.fm_core.proofs.scrape.collect.Given as goal
+use Rattle.fm_core.proofs.scrape.gather.Given as goal
 
 abbrev pub invariant-loop-registry : goal.invariant-loop-registry
 invariant-loop-registry g l = record {
   admitted : Admits (λ m. g.M.EncodeMetric.offers m)
       (λ m. g.M.EncodeMetric.stamps m)
       (λ m. g.M.EncodeMetric.may_be_empty m)
-      (listed_in (take l.registry-index l.registry-items)) l.encoder.families;
+      (listed_in (take l.registry-index l.registries)) l.encoder.families;
   accepting : l.encoder.refused ≡ None;
 }
