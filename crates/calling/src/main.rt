@@ -4,6 +4,7 @@
 
 mod counters;
 mod documents;
+mod errors;
 mod families;
 mod gauges;
 mod globals;
@@ -21,5 +22,6 @@ fn main(rt: HostRuntime) -> anyhow::Result<()> {
     pool::show(&rt, rt.alloc(), &mut rt.stdout())?;
     globals::show(rt, rt.alloc(), &mut rt.stdout())?;
     many::show(rt, &mut rt.stdout())?;
-    own::show(rt, &mut rt.stdout())
+    own::show(rt, &mut rt.stdout())?;
+    errors::show(rt, &mut rt.stdout())
 }

@@ -246,7 +246,7 @@ fn add_registry<M>(
 }
 
 /// What is advised of the metrics of a registry and all below it, in the order of its document: of those too that show nothing yet.
-pub fn lint<M>(alloc: Global, registry: &Registry<M>) -> Result<Vec<Warning>, AllocError>
+pub fn lint_registry<M>(alloc: Global, registry: &Registry<M>) -> Result<Vec<Warning>, AllocError>
     ensures { IfOk result (λ warnings. map seen_warning warnings.items
         ≡ warnings_of_all (listed_tree registry.now)) }
 {

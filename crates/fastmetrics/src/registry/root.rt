@@ -28,7 +28,7 @@ use crate::registry::kinds::faults::only_own_faults;
 use crate::registry::kinds::{Metric, NoOwn};
 use crate::registry::waiter::Waiter;
 use fm_core::format::text::{FamilyFault, collect, encode, fault};
-use fm_core::lint::{Warning, lint};
+use fm_core::lint::{Warning, lint_registry};
 use fm_core::registry::{RegistryBuilder, RegistryError};
 use fm_encoder::EncodeMetric;
 use fm_exposition::Exposition;
@@ -267,6 +267,6 @@ impl<H: Waiter, X: EncodeMetric> Root<H, X> {
         ensures { IfOk result (λ warnings. map seen_warning warnings.items
             ≡ warnings_of_all (listed_tree self.now.at.tree)) }
     {
-        lint(self.at.alloc(), self.at.registry())
+        lint_registry(self.at.alloc(), self.at.registry())
     }
 }

@@ -1,7 +1,7 @@
 use Rattle.std.proofs.Common.{◌<◌, length, map, arith}
 use Rattle.fm_core.specs.Lint.{warnings_of, seen_warning}
 use Rattle.fm_core.proofs.LintLemmas.{grown-registry}
-use Rattle.fm_core.proofs.lint.lint.Goals as goal
+use Rattle.fm_core.proofs.lint.lint_registry.Goals as goal
 
 pub loop-registry-preserved : goal.loop-registry-preserved
 loop-registry-preserved g c =

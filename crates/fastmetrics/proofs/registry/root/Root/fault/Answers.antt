@@ -1,0 +1,14 @@
+use Rattle.std.proofs.Common.{subst, string_bytes}
+use Rattle.std.proofs.lemmas.Option.{IfSome_then}
+use Rattle.std.proofs.lemmas.Result.{IfOk-weaker}
+use Rattle.fm_registry_model.specs.Tree.{Tree}
+use Rattle.fastmetrics.specs.Fits.{HasOwnFaultNamed}
+use Rattle.fastmetrics.proofs.registry.root.Root.fault.Goals as goal
+
+pub returns-clause-found : goal.returns-clause-found
+returns-clause-found g c =
+    let own = g.X.EncodeMetric in
+    IfOk-weaker c.fault.result _ _
+    (λ found told. IfSome_then found told
+    (λ f fault. subst (λ (t : Tree _). HasOwnFaultNamed (string_bytes f.name) f.error own.offers own.stamps own.may_fault t) c.registry.ensures.shown (c.only_own_faults.ensures.named f.error c.registry.result.now (string_bytes f.name) c.registry.ensures.sound fault)))
+    c.fault.ensures.found
