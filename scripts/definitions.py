@@ -5,7 +5,7 @@ library declare, which these clauses take from them: the ghost members of each i
     scripts/definitions.py [--names] [--most N] [--most-declared N]
 
 Lines are counted without comments, imports and blank lines, and only those of definitions that are reached. It fails where there are
-more than N (580 and 570 without an argument), or where the clauses of `encode` reach a definition of an `inside` folder.
+more than N (582 and 570 without an argument), or where the clauses of `encode` reach a definition of an `inside` folder.
 """
 import re
 import sys
@@ -224,7 +224,7 @@ def limit(flag, default):
 
 
 def main():
-    most = limit("--most", 580)
+    most = limit("--most", 582)
     found = reach(starts())
     by_file = {}
     for name, word in found:
