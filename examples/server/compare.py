@@ -62,6 +62,11 @@ def compare_between(what, least, most, got):
     compare(what, got if got is not None and least <= got <= most else f"{least} to {most}", got)
 
 
+def status():
+    """The status of a script that compares."""
+    return 1 if differing else 0
+
+
 def read_counts(file):
     """How many responses came, by method, status code and path."""
     counts = {}
@@ -72,15 +77,20 @@ def read_counts(file):
     return counts
 
 
-def read_document(file):
+def samples_of(lines):
     """The values of a document's samples, by name and labels."""
     values = {}
-    with open(file) as lines:
-        for line in lines:
-            if not line.startswith("#"):
-                name, labels, value = SAMPLE.fullmatch(line.strip()).groups()
-                values[name, frozenset(LABEL.findall(labels or ""))] = float(value)
+    for line in lines:
+        if not line.startswith("#"):
+            name, labels, value = SAMPLE.fullmatch(line.strip()).groups()
+            values[name, frozenset(LABEL.findall(labels or ""))] = float(value)
     return values
+
+
+def read_document(file):
+    """The same of a document in a file."""
+    with open(file) as lines:
+        return samples_of(lines)
 
 
 def by_labels(counts):
@@ -268,7 +278,7 @@ def main():
     else:
         document, port, not_before = sys.argv[3:]
         compare_prometheus(counts, document, int(port), float(not_before))
-    return 1 if differing else 0
+    return status()
 
 
 if __name__ == "__main__":
