@@ -1,10 +1,14 @@
 #!/usr/bin/env bash
-# Tries the server of examples/server with a real Prometheus: tests the alerts and the dashboard by names.py, sends the server 2,000
-# requests while Prometheus scrapes it each second by prometheus.yml, and compares what both say of its metrics; then scrapes it
-# beside clients that are silent or slow. Prints a line for each comparison. Its last line says whether all is well; its status is
-# then 0, else 1. It is no part of the gate.
+# Tries the server of examples/server with a real Prometheus: tests the alerts and the dashboard by names.py, sends the server
+# 2,000 requests while Prometheus scrapes it each second by prometheus.yml, and compares what both say of its metrics. Then it
+# sends heads that are wrong, cut short or long, and compares when the server ends clients that are slow or many, and how long
+# scrapes beside them take. Prints a line for each comparison. Its last line says whether all is well; its status is then 0, else
+# 1. It is no part of the gate.
 #
 #   scripts/try_server.sh [REQUESTS]       at least 100
+#   scripts/try_server.sh --bodies         plants each body of bodies.md in the server instead, and makes these comparisons, but
+#                                          for those of Prometheus: one must differ. The last line is 'N refused, M not refused',
+#                                          and the status is 0 if M is 0
 #   scripts/try_server.sh --prove          proves the server by `rt ci` instead, and the library under the server's HANDLES
 #
 # The server is compiled with run-time checks by `rt try`, in a scratch folder with copies of the library's crates, and else not
@@ -20,12 +24,17 @@ example=$top/examples/server
 scratch=$(mktemp -d) || exit 1
 server='' prometheus=''
 
-clean_up() {
+# Ends processes that this script started.
+stop() {
     local process
-    for process in $server $prometheus; do
+    for process in "$@"; do
         kill "$process" 2>/dev/null
         wait "$process" 2>/dev/null
     done
+}
+
+clean_up() {
+    stop $server $prometheus
     rm -rf "$scratch"
 }
 trap clean_up EXIT
@@ -72,6 +81,7 @@ wait_for() {
 }
 
 start_server() {
+    read -r port its_port < <(free_ports)
     (cd "$scratch/repository/crates/web_server" && exec rt try --seconds "$seconds" -- "$port") >"$scratch/server" 2>&1 &
     server=$!
     wait_for "$server" "http://127.0.0.1:$port/metrics" || { cat "$scratch/server"; fail "the server didn't start"; }
@@ -86,6 +96,44 @@ start_prometheus() {
     prometheus=$!
     wait_for "$prometheus" "http://127.0.0.1:$its_port/-/ready" || { cat "$scratch/prometheus"; fail "Prometheus didn't start"; }
     prometheus --version 2>&1 | head -n 1
+}
+
+# Sends requests, and compares the responses, and a document that tells of them.
+try_requests() {
+    python3 "$example/client.py" "$port" "$requests" >"$scratch/counts" || fail "a response isn't as it should be"
+    sed 's/^/answered: /' "$scratch/counts"
+    curl -sS -D "$scratch/headers" -o "$scratch/document" "http://127.0.0.1:$port/metrics" || fail "curl received no document"
+    now=$(date +%s.%N)
+    python3 "$example/compare.py" document "$scratch/counts" "$scratch/headers" "$scratch/document" "$scrapers" ||
+        fail "the document differs"
+}
+
+# Compares what comes of heads of all kinds, and of clients that are slow or many.
+try_limits() {
+    python3 "$example/heads.py" "$port" || fail "a head isn't answered or counted as it should be"
+    python3 "$example/slow.py" "$port" 8 || fail "a client isn't ended when it should be, or a scrape waited for another client"
+}
+
+# Plants each body of bodies.md by itself, and expects that a comparison differs.
+try_bodies() {
+    local titles title refused=0 missed=0
+    mapfile -t titles < <(sed -n 's/^## //p' "$example/bodies.md")
+    for title in "${titles[@]}"; do
+        lay_out "$scratch/repository"
+        python3 "$example/plant.py" "$title" "$scratch/repository/crates" || fail "a body can't be planted"
+        start_server
+        if (try_requests && try_limits) >"$scratch/said" 2>&1; then
+            echo "NOT REFUSED: $title"
+            missed=$((missed + 1))
+        else
+            echo "refused: $title: $(grep -m 1 -E '^(DIFFERS: |request )' "$scratch/said" || tail -n 1 "$scratch/said")"
+            refused=$((refused + 1))
+        fi
+        stop "$server"
+        server=''
+    done
+    echo "$refused refused, $missed not refused"
+    [[ $missed == 0 ]]
 }
 
 # Ends the server as its users do, and compares the last line that it prints.
@@ -109,10 +157,14 @@ if [[ $requests == --prove ]]; then
     (cd "$scratch/repository" && rt ci web_server) | tail -n 1
     exit "${PIPESTATUS[0]}"
 fi
-python3 "$example/names.py" || fail "the alerts or the dashboard don't fit the server"
-read -r port its_port < <(free_ports)
-start_server
 scrapers=alone
+if [[ $requests == --bodies ]]; then
+    requests=100
+    try_bodies
+    exit
+fi
+python3 "$example/names.py" || fail "the alerts or the dashboard don't fit the server"
+start_server
 if command -v prometheus >"$scratch/first"; then
     scrapers=prometheus
     start_prometheus
@@ -120,18 +172,13 @@ else
     echo "SKIP: no prometheus is installed (apt-get install prometheus)"
 fi
 
-python3 "$example/client.py" "$port" "$requests" >"$scratch/counts" || fail "a response isn't as it should be"
-sed 's/^/answered: /' "$scratch/counts"
-curl -sS -D "$scratch/headers" -o "$scratch/document" "http://127.0.0.1:$port/metrics" || fail "curl received no document"
-now=$(date +%s.%N)
-python3 "$example/compare.py" document "$scratch/counts" "$scratch/headers" "$scratch/document" "$scrapers" ||
-    fail "the document differs"
+try_requests
 if [[ $prometheus ]]; then
     python3 "$example/compare.py" prometheus "$scratch/counts" "$scratch/document" "$its_port" "$now" ||
         fail "Prometheus differs"
-    kill "$prometheus" && wait "$prometheus"
+    stop "$prometheus"
     prometheus=''
 fi
-python3 "$example/slow.py" "$port" 8 || fail "a scrape waited for another client"
+try_limits
 end_server
 echo "all is well: $requests requests were answered and counted"

@@ -6,6 +6,7 @@ usage: heads.py PORT
 Nobody else may ask it meanwhile. Each comparison prints a line, and the status is 1 where one differs.
 """
 
+import http.client
 import re
 import socket
 import sys
@@ -101,10 +102,13 @@ def compare_head(port, what, sent, wanted, is_cut):
 
 def main():
     port = int(sys.argv[1])
-    for what, sent, wanted in HEADS:
-        compare_head(port, what, sent, wanted, False)
-    for what, sent, wanted in CUT:
-        compare_head(port, what, sent, wanted, True)
+    try:
+        for what, sent, wanted in HEADS:
+            compare_head(port, what, sent, wanted, False)
+        for what, sent, wanted in CUT:
+            compare_head(port, what, sent, wanted, True)
+    except (OSError, http.client.HTTPException) as error:
+        compare("what came in place of an answer", "nothing", repr(error))
     return status()
 
 
