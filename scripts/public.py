@@ -44,8 +44,8 @@ INSIDE = """
     Encode*Value::encode EncodeLabelName::encode ValueEncoder::* LabelEncoder::encode_*_value LabelSetEncoder::encode_named LabelValues::a* StateSetValue::*
     ExemplarLabels::are_taken Exemplar::* Info::get Metadata::* Probe::* Gate::*
 """.split()
-# Looked for by the name of the call alone: the first are made where their type isn't named, the last three are made by no test.
-ALIKE = "RegistrySubsystemBuilder::* ConstCounter::created ConstGauge::get Subsystem::name".split()
+# Looked for by the name of the call alone: these are made where their type isn't named.
+ALIKE = "RegistrySubsystemBuilder::* Subsystem::name".split()
 
 KINDS = "struct|enum|trait|const fn|fn|const|type"
 # Where the head of an item ends: before its body, its clauses, or a semicolon.
