@@ -1,10 +1,10 @@
 //! A root under a lock, for a program that registers while it runs; and a scrape that is never refused.
-ghost use Rattle.std.specs.Prelude.{◌≡◌, IfErr};
+ghost use Rattle.std.specs.Prelude.{◌≡◌, IfErr, IfOk};
 
 use fastmetrics::format::text::{EncodeError, Exposition};
 use fastmetrics::metrics::counter::Counter;
 use fastmetrics::metrics::state_set::NamedStates;
-use fastmetrics::registry::{RegistryError, Root, Waiter};
+use fastmetrics::registry::{RegistryError, Root, Shown, Waiter};
 use std::alloc::Global;
 use std::sync::Mutex;
 
@@ -41,4 +41,14 @@ pub fn shown<H: Waiter>(root: &Root<H>) -> Result<Exposition, EncodeError>
 {
     root.is_never_refused();
     root.collect()
+}
+
+/// Registers a counter, counts, and returns the document: what it returns is the document of an exposition that the root then admits, and
+/// of no other.
+pub fn first_page<H: Waiter>(root: &mut Root<H>) -> anyhow::Result<Vec<u8>>
+    ensures { IfOk result (λ bytes. ⟦<Root<H> as Shown>⟧.is_document root.new bytes.items) }
+{
+    let pages = root.counter("pages", "Pages that were asked for")?;
+    pages.inc();
+    Ok(root.document()?)
 }

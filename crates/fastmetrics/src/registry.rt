@@ -22,5 +22,5 @@ pub use kinds::{
 };
 pub use maker::{Made, Maker};
 pub use paths::{add_at, add_subsystem_at};
-pub use root::Root;
+pub use root::{Root, Shown};
 pub use waiter::Waiter;

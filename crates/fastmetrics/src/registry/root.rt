@@ -1,5 +1,5 @@
 //! A registry that always reads a history, so that its callers need no clause.
-ghost use Rattle.std.specs.Prelude.{◌≡◌, ◌⊎◌, [], None, Some, Err, OnOk, IfOk, IfErr, IfSome, length, map, string_bytes, take};
+ghost use Rattle.std.specs.Prelude.{◌≡◌, ◌⊎◌, ℕ, List, [], None, Some, Err, OnOk, IfOk, IfErr, IfSome, length, map, string_bytes, take};
 ghost use Rattle.std.specs.Option.{option_map};
 ghost use Rattle.std.specs.Io.KnownBytes.{Keeps};
 ghost use Rattle.fm_grammar.specs.Exposition.{Text, Exposition};
@@ -11,7 +11,7 @@ ghost use Rattle.fm_core.specs.HasHistory.{IsNewRoot};
 ghost use Rattle.fm_registry_model.specs.Lists.{seen_labels};
 ghost use Rattle.fm_registry_model.specs.Listing.{listed_tree};
 ghost use Rattle.fm_core.specs.Admits.{AdmittedBy};
-ghost use Rattle.fm_core.specs.Encoded.{WritesAdmitted, BeginsAdmitted};
+ghost use Rattle.fm_core.specs.Encoded.{IsAdmittedText, WritesAdmitted, BeginsAdmitted};
 ghost use Rattle.fm_core.specs.Lint.{seen_warning, warnings_of_all};
 ghost use Rattle.fm_core.specs.Named.{named_metric};
 ghost use Rattle.fastmetrics.specs.Roots.{AddsOrNot, Enters};
@@ -269,4 +269,32 @@ impl<H: Waiter, X: EncodeMetric> Root<H, X> {
     {
         lint_registry(self.at.alloc(), self.at.registry())
     }
+    /// The document of the registry, in memory: the body of a server's answer to a scrape. It has the errors of `collect`.
+    pub fn document(&self) -> Result<Vec<u8>, EncodeError>
+        ensures document { IfOk result (λ bytes. ⟦<Root<H, X> as Shown>⟧.is_document self.now bytes.items) }
+        ensures fault { IfErr result (λ k. (k ≡ EncodeError.Memory)
+            ⊎ HasOwnFault k X.offers X.stamps X.may_fault self.now.at.tree) }
+    {
+        let mut bytes = Vec::new(self.alloc());
+        match self.encode(&mut bytes) {
+            Ok(()) => Ok(bytes),
+            Err(EncodeError::Write | EncodeError::WriteZero) => Err(EncodeError::Memory),
+            Err(error) => Err(error),
+        }
+    }
+}
+
+/// What can be shown in a document, for the clauses of a program: `is_document` says that these bytes are the document of an exposition
+/// which the metrics that are registered there admit, and of no other.
+pub trait Shown {
+    ghost is_document: { Self → List ℕ → Type 0 };
+}
+
+impl<H: Waiter, X: EncodeMetric> Shown for Root<H, X> {
+    ghost is_document = { λ root bytes. IsAdmittedText
+        (AdmittedBy (λ m. ⟦<Metric<H, X> as EncodeMetric>⟧.offers m)
+        (λ m. ⟦<Metric<H, X> as EncodeMetric>⟧.stamps m)
+        (λ m. ⟦<Metric<H, X> as EncodeMetric>⟧.may_be_empty m)
+        root.at.tree)
+        bytes };
 }
