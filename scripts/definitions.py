@@ -179,7 +179,7 @@ def starts():
     return [f for f in found if not f[0].startswith("std.")]
 
 
-IMPL = re.compile(r"^impl[^{;]*?\b(Encode\w+|Sign)\b[^{;]*? for [^{;]*\{$", re.M)
+IMPL = re.compile(r"^impl[^{;]*? (Encode\w+|Sign)(?:<[^{;]*>)? for [^{;]*\{$", re.M)
 GHOST = re.compile(r"^    ghost (?!use )[\s\S]*?;$", re.M)
 
 
