@@ -179,7 +179,8 @@ def starts():
     return [f for f in found if not f[0].startswith("std.")]
 
 
-IMPL = re.compile(r"^impl[^{;]*? (Encode\w+|Sign)(?:<[^{;]*>)? for [^{;]*\{$", re.M)
+# A root that can be shown declares nothing more than its metrics.
+IMPL = re.compile(r"^impl(?![^{;]*\bShown for )[^{;]*?\b(Encode\w+|Sign)\b[^{;]*? for [^{;]*\{$", re.M)
 GHOST = re.compile(r"^    ghost (?!use )[\s\S]*?;$", re.M)
 
 
