@@ -18,7 +18,7 @@ folder=/tmp/fastmetrics-bench
 . "$top/scripts/scratch.sh"
 . "$top/scripts/memory.sh"
 lay_out "$top" "$folder"
-"$top/scripts/prove.py" --crates "$folder" bench_support bench || exit 1
+"$top/scripts/prove.py" --build --crates "$folder" bench_support bench || exit 1
 cd "$folder/crates/bench"
 
 # How often a scene asks for memory, and the most bytes at once, with so many members and rounds: what is asked for after so many requests counts.
