@@ -46,6 +46,7 @@ HEADS = [
     ("POST", b"POST /metrics HTTP/1.1" + END, "405 without a body, counted as POST 405 /metrics"),
     (f"a head of {LIMIT} bytes", long(LIMIT), FINE),
     (f"a head of {LIMIT + 1} bytes", long(LIMIT + 1), MALFORMED),
+    (f"a head of {LIMIT + 1} bytes, whose lines end with CR LF", long(LIMIT - 1)[:-2] + END, MALFORMED),
     ("a head without end", long(8 * LIMIT)[:-2], MALFORMED),
 ]
 # The same where the client ends its side then.
@@ -54,6 +55,8 @@ CUT = [
     ("cut short in its first line", b"GET /met", MALFORMED),
     ("cut short after its first line", b"GET /metrics HTTP/1.1\r\n", MALFORMED),
     ("cut short before its empty line", b"GET /metrics HTTP/1.1\r\nHost: localhost\r\n", MALFORMED),
+    ("cut short within its empty line", b"GET /metrics HTTP/1.1\r\n\r", MALFORMED),
+    ("cut short after blanks", b"GET /metrics HTTP/1.1\r\n  ", MALFORMED),
 ]
 
 
