@@ -1,17 +1,21 @@
 #!/usr/bin/env python3
-"""Proves crates over the libraries that `rt ci` left here, which are not proved again, and keeps what it proved of each function: a function that didn't
+"""Proves crates over the libraries that `rt ci` kept, which are not proved again, and keeps what it proved of each function: a function that didn't
 change, and calls none that did, isn't proved again. `rt ci` proves a changed crate as a whole, and alone counts for the gate.
 
     scripts/prove.py [--build] [--crates FOLDER] CRATE..        crates of this repository, or of FOLDER/crates, in the order of what they are built on
 
-What is kept lies in the crate's out/proved. A library is written to its out/rlib, and with --build a program to out/NAME. Prints how far a check is, what
+Libraries that aren't in their out/rlib are taken from a run of `rt ci`, which proves what of them it didn't keep. What is kept of a crate lies in its
+out/proved. A library is written to its out/rlib, and with --build a program to out/NAME. Prints how far a check is, what
 isn't proved and what to write, and for each crate how many functions it has and how many seconds it took. The status is 0 if each is proved.
 """
 import argparse
+import glob
 import os
 import re
+import shutil
 import subprocess
 import sys
+import tempfile
 import time
 
 from wrong_bodies import KIT, TOP, Crate, Run, crates_of, text_of
@@ -39,12 +43,58 @@ def linked(target):
     return subprocess.run([*link, f"{KIT}/c/libos_c.a", f"{KIT}/c/liblibc_c.a"]).returncode == 0
 
 
+def rlib_of(library, folder=None):
+    """Where a library lies once it is proved, here or in a copy of the repository."""
+    return f"{folder or os.path.dirname(os.path.dirname(library.folder))}/crates/{library.name}/out/rlib/{library.name}.rlib"
+
+
+def is_there(rlib):
+    return os.path.isfile(f"{rlib}/format")
+
+
+def files_in(folder):
+    """The files below a folder, with their sizes."""
+    return sorted((os.path.relpath(at, folder), name, os.path.getsize(f"{at}/{name}")) for at, _, names in os.walk(folder) for name in names)
+
+
+def link(rlib, target):
+    """Links a library into its place, if there is more of it than there. It may still be written, or be removed already."""
+    part = f"{target}.part"
+    try:
+        here, there = files_in(rlib), files_in(target)
+        if here != there and len(here) >= len(there):
+            shutil.copytree(rlib, part, copy_function=os.link)
+            if files_in(rlib) == here:
+                shutil.rmtree(target, ignore_errors=True)
+                os.rename(part, target)
+    except (OSError, shutil.Error):
+        pass
+    shutil.rmtree(part, ignore_errors=True)
+
+
+def take(libraries):
+    """Has `rt ci` prove libraries, or take what it kept of them, and links them as they come: it works on a copy, and removes that at its end."""
+    if not libraries:
+        return
+    print(f"rt ci {' '.join(it.name for it in libraries)}", flush=True)
+    with tempfile.TemporaryDirectory(prefix="libraries-", dir=f"{TOP}/.git") as room:
+        how = {"stdin": subprocess.DEVNULL, "stdout": subprocess.DEVNULL, "stderr": subprocess.STDOUT, "env": {**os.environ, "TMPDIR": room}}
+        with subprocess.Popen(["rt", "ci", *(it.name for it in libraries)], cwd=TOP, **how) as run:
+            while run.poll() is None:
+                for library, copy in ((it, copy) for it in libraries for copy in glob.glob(f"{room}/*/repo")):
+                    if is_there(rlib_of(library, copy)):
+                        os.makedirs(os.path.dirname(rlib_of(library)), exist_ok=True)
+                        link(rlib_of(library, copy), rlib_of(library))
+                time.sleep(0.1)
+
+
 def proved(crate, crates, builds):
     """Whether a crate is proved, and built if it is a library or `builds` says so."""
-    for library in crate.below(crates):
-        if not os.path.isfile(f"{library.folder}/out/rlib/{library.name}.rlib/format"):
-            print(f"{library.name} isn't there as it was proved: run `rt ci` at the top of the repository first", file=sys.stderr)
-            return False
+    take([it for it in crate.below(crates) if not is_there(rlib_of(it))])
+    missing = [it.name for it in crate.below(crates) if not is_there(rlib_of(it))]
+    if missing:
+        print(f"not proved: {' '.join(missing)}", file=sys.stderr)
+        return False
     is_program, begun = os.path.isfile(f"{crate.folder}/src/main.rt"), time.monotonic()
     target = f"{crate.folder}/out/rlib/{crate.name}.rlib"
     os.makedirs(os.path.dirname(target), exist_ok=True)
