@@ -10,6 +10,7 @@ import http.client
 import re
 import socket
 import sys
+import time
 
 from client import END, SCRAPE, exchange
 from compare import SCRAPED, compare, samples_of, status
@@ -48,6 +49,11 @@ HEADS = [
     (f"a head of {LIMIT + 1} bytes", long(LIMIT + 1), MALFORMED),
     (f"a head of {LIMIT + 1} bytes, whose lines end with CR LF", long(LIMIT - 1)[:-2] + END, MALFORMED),
     ("a head without end", long(8 * LIMIT)[:-2], MALFORMED),
+]
+# The same where all but so many bytes come a little later.
+PIECES = [
+    (f"a head of {LIMIT + 999} bytes in two pieces", long(LIMIT + 999), LIMIT - 1, MALFORMED),
+    ("a head in two pieces", SCRAPE[0], 9, FINE),
 ]
 # The same where the client ends its side then.
 CUT = [
@@ -91,11 +97,14 @@ def counted(before, after):
     return " ".join(words) or "nothing"
 
 
-def compare_head(port, what, sent, wanted, is_cut):
+def compare_head(port, what, sent, wanted, is_cut=False, first=0):
     """Sends a head, and compares what comes of it. It has to be counted while its connection is still open."""
     before = document(port)
     with socket.create_connection(("127.0.0.1", port), timeout=10) as connection:
-        connection.sendall(sent)
+        if first:
+            connection.sendall(sent[:first])
+            time.sleep(0.2)
+        connection.sendall(sent[first:])
         if is_cut:
             connection.shutdown(socket.SHUT_WR)
         answer = answered(connection)
@@ -107,9 +116,11 @@ def main():
     port = int(sys.argv[1])
     try:
         for what, sent, wanted in HEADS:
-            compare_head(port, what, sent, wanted, False)
+            compare_head(port, what, sent, wanted)
+        for what, sent, first, wanted in PIECES:
+            compare_head(port, what, sent, wanted, first=first)
         for what, sent, wanted in CUT:
-            compare_head(port, what, sent, wanted, True)
+            compare_head(port, what, sent, wanted, is_cut=True)
     except (OSError, http.client.HTTPException) as error:
         compare("what came in place of an answer", "nothing", repr(error))
     return status()
