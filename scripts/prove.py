@@ -4,7 +4,8 @@ change, and calls none that did, isn't proved again. `rt ci` proves a changed cr
 
     scripts/prove.py [--build] [--crates FOLDER] CRATE..        crates of this repository, or of FOLDER/crates, in the order of what they are built on
 
-Libraries that aren't in their out/rlib are taken from a run of `rt ci`, which proves what of them it didn't keep. What is kept of a crate lies in its
+Libraries that aren't in their out/rlib are taken from a run of `rt ci`, which proves what of them it didn't keep. That the source of one
+changed since isn't seen: remove its out/rlib, or run `rt ci`. What is kept of a crate lies in its
 out/proved. A library is written to its out/rlib, and with --build a program to out/NAME. Prints how far a check is, what
 isn't proved and what to write, and for each crate how many functions it has and how many seconds it took. The status is 0 if each is proved.
 """
@@ -77,7 +78,7 @@ def take(libraries):
     if not libraries:
         return
     print(f"rt ci {' '.join(it.name for it in libraries)}", flush=True)
-    with tempfile.TemporaryDirectory(prefix="libraries-", dir=f"{TOP}/.git") as room:
+    with tempfile.TemporaryDirectory(prefix="libraries-", dir=f"{TOP}/.git" if os.path.isdir(f"{TOP}/.git") else None) as room:
         how = {"stdin": subprocess.DEVNULL, "stdout": subprocess.DEVNULL, "stderr": subprocess.STDOUT, "env": {**os.environ, "TMPDIR": room}}
         with subprocess.Popen(["rt", "ci", *(it.name for it in libraries)], cwd=TOP, **how) as run:
             while run.poll() is None:
@@ -93,7 +94,7 @@ def proved(crate, crates, builds):
     take([it for it in crate.below(crates) if not is_there(rlib_of(it))])
     missing = [it.name for it in crate.below(crates) if not is_there(rlib_of(it))]
     if missing:
-        print(f"not proved: {' '.join(missing)}", file=sys.stderr)
+        print(f"not proved: {' '.join(missing)}; `rt ci {missing[0]}` says why", file=sys.stderr)
         return False
     is_program, begun = os.path.isfile(f"{crate.folder}/src/main.rt"), time.monotonic()
     target = f"{crate.folder}/out/rlib/{crate.name}.rlib"
