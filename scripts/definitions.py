@@ -1,11 +1,12 @@
 #!/usr/bin/env python3
-"""Prints what the clauses of `text::encode` reach: each file of definitions with its lines, and their sum; and then what the metrics of the
-library declare, which these clauses take from them: the ghost members of each impl of an `Encode` trait and of a histogram's sign, and the definitions that only these reach.
+"""Prints what the clauses of `text::encode` reach: each file of definitions with its lines, and their sum; then what those of the calls that
+register reach besides; and what the metrics of the library declare, which these clauses take from them: the ghost members of each impl of an `Encode`
+trait and of a histogram's sign, and the definitions that only these reach.
 
-    scripts/definitions.py [--names] [--most N] [--most-declared N]
+    scripts/definitions.py [--names]
 
-Lines are counted without comments, imports and blank lines, and only those of definitions that are reached. It fails where there are
-more than N (582 and 570 without an argument), or where the clauses of `encode` reach a definition of an `inside` folder.
+Lines are counted without comments, imports and blank lines, and only those of definitions that are reached. It fails where one of the three has more
+than it may (MOST), or where one of the first two reaches a definition of an `inside` folder.
 """
 import re
 import sys
@@ -13,6 +14,18 @@ from pathlib import Path
 
 TOP = Path(__file__).resolve().parent.parent
 WORD = re.compile(r"[^\s(){}\[\],;.→λ←]+")
+
+# The most lines of each: what `encode` promises, what a registration does, and what metrics declare.
+MOST = {"encode": 740, "registering": 340, "declared": 580}
+
+# The sources of the calls that register, with the names of those that do where others stand beside them.
+REGISTERING = {
+    **{f"crates/fm_core/src/registry/tree/{it}.rt": r"\w+" for it in ("metrics", "run", "subsystems", "subsystem_builder")},
+    "crates/fastmetrics/src/registry/root.rt": "(new|built|leave|namespace|enter|register)",
+    **{f"crates/fastmetrics/src/registry/root/{it}.rt": r"\w+" for it in ("metrics", "families", "own", "collectors")},
+    "crates/fastmetrics/src/registry/root/constants.rt": "(keep|info)",
+    "crates/fastmetrics/src/registry/paths.rt": r"\w+",
+}
 
 
 def strip_comment(line):
@@ -143,11 +156,13 @@ def reach(starts):
     return found
 
 
-def clauses_of(path, function):
-    """The clauses of a public function, with what stands between its name and its body."""
-    text = path.read_text()
-    at = text.index(f"pub fn {function}")
-    return text[text.index("ensures", at) : text.index("\n{\n", at)]
+def clauses_of(text, function):
+    """The clauses of the public functions of this name in a source."""
+    for found in re.finditer(rf"^( *)pub fn {function}\b", text, re.M):
+        head = text[found.end() : text.index(f"\n{found[1]}{{", found.end())]
+        clauses = re.search(r"^ *(requires|ensures)\b", head, re.M)
+        if clauses:
+            yield head[clauses.start() :]
 
 
 def imports_of_source(text):
@@ -161,9 +176,9 @@ def imports_of_source(text):
 
 
 def starts():
-    source = TOP / "crates/fm_core/src/scrape.rt"
-    imports = imports_of_source(source.read_text())
-    words = set(words_of(clauses_of(source, "encode").split("\n")))
+    text = (TOP / "crates/fm_core/src/scrape.rt").read_text()
+    imports = imports_of_source(text)
+    words = {word for clauses in clauses_of(text, "encode") for word in words_of(clauses.split("\n"))}
     # What the clauses see of a registry, and what a metric declares.
     registry = (TOP / "crates/fm_core/src/registry/tree.rt").read_text()
     at = registry.index("Model for Registry<M> {")
@@ -179,8 +194,20 @@ def starts():
     return [f for f in found if not f[0].startswith("std.")]
 
 
-# A root that can be shown declares nothing more than its metrics.
-IMPL = re.compile(r"^impl(?![^{;]*\bShown for )[^{;]*?\b(Encode\w+|Sign)\b[^{;]*? for [^{;]*\{$", re.M)
+def registering():
+    """What the clauses of the calls that register name."""
+    found = []
+    for source, function in REGISTERING.items():
+        text = (TOP / source).read_text()
+        imports = imports_of_source(text)
+        words = {word for clauses in clauses_of(text, function) for word in words_of(clauses.split("\n"))}
+        found += [imports[word] for word in words if word in imports]
+    return [it for it in found if not it[0].startswith("std.")]
+
+
+# A root that can be shown declares nothing more than its metrics. A `;` stands in the head of an impl for arrays.
+HEAD = r"(?:[^{;]|;(?= \w+\]))"
+IMPL = re.compile(rf"^impl(?!{HEAD}*\bShown for ){HEAD}*?\b(Encode\w+|Sign)\b{HEAD}*? for {HEAD}*\{{$", re.M)
 GHOST = re.compile(r"^    ghost (?!use )[\s\S]*?;$", re.M)
 
 
@@ -201,53 +228,50 @@ def declared():
     return lines, [n for n in names if not n[0].startswith("std.")]
 
 
-def print_declared(headline, most):
-    """Prints the second list, and returns whether it is within its limit."""
-    lines, names = declared()
-    print("what the metrics of the library declare:")
-    for path in sorted(lines, key=lambda p: -lines[p]):
-        print(f"{lines[path]:5} {path.relative_to(TOP)}")
-    more = reach(names) - headline
-    files = {name for name, _ in more}
-    inner = sum(len(module(name).definitions[word]) for name, word in more)
-    total = sum(lines.values()) + inner
-    print(f"{inner:5} of {len(more)} definitions more in {len(files)} files")
-    if "--names" in sys.argv:
-        print("      " + " ".join(sorted(f"{name}.{word}" for name, word in more)))
-    print(f"{total:5} lines in all that are declared")
-    if total > most:
-        print(f"more than {most} lines are declared", file=sys.stderr)
-    return total <= most
+def size_of(found):
+    return sum(len(module(name).definitions[word]) for name, word in found)
 
 
-def limit(flag, default):
-    return int(sys.argv[sys.argv.index(flag) + 1]) if flag in sys.argv else default
-
-
-def main():
-    most = limit("--most", 582)
-    found = reach(starts())
+def print_reached(found):
+    """Prints the files of definitions with their lines, and returns those of an `inside` folder."""
     by_file = {}
     for name, word in found:
         by_file.setdefault(name, []).append(word)
-    total, wrong = 0, []
-    for name in sorted(by_file, key=lambda n: -sum(len(module(n).definitions[w]) for w in by_file[n])):
+    inside = []
+    for name in sorted(by_file, key=lambda it: -size_of([(it, word) for word in by_file[it]])):
         here = module(name)
-        order = [w for w in here.definitions if w in by_file[name]]
-        lines = sum(len(here.definitions[w]) for w in order)
-        total += lines
-        print(f"{lines:5} {here.path.relative_to(TOP)}")
+        print(f"{size_of([(name, word) for word in by_file[name]]):5} {here.path.relative_to(TOP)}")
         if "--names" in sys.argv:
-            print("      " + " ".join(order))
+            print("      " + " ".join(word for word in here.definitions if word in by_file[name]))
         if "/inside/" in str(here.path):
-            wrong.append(str(here.path.relative_to(TOP)))
-    print(f"{total:5} lines of {len(found)} definitions in {len(by_file)} files")
-    for path in wrong:
-        print(f"reached, and yet inside: {path}", file=sys.stderr)
-    if total > most:
-        print(f"more than {most} lines", file=sys.stderr)
-    is_declared = print_declared(found, limit("--most-declared", 570))
-    sys.exit(1 if wrong or total > most or not is_declared else 0)
+            inside.append(str(here.path.relative_to(TOP)))
+    return inside
+
+
+def print_declared(lines, more):
+    for path in sorted(lines, key=lambda it: -lines[it]):
+        print(f"{lines[path]:5} {path.relative_to(TOP)}")
+    print(f"{size_of(more):5} of {len(more)} definitions more in {len({name for name, _ in more})} files")
+    if "--names" in sys.argv:
+        print("      " + " ".join(sorted(f"{name}.{word}" for name, word in more)))
+
+
+def main():
+    headline = reach(starts())
+    calls = reach(registering()) - headline
+    lines, names = declared()
+    more = reach(names) - headline - calls
+    sizes = {"encode": size_of(headline), "registering": size_of(calls), "declared": sum(lines.values()) + size_of(more)}
+    print("what `encode` promises:")
+    wrong = [f"reached, and yet inside: {it}" for it in print_reached(headline)]
+    print("what the calls that register promise besides:")
+    wrong += [f"reached, and yet inside: {it}" for it in print_reached(calls)]
+    print("what the metrics of the library declare:")
+    print_declared(lines, more)
+    print(", ".join(f"{name} {size}" for name, size in sizes.items()), "lines")
+    wrong += [f"{name}: more than {MOST[name]} lines" for name, size in sizes.items() if size > MOST[name]]
+    print("\n".join(wrong), end="\n" * bool(wrong), file=sys.stderr)
+    sys.exit(1 if wrong else 0)
 
 
 if __name__ == "__main__":

@@ -1,11 +1,13 @@
 //! A root under a lock, for a program that registers while it runs; and a scrape that is never refused.
-ghost use Rattle.std.specs.Prelude.{◌≡◌, IfErr, IfOk};
+ghost use Rattle.std.specs.Prelude.{◌≡◌, IfErr, IfOk, codes};
 
 use fastmetrics::format::text::{EncodeError, Exposition};
 use fastmetrics::metrics::counter::Counter;
+use fastmetrics::metrics::gauge::ConstGauge;
 use fastmetrics::metrics::state_set::NamedStates;
 use fastmetrics::registry::{RegistryError, Root, Shown, Waiter};
 use std::alloc::Global;
+use std::random::RandomSource;
 use std::sync::Mutex;
 
 /// Registers a counter while other threads may have the root. It waits for the lock.
@@ -50,5 +52,21 @@ pub fn first_page<H: Waiter>(root: &mut Root<H>) -> anyhow::Result<Vec<u8>>
 {
     let pages = root.counter("pages", "Pages that were asked for")?;
     pages.inc();
+    Ok(root.document()?)
+}
+
+/// The page of a program that says only which version it has. It is known before the program runs: its bytes are this text.
+pub fn version_page<H: Waiter + RandomSource + AllocGlobal>(rt: H) -> anyhow::Result<Vec<u8>>
+    ensures { IfOk result (λ bytes. bytes.items ≡ codes
+        "# TYPE version gauge\n# HELP version Version of the protocol\nversion 3\n# EOF\n") }
+{
+    let mut root = Root::new(rt)?;
+    root.register(
+        "version",
+        "Version of the protocol",
+        None,
+        ConstGauge::new(3_i64),
+    )?;
+    root.shows_its_constants();
     Ok(root.document()?)
 }

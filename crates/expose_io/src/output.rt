@@ -11,6 +11,7 @@ ghost use Rattle.fastmetrics.specs.Admits.{AdmittedBy};
 ghost use Rattle.expose_io.specs.Outcome.{IsRefusal, status_of, Finishes};
 ghost use Rattle.expose_io.specs.inside.Printed.{PrintsDocument};
 
+use fastmetrics::encoder::EncodeMetric;
 use fastmetrics::format::text::{EncodeError, encode};
 use fastmetrics::metrics::tally::TallyError;
 use fastmetrics::raw::MetricError;
@@ -117,7 +118,7 @@ fn report<E: Write>(errors: &mut E, fault: Fault) -> u8
 fn print_document<W: Write>(alloc: Global, out: &mut W, registry: &Registry) -> Result<(), Fault>
     requires { HasHistory registry.now }
     ensures printed { PrintsDocument
-        (AdmittedBy (λ m. offers m) (λ m. stamps m) (λ m. may_be_empty m) registry.now)
+        (AdmittedBy ⟦<Box<dyn EncodeMetric> as EncodeMetric>⟧ registry.now)
         (W.contents out.old) (W.contents out.new) result }
     ensures refused { IfErr result (λ fault. (error : AnEncodeError)
         × IsRefusal (codes "encode") (encode_number error) fault) }
@@ -135,7 +136,7 @@ pub fn finish<W: Write, E: Write>(
 ) -> u8
     requires { IfOk made (λ registry. HasHistory registry) }
     ensures { Finishes
-        (AdmittedBy (λ m. offers m) (λ m. stamps m) (λ m. may_be_empty m))
+        (AdmittedBy ⟦<Box<dyn EncodeMetric> as EncodeMetric>⟧)
         (W.contents out.old) (W.contents out.new) made result }
 {
     match made {

@@ -9,3 +9,4 @@ pub use Rattle.fm_family.proofs.PairLabels
 mod CollectorLemmas
 pub mod ConstantsLemmas
 pub mod FitLemmas
+mod ConstantPageLemmas

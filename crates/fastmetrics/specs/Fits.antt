@@ -1,6 +1,6 @@
 -- Why a root refuses a metric for its labels' names, which could not stand beside the constant labels of the registry in which it is to
 -- be. Each name is tested when the metric is registered, so that no document is refused for it later.
-use Rattle.std.specs.Prelude.{◌≡◌, ℕ, List, [], ◌∷◌, Option, None, Some, map, codes, if◌then◌else◌}
+use Rattle.std.specs.Prelude.{◌≡◌, List, [], ◌∷◌, Option, None, Some, map, codes, if◌then◌else◌}
 use Rattle.std.specs.List.{Any}
 use Rattle.std.specs.Option.{option_map}
 use Rattle.fm_grammar.specs.LabelPairs.{labels_of}
@@ -16,8 +16,8 @@ use Rattle.fm_registry_model.specs.LabelNames.{names_refusal}
 use Rattle.fm_registry_model.specs.History.{History}
 use Rattle.fm_registry_model.specs.Tree.{Tree, Shows, subtree_from}
 use Rattle.fm_registry_model.specs.Listing.{Listed, listed_name, order}
-use Rattle.fm_encoder.specs.Points.{Member}
 use Rattle.fm_encoder.specs.Offers.{MetricHasFault}
+use Rattle.fm_encoder.specs.declared.metric.EncodeMetric.{Ghosts}
 use Rattle.fm_labels.specs.ReservedNames.{reserved_refusal}
 use Rattle.fm_metrics.specs.Constants.{label_set_of}
 use Rattle.fm_family.specs.VecNames.{vec_names}
@@ -92,20 +92,21 @@ module _ {H X : Type 0} where
   abbrev pub fit_refusal_here : RootState (Metric H X) → Text → Option unit.Unit → Metric H X → Option Refusal
   fit_refusal_here r name u m = fit_refusal_in (subtree_from (Some r.tree) r.path) name u m
 
+module _ {H X : Type 0} (declared : Ghosts X) where
   -- the listed metric is the program's own, and has this fault
-  abbrev pub OwnFault : EncodeError → (X → Option ℕ → List Member → Type 0) → (X → Option ℕ → Type 0) → (X → Type 0) → Listed (Metric H X) → Type 0
-  OwnFault k Offers Stamps MayFault l =
+  abbrev pub OwnFault : EncodeError → Listed (Metric H X) → Type 0
+  OwnFault k l =
       (x : X) × (l.registration.metric ≡ metric.Own x)
-      × MetricHasFault k (Offers x) (Stamps x) (MayFault x) (listed_name l) l.registration.metric_type l.labels
+      × MetricHasFault k (declared.offers x) (declared.stamps x) (declared.may_fault x) (listed_name l) l.registration.metric_type l.labels
 
   -- a metric of the program's own has this fault, in each history that the tree shows
-  pub record HasOwnFault (k : EncodeError) (Offers : X → Option ℕ → List Member → Type 0) (Stamps : X → Option ℕ → Type 0) (MayFault : X → Type 0) (t : Tree (Metric H X)) : Type 0 where
+  pub record HasOwnFault (k : EncodeError) (t : Tree (Metric H X)) : Type 0 where
     pub history : History (Metric H X)
     pub shown : Shows t history
-    pub fault : (b : History (Metric H X)) → Shows t b → Any (OwnFault k Offers Stamps MayFault) (order b)
+    pub fault : (b : History (Metric H X)) → Shows t b → Any (OwnFault k) (order b)
 
   -- a metric of the program's own that is printed under this name has this fault, in each history that the tree shows
-  pub record HasOwnFaultNamed (name : Text) (k : EncodeError) (Offers : X → Option ℕ → List Member → Type 0) (Stamps : X → Option ℕ → Type 0) (MayFault : X → Type 0) (t : Tree (Metric H X)) : Type 0 where
+  pub record HasOwnFaultNamed (name : Text) (k : EncodeError) (t : Tree (Metric H X)) : Type 0 where
     pub history : History (Metric H X)
     pub shown : Shows t history
-    pub fault : (b : History (Metric H X)) → Shows t b → Any (λ l. (name ≡ listed_name l) × OwnFault k Offers Stamps MayFault l) (order b)
+    pub fault : (b : History (Metric H X)) → Shows t b → Any (λ l. (name ≡ listed_name l) × OwnFault k l) (order b)

@@ -82,5 +82,6 @@ pub use Rattle.fm_family.specs.MemberLends
 pub mod Paths
 pub mod Roots
 pub mod Fits
+pub mod ConstantPages
 pub mod inside
 pub mod Collectors

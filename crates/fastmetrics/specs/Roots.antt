@@ -1,5 +1,5 @@
 -- How contracts see a root: its tree, and the subsystem in which it registers.
-use Rattle.std.specs.Prelude.{◌≡◌, ◌⊎◌, ◌++◌, ◌∷◌, [], List, if◌then◌else◌, Option, None, Some, Result, Ok, Err, OnOk, OnErr, MatchResult}
+use Rattle.std.specs.Prelude.{◌≡◌, ◌⊎◌, ◌++◌, ◌∷◌, ℕ, [], List, if◌then◌else◌, Option, None, Some, Result, Ok, Err, OnOk, OnErr, MatchResult}
 use Rattle.fm_grammar.specs.declared.MetricType.{MetricType}
 use Rattle.fm_registry_model.specs.Texts.{Text, Path, Labels, has_text}
 use Rattle.fm_registry_model.specs.Registration.{Registration}
@@ -17,6 +17,12 @@ use Rattle.fm_core.specs.Registers.{RegistersAt}
 pub record RootState (M : Type 0) : Type 0 where
   pub tree : Tree M
   pub path : Path
+
+-- the same of a root, with the length of the path to which `leave` goes back, and the handle by which its metrics wait
+pub record SeenRoot (H M : Type 0) : Type 0 where
+  pub at : RootState M
+  pub base : ℕ
+  pub wait : H
 
 -- the first constant label whose name is among these
 abbrev pub constants_refusal : Labels → List Text → Option Refusal

@@ -17,13 +17,12 @@ use Rattle.fm_registry_model.specs.Registration.{Registration}
 use Rattle.fm_registry_model.specs.Tree.{Facts, Tree, Reads}
 use Rattle.fm_registry_model.specs.Listing.{Listed, listed_name, listed_with, own_metrics, IsListable, order}
 use Rattle.fm_registry_model.proofs.NameLemmas.{printed_names-different}
-use Rattle.fm_encoder.specs.Points.{Member}
+use Rattle.fm_encoder.specs.declared.metric.EncodeMetric.{Ghosts}
 use Rattle.fm_labels.specs.Refusals.{result_of}
 use Rattle.fm_encoder.proofs.FaultLemmas.{MetricHasFault-not_writing}
 use Rattle.fm_core.specs.Seen.{listed_in}
 use Rattle.fm_core.proofs.ListingLemmas.{listed_in-push}
-use Rattle.fm_core.specs.Families.{Heading, FaultUnder}
-use Rattle.fm_core.specs.Admits.{Admits, AdmitsNext, HoldsOfOne, Fault}
+use Rattle.fm_core.specs.Admits.{Admits, AdmitsNext, HoldsOfOne, FaultOf, Fault}
 use Rattle.fm_core.specs.inside.Documents.{AddsFamilies}
 
 all_left : {A : Type 0} (P : A → Type 0) (xs ys : List A) → AllByRecursion P (xs ++ ys) → AllByRecursion P xs
@@ -72,33 +71,33 @@ none_past f xs i None is none = elim (slice_get_cases xs i).1 [
 ]
 none_past f xs i (Some x) is none = absurd (none x refl)
 
-module _ {M : Type 0} (Offers : M → Option ℕ → List Member → Type 0) (Stamps : M → Option ℕ → Type 0) (Empty : M → Type 0) where
-  pub Admits-++ : (ls ms : List (Listed M)) (d e : Exposition) → Admits Offers Stamps Empty ls d → Admits Offers Stamps Empty ms e → Admits Offers Stamps Empty (ls ++ ms) (d ++ e)
-  Admits-++ [] ms d e h more = subst (λ (fs : Exposition). Admits Offers Stamps Empty ms (fs ++ e)) (sym h) more
+module _ {M : Type 0} (declared : Ghosts M) where
+  pub Admits-++ : (ls ms : List (Listed M)) (d e : Exposition) → Admits declared ls d → Admits declared ms e → Admits declared (ls ++ ms) (d ++ e)
+  Admits-++ [] ms d e h more = subst (λ (fs : Exposition). Admits declared ms (fs ++ e)) (sym h) more
   Admits-++ (x ∷ ls) ms d e (inl h) more = inl (h.0, Admits-++ ls ms d e h.1 more)
   Admits-++ (x ∷ ls) ms d e (inr (f, rest, is, own, h)) more = inr (f, rest ++ e, ap (λ (fs : Exposition). fs ++ e) is, own, Admits-++ ls ms rest e h more)
 
-  AddsFamilies-one : (l : Listed M) (old new : Exposition) → AdmitsNext Offers Stamps Empty l old new → AddsFamilies Offers Stamps Empty (l ∷ []) old new
+  AddsFamilies-one : (l : Listed M) (old new : Exposition) → AdmitsNext declared l old new → AddsFamilies declared (l ∷ []) old new
   AddsFamilies-one l old new (inl (empty, same)) = ([], inl (empty, refl), same ∙ sym (append-nil old))
   AddsFamilies-one l old new (inr (f, longer, own)) = (f ∷ [], inr (f, [], refl, own, refl), longer)
 
-  pub AddsFamilies-++ : (ls ms : List (Listed M)) (a b c : Exposition) → AddsFamilies Offers Stamps Empty ls a b → AddsFamilies Offers Stamps Empty ms b c → AddsFamilies Offers Stamps Empty (ls ++ ms) a c
+  pub AddsFamilies-++ : (ls ms : List (Listed M)) (a b c : Exposition) → AddsFamilies declared ls a b → AddsFamilies declared ms b c → AddsFamilies declared (ls ++ ms) a c
   AddsFamilies-++ ls ms a b c (d, first, is) (e, second, longer) =
       (d ++ e, Admits-++ ls ms d e first second, longer ∙ ap (λ (fs : Exposition). fs ++ e) is ∙ append_assoc a d e)
 
   -- the next metric of a list
-  pub AddsFamilies-next : (ls : List (Listed M)) (i : ℕ) (l : Listed M) (a b c : Exposition) → slice_get ls i ≡ Some l → AddsFamilies Offers Stamps Empty (take i ls) a b → AdmitsNext Offers Stamps Empty l b c → AddsFamilies Offers Stamps Empty (take (i + 1) ls) a c
+  pub AddsFamilies-next : (ls : List (Listed M)) (i : ℕ) (l : Listed M) (a b c : Exposition) → slice_get ls i ≡ Some l → AddsFamilies declared (take i ls) a b → AdmitsNext declared l b c → AddsFamilies declared (take (i + 1) ls) a c
   AddsFamilies-next ls i l a b c at before next =
-      subst (λ ms. AddsFamilies Offers Stamps Empty ms a c) (sym (take_at ls i l at)) (AddsFamilies-++ (take i ls) (l ∷ []) a b c before (AddsFamilies-one l b c next))
+      subst (λ ms. AddsFamilies declared ms a c) (sym (take_at ls i l at)) (AddsFamilies-++ (take i ls) (l ∷ []) a b c before (AddsFamilies-one l b c next))
 
   -- what holds of each listed name holds of each family's
-  collected_all : (P : Text → Type 0) (ls : List (Listed M)) (e : Exposition) → AllByRecursion P (map listed_name ls) → Admits Offers Stamps Empty ls e → AllByRecursion P (map (λ family. family.name) e)
+  collected_all : (P : Text → Type 0) (ls : List (Listed M)) (e : Exposition) → AllByRecursion P (map listed_name ls) → Admits declared ls e → AllByRecursion P (map (λ family. family.name) e)
   collected_all P [] e h admits = subst (λ (fs : Exposition). AllByRecursion P (map (λ family. family.name) fs)) (sym admits) tt
   collected_all P (l ∷ ls) e h (inl left_out) = collected_all P ls e h.1 left_out.1
   collected_all P (l ∷ ls) e h (inr (f, rest, is, own, admits)) = subst (λ (fs : Exposition). AllByRecursion P (map (λ family. family.name) fs)) (sym is) (subst P (sym own.0) h.0, collected_all P ls rest h.1 admits)
 
   -- if all listed names differ, and differ from further ones, so do those of the families
-  pub families_differ : (ls : List (Listed M)) (e : Exposition) (further : List Text) → Admits Offers Stamps Empty ls e → AllDifferent (map listed_name ls ++ further) → AllDifferent (map (λ family. family.name) e ++ further)
+  pub families_differ : (ls : List (Listed M)) (e : Exposition) (further : List Text) → Admits declared ls e → AllDifferent (map listed_name ls ++ further) → AllDifferent (map (λ family. family.name) e ++ further)
   families_differ [] e further admits differ = subst (λ (fs : Exposition). AllDifferent (map (λ family. family.name) fs ++ further)) (sym admits) differ
   families_differ (l ∷ ls) e further (inl left_out) differ = families_differ ls e further left_out.1 differ.1
   families_differ (l ∷ ls) e further (inr (f, rest, is, own, admits)) differ =
@@ -114,7 +113,7 @@ module _ {M : Type 0} (Offers : M → Option ℕ → List Member → Type 0) (St
   is_new n (f ∷ e) h = (h.0, is_new n e h.1)
 
   -- if all names differ, the next one is that of no family so far
-  pub next_new : (ls : List (Listed M)) (i : ℕ) (l : Listed M) (old e : Exposition) → slice_get ls i ≡ Some l → AllDifferent (map (λ family. family.name) old ++ map listed_name ls) → AddsFamilies Offers Stamps Empty (take i ls) old e
+  pub next_new : (ls : List (Listed M)) (i : ℕ) (l : Listed M) (old e : Exposition) → slice_get ls i ≡ Some l → AllDifferent (map (λ family. family.name) old ++ map listed_name ls) → AddsFamilies declared (take i ls) old e
       → IsNewName (listed_name l) e
   next_new ls i l old e at differ (added, admits, is) =
       let split = split_at ls i l (slice_get_within ls i l at) (sym (get_or_from_slice_get ls i l l at)) in
@@ -157,9 +156,9 @@ module _ {M : Type 0} where
       all_left IsListable (own_metrics r.now.facts) split.0 (all_right IsListable (listed_in (take i registries)) (own_metrics r.now.facts ++ split.0) (subst (AllByRecursion IsListable) split.1 all))
 
   -- the names of the next registry's metrics differ, and no family so far has one of them
-  pub next_names : (Offers : M → Option ℕ → List Member → Type 0) (Stamps : M → Option ℕ → Type 0) (Empty : M → Type 0) (registries : List (Bor (Tree M))) (i : ℕ) (r : Bor (Tree M)) (e : Exposition) → i < length registries → r ≡ get_or registries i r
-      → AllDifferent (map listed_name (listed_in registries)) → Admits Offers Stamps Empty (listed_in (take i registries)) e → AllDifferent (map (λ family. family.name) e ++ map listed_name (own_metrics r.now.facts))
-  next_names Offers Stamps Empty registries i r e within is differ admits =
+  pub next_names : (declared : Ghosts M) (registries : List (Bor (Tree M))) (i : ℕ) (r : Bor (Tree M)) (e : Exposition) → i < length registries → r ≡ get_or registries i r
+      → AllDifferent (map listed_name (listed_in registries)) → Admits declared (listed_in (take i registries)) e → AllDifferent (map (λ family. family.name) e ++ map listed_name (own_metrics r.now.facts))
+  next_names declared registries i r e within is differ admits =
       let split = registry_at registries i r within is in
       let befores = map listed_name (listed_in (take i registries)) in
       let own = map listed_name (own_metrics r.now.facts) in
@@ -167,7 +166,7 @@ module _ {M : Type 0} where
       let parts : map listed_name (listed_in registries) ≡ (befores ++ own) ++ rest =
       ap (map listed_name) split.1 ∙ map-append listed_name (listed_in (take i registries)) (own_metrics r.now.facts ++ split.0)
       ∙ ap (λ (ms : List Text). befores ++ ms) (map-append listed_name (own_metrics r.now.facts) split.0) ∙ sym (append_assoc befores own rest) in
-      families_differ Offers Stamps Empty (listed_in (take i registries)) e own admits (differ_left (befores ++ own) rest (subst AllDifferent parts differ))
+      families_differ declared (listed_in (take i registries)) e own admits (differ_left (befores ++ own) rest (subst AllDifferent parts differ))
 
 module _ {M : Type 0} (P : Listed M → Type 0) where
   one-left : (ls ms : List (Listed M)) → HoldsOfOne P ls → HoldsOfOne P (ls ++ ms)
@@ -211,18 +210,19 @@ refused_answer : (r : Result (Unit {0}) EncodeError) (refused : Option EncodeErr
 refused_answer r None P is h = subst (λ s. IfErr s P) (sym is) tt
 refused_answer r (Some k) P is h = subst (λ s. IfErr s P) (sym is) (h k refl)
 
-pub refused_under : (Offers : Option ℕ → List Member → Type 0) (Stamps : Option ℕ → Type 0) (MayFault : Type 0) (above heading : Heading) (r : Result (Unit {0}) EncodeError) (refused : Option EncodeError) → above ≡ heading → r ≡ result_of refused
-    → ((k : EncodeError) → refused ≡ Some k → (k ≡ Memory) ⊎ FaultUnder Offers Stamps k MayFault above) → IfErr r (λ k. (k ≡ Memory) ⊎ FaultUnder Offers Stamps k MayFault heading)
-refused_under Offers Stamps MayFault above heading r refused same is faults =
-    refused_answer r refused (λ k. (k ≡ Memory) ⊎ FaultUnder Offers Stamps k MayFault heading) is (λ k e. subst (λ d. (k ≡ Memory) ⊎ FaultUnder Offers Stamps k MayFault d) same (faults k e))
+pub refused_under : {M : Type 0} (declared : Ghosts M) (above listed : Listed M) (r : Result (Unit {0}) EncodeError) (refused : Option EncodeError) → above ≡ listed → r ≡ result_of refused
+    → ((k : EncodeError) → refused ≡ Some k → (k ≡ Memory) ⊎ FaultOf declared k above) → IfErr r (λ k. (k ≡ Memory) ⊎ FaultOf declared k listed)
+refused_under declared above listed r refused same is faults =
+    refused_answer r refused (λ k. (k ≡ Memory) ⊎ FaultOf declared k listed) is (λ k e. subst (λ d. (k ≡ Memory) ⊎ FaultOf declared k d) same (faults k e))
 
 -- no refusal in collecting is the writer's
-pub refusal-not_writing : {M : Type 0} (k : EncodeError) (Offers : M → Option ℕ → List Member → Type 0) (Stamps : M → Option ℕ → Type 0) (MayFault : M → Type 0) (ls : List (Listed M)) → (k ≡ Memory) ⊎ Fault k Offers Stamps MayFault ls → ¬ (IsWritersFault k)
-refusal-not_writing k Offers Stamps MayFault ls (inl memory) writing = subst IsWritersFault memory writing
-refusal-not_writing k Offers Stamps MayFault [] (inr never) writing = absurd never
-refusal-not_writing k Offers Stamps MayFault (l ∷ ls) (inr (inl fault)) writing =
-    MetricHasFault-not_writing k (Offers l.registration.metric) (Stamps l.registration.metric) (MayFault l.registration.metric) (listed_name l) l.registration.metric_type l.labels fault writing
-refusal-not_writing k Offers Stamps MayFault (l ∷ ls) (inr (inr faults)) writing = refusal-not_writing k Offers Stamps MayFault ls (inr faults) writing
+pub refusal-not_writing : {M : Type 0} (declared : Ghosts M) (k : EncodeError) (ls : List (Listed M)) → (k ≡ Memory) ⊎ Fault declared k ls → ¬ (IsWritersFault k)
+refusal-not_writing declared k ls (inl memory) writing = subst IsWritersFault memory writing
+refusal-not_writing declared k [] (inr never) writing = absurd never
+refusal-not_writing declared k (l ∷ ls) (inr (inl fault)) writing =
+    let r = l.registration in
+    MetricHasFault-not_writing k (declared.offers r.metric) (declared.stamps r.metric) (declared.may_fault r.metric) (listed_name l) r.metric_type l.labels fault writing
+refusal-not_writing declared k (l ∷ ls) (inr (inr faults)) writing = refusal-not_writing declared k ls (inr faults) writing
 
 -- what holds of the families holds of what a collection ends in
 pub if_ended : {A : Type 0} (r : Result A EncodeError) (families : A) (refused : Option EncodeError) (P : A → Type 0) → MatchResult r (λ e. (refused ≡ None) × (e ≡ families)) (λ k. refused ≡ Some k) → P families → IfOk r P

@@ -18,15 +18,14 @@ use Rattle.fm_exposition.specs.inside.DocumentRows.{family_rows, families_rows}
 use Rattle.fm_raw.specs.declared.encode_error.EncodeError.{EncodeError}
 use Rattle.fm_raw.specs.declared.encode_error.EncodeError.TheVariants.{Memory}
 use Rattle.fm_writer.specs.Output.{Output, OutputText, appended, with_lines}
-use Rattle.fm_encoder.specs.Points.{Member}
+use Rattle.fm_encoder.specs.declared.metric.EncodeMetric.{Ghosts}
 use Rattle.fm_encoder.specs.Gathered.{GatheredMembers}
 use Rattle.fm_core.specs.Seen.{seen_listed}
 use Rattle.fm_core.specs.declared.registry.listed.ListedMetric.{ListedMetric}
-use Rattle.fm_core.specs.Families.{Heading, FaultUnder}
 use Rattle.fm_core.specs.inside.Offered.{Offered}
-use Rattle.fm_core.specs.inside.Documents.{heading_rows, text_so_far, HasLines, AddsRows, AddsNextRows, AddsRowsOf}
+use Rattle.fm_core.specs.inside.Documents.{listed_rows, text_so_far, HasLines, AddsNextRows, AddsRowsOf}
 use Rattle.fm_core.proofs.OfferedLemmas.{Makes}
-use Rattle.fm_core.specs.Admits.{Admits}
+use Rattle.fm_core.specs.Admits.{Admits, FaultOf}
 use Rattle.fm_core.proofs.CollectLemmas.{Admits-++, take_at, families_differ}
 
 -- a name in the exposition is the tail after the namespace
@@ -40,16 +39,19 @@ listed-tail m =
     ap (prefixed_name (option_copied m.namespace)) m.fits
     ∙ printed-tail (option_copied m.namespace) (string_bytes m.metadata.now.name) (printed_unit (option_map seen_unit m.metadata.now.unit))
 
--- a heading's lines, and then those of the samples that the metric offered, are the lines of its family
-AddsRows-family : (Offers : Option ℕ → List Member → Type 0) (Stamps : Option ℕ → Type 0) (MayBeEmpty : Type 0) (heading : Heading) (old : Text) (output : Output) → IsListable heading → Offered Offers Stamps (listed_name heading) heading.registration.metric_type heading.labels (OutputText (old ++ heading_rows heading)) output → AddsRows Offers Stamps MayBeEmpty heading old (text_so_far output)
-AddsRows-family Offers Stamps MayBeEmpty heading old output heads offered =
-    let rows = sample_rows (listed_name heading) offered.samples in
-    let family : Family = record { name = listed_name heading; metric_type = heading.registration.metric_type; help = heading.registration.help; unit = printed_unit heading.registration.unit; samples = offered.samples } in
+-- the lines that come before the samples of a metric's family, and then those of the samples that it offered, are the family's lines
+AddsNextRows-family : {M : Type 0} (declared : Ghosts M) (l : Listed M) (old : Text) (output : Output) → IsListable l
+    → Offered (declared.offers l.registration.metric) (declared.stamps l.registration.metric) (listed_name l) l.registration.metric_type l.labels (OutputText (old ++ listed_rows l)) output
+    → AddsNextRows declared l old (text_so_far output)
+AddsNextRows-family declared l old output fits offered =
+    let r = l.registration in
+    let rows = sample_rows (listed_name l) offered.samples in
+    let family : Family = record { name = listed_name l; metric_type = r.metric_type; help = r.help; unit = printed_unit r.unit; samples = offered.samples } in
     inr (
       family,
       (refl, refl, refl, refl, offered.admitted),
-      record { name = heads.name; unit = heads.unit; allowed = heads.allowed; samples = offered.formed },
-      ap text_so_far offered.is ∙ append_assoc old (heading_rows heading) rows,
+      record { name = fits.name; unit = fits.unit; allowed = fits.allowed; samples = offered.formed },
+      ap text_so_far offered.is ∙ append_assoc old (listed_rows l) rows,
     )
 
 -- an output with further samples is a text if it was one
@@ -59,43 +61,43 @@ still_text name old new text samples was is =
     now ∙ ap OutputText (sym (ap text_so_far now))
 
 -- what an encoder of lines makes of a metric
-pub family_added : (Offers : Option ℕ → List Member → Type 0) (Stamps : Option ℕ → Type 0) (MayBeEmpty MayFault : Type 0) (heading : Heading) (old new : GatheredMembers) (made : Result (Unit {0}) EncodeError)
-    → IsListable heading → HasLines old
-    → Makes Offers Stamps MayFault (listed_name heading) heading.registration.metric_type heading.labels (with_lines old.output (heading_rows heading)) new made
-    → MatchResult made (λ _. HasLines new × AddsRows Offers Stamps MayBeEmpty heading (text_so_far old.output) (text_so_far new.output)) (λ k. (k ≡ Memory) ⊎ FaultUnder Offers Stamps k MayFault heading)
-family_added Offers Stamps MayBeEmpty MayFault heading old new (Ok x) heads lines h =
+pub family_added : {M : Type 0} (declared : Ghosts M) (l : Listed M) (old new : GatheredMembers) (made : Result (Unit {0}) EncodeError) → IsListable l → HasLines old
+    → Makes (declared.offers l.registration.metric) (declared.stamps l.registration.metric) (declared.may_fault l.registration.metric) (listed_name l) l.registration.metric_type l.labels (with_lines old.output (listed_rows l)) new made
+    → MatchResult made (λ _. HasLines new × AddsNextRows declared l (text_so_far old.output) (text_so_far new.output)) (λ k. (k ≡ Memory) ⊎ FaultOf declared k l)
+family_added declared l old new (Ok x) fits lines h =
+    let r = l.registration in
     let text = text_so_far old.output in
-    let headed = OutputText (text ++ heading_rows heading) in
-    let offered : Offered Offers Stamps (listed_name heading) heading.registration.metric_type heading.labels headed new.output =
-    subst (λ (o : Output). Offered Offers Stamps (listed_name heading) heading.registration.metric_type heading.labels (with_lines o (heading_rows heading)) new.output) lines.text h.1 in
-    (record { text = still_text (listed_name heading) headed new.output _ offered.samples refl offered.is; accepting = h.0 }, AddsRows-family Offers Stamps MayBeEmpty heading text new.output heads offered)
-family_added Offers Stamps MayBeEmpty MayFault heading old new (Err k) heads lines h = h
+    let begun = OutputText (text ++ listed_rows l) in
+    let offered : Offered (declared.offers r.metric) (declared.stamps r.metric) (listed_name l) r.metric_type l.labels begun new.output =
+    subst (λ (o : Output). Offered (declared.offers r.metric) (declared.stamps r.metric) (listed_name l) r.metric_type l.labels (with_lines o (listed_rows l)) new.output) lines.text h.1 in
+    (record { text = still_text (listed_name l) begun new.output _ offered.samples refl offered.is; accepting = h.0 }, AddsNextRows-family declared l text new.output fits offered)
+family_added declared l old new (Err k) fits lines h = h
 
-module _ {M : Type 0} (Offers : M → Option ℕ → List Member → Type 0) (Stamps : M → Option ℕ → Type 0) (Empty : M → Type 0) where
-  pub AddsRowsOf-none : (text : Text) → AddsRowsOf Offers Stamps Empty [] text text
+module _ {M : Type 0} (declared : Ghosts M) where
+  pub AddsRowsOf-none : (text : Text) → AddsRowsOf declared [] text text
   AddsRowsOf-none text = ([], refl, tt, sym (append-nil text))
 
-  AddsRowsOf-one : (l : Listed M) (old new : Text) → AddsNextRows Offers Stamps Empty l old new → AddsRowsOf Offers Stamps Empty (l ∷ []) old new
+  AddsRowsOf-one : (l : Listed M) (old new : Text) → AddsNextRows declared l old new → AddsRowsOf declared (l ∷ []) old new
   AddsRowsOf-one l old new (inl (empty, same)) = ([], inl (empty, refl), tt, same ∙ sym (append-nil old))
   AddsRowsOf-one l old new (inr (f, own, formed, longer)) = (f ∷ [], inr (f, [], refl, own, refl), (formed, tt), longer ∙ ap (λ (rows : Text). old ++ rows) (sym (append-nil (family_rows f))))
 
-  pub AddsRowsOf-++ : (ls ms : List (Listed M)) (a b c : Text) → AddsRowsOf Offers Stamps Empty ls a b → AddsRowsOf Offers Stamps Empty ms b c → AddsRowsOf Offers Stamps Empty (ls ++ ms) a c
+  pub AddsRowsOf-++ : (ls ms : List (Listed M)) (a b c : Text) → AddsRowsOf declared ls a b → AddsRowsOf declared ms b c → AddsRowsOf declared (ls ++ ms) a c
   AddsRowsOf-++ ls ms a b c (d, first, formed, is) (e, second, forms, longer) =
       let rows : families_rows (d ++ e) ≡ families_rows d ++ families_rows e = flat_map-append family_rows d e in (
         d ++ e,
-        Admits-++ Offers Stamps Empty ls ms d e first second,
+        Admits-++ declared ls ms d e first second,
         all_append IsFamily d e formed forms,
         longer ∙ ap (λ (t : Text). t ++ families_rows e) is ∙ append_assoc a (families_rows d) (families_rows e) ∙ ap (λ (t : Text). a ++ t) (sym rows),
       )
 
   -- the next metric of a list
-  pub AddsRowsOf-next : (ls : List (Listed M)) (i : ℕ) (l : Listed M) (a b c : Text) → slice_get ls i ≡ Some l → AddsRowsOf Offers Stamps Empty (take i ls) a b → AddsNextRows Offers Stamps Empty l b c → AddsRowsOf Offers Stamps Empty (take (i + 1) ls) a c
+  pub AddsRowsOf-next : (ls : List (Listed M)) (i : ℕ) (l : Listed M) (a b c : Text) → slice_get ls i ≡ Some l → AddsRowsOf declared (take i ls) a b → AddsNextRows declared l b c → AddsRowsOf declared (take (i + 1) ls) a c
   AddsRowsOf-next ls i l a b c at before next =
-      subst (λ ms. AddsRowsOf Offers Stamps Empty ms a c) (sym (take_at ls i l at)) (AddsRowsOf-++ (take i ls) (l ∷ []) a b c before (AddsRowsOf-one l b c next))
+      subst (λ ms. AddsRowsOf declared ms a c) (sym (take_at ls i l at)) (AddsRowsOf-++ (take i ls) (l ∷ []) a b c before (AddsRowsOf-one l b c next))
 
   -- if all listed names differ, the families make an exposition
-  pub exposition_of : (ls : List (Listed M)) (e : Exposition) → Admits Offers Stamps Empty ls e → AllByRecursion IsFamily e → AllDifferent (map listed_name ls) → IsExposition e
+  pub exposition_of : (ls : List (Listed M)) (e : Exposition) → Admits declared ls e → AllByRecursion IsFamily e → AllDifferent (map listed_name ls) → IsExposition e
   exposition_of ls e admits formed differ = record {
     well_formed = formed;
-    different = subst AllDifferent (append-nil (map (λ family. family.name) e)) (families_differ Offers Stamps Empty ls e [] admits (subst AllDifferent (sym (append-nil (map listed_name ls))) differ));
+    different = subst AllDifferent (append-nil (map (λ family. family.name) e)) (families_differ declared ls e [] admits (subst AllDifferent (sym (append-nil (map listed_name ls))) differ));
   }

@@ -10,10 +10,9 @@ ghost use Rattle.fm_registry_model.specs.Listing.{listed_name, own_metrics, orde
 ghost use Rattle.fm_registry_model.specs.Tree.{Shows};
 ghost use Rattle.fm_core.specs.Seen.{seen_listed, listed_in};
 ghost use Rattle.fm_core.specs.HasHistory.{HasHistory};
-ghost use Rattle.fm_core.specs.Families.{AddsFamily, FaultUnder};
-ghost use Rattle.fm_core.specs.Admits.{Admits, AdmittedBy, AdmitsNext, FaultOf, Fault, FaultNamed};
+ghost use Rattle.fm_core.specs.Admits.{Admits, AdmittedBy, AdmitsNext, FaultOf, FaultNamed, HasFault};
 ghost use Rattle.fm_core.specs.Encoded.{WritesAdmitted, BeginsAdmitted};
-ghost use Rattle.fm_core.specs.inside.Documents.{heading_within, AddsFamilies};
+ghost use Rattle.fm_core.specs.inside.Documents.{listed_within, AddsFamilies};
 
 mod document;
 mod family;
@@ -41,19 +40,17 @@ fn encode_under<'a, M: EncodeMetric>(
     metadata: &Metadata,
     metric: &M,
 ) -> Result<(), EncodeError>
-    requires heading { IsListable (heading_within scope metadata.now) }
+    requires listable { IsListable (listed_within scope metadata.now metric.now) }
     requires new_name { IsNewName
-        (listed_name (heading_within scope metadata.now)) encoder.old.families }
+        (listed_name (listed_within scope metadata.now metric.now)) encoder.old.families }
     requires accepting { encoder.old.refused ≡ None }
     ensures accepting { OnOk result (encoder.new.refused ≡ None) }
     ensures ok { OnOk result
-        (AddsFamily (M.offers metric.now) (M.stamps metric.now) (M.may_be_empty metric.now)
-        (heading_within scope.entry metadata.now)
+        (AdmitsNext M.EncodeMetric (listed_within scope.entry metadata.now metric.now)
         encoder.old.families
         encoder.new.families) }
     ensures err { IfErr result (λ k. (k ≡ EncodeError.Memory)
-        ⊎ FaultUnder (M.offers metric.now) (M.stamps metric.now) k (M.may_fault metric.now)
-        (heading_within scope.entry metadata.now)) }
+        ⊎ FaultOf M.EncodeMetric k (listed_within scope.entry metadata.now metric.now)) }
 {
     encoder.enter(scope);
     encoder.encode(metadata, metric)
@@ -69,11 +66,11 @@ fn encode_listed<'a, M: EncodeMetric>(
     requires accepting { encoder.old.refused ≡ None }
     ensures accepting { OnOk result (encoder.new.refused ≡ None) }
     ensures ok { OnOk result
-        (AdmitsNext (λ m. M.offers m) (λ m. M.stamps m) (λ m. M.may_be_empty m)
+        (AdmitsNext M.EncodeMetric
         (seen_listed listed.now) encoder.old.families
         encoder.new.families) }
     ensures err { IfErr result (λ k. (k ≡ EncodeError.Memory)
-        ⊎ FaultOf k (λ m. M.offers m) (λ m. M.stamps m) (λ m. M.may_fault m) (seen_listed listed.now)) }
+        ⊎ FaultOf M.EncodeMetric k (seen_listed listed.now)) }
 {
     let scope = Scope {
         namespace: listed.namespace,
@@ -101,12 +98,12 @@ fn encode_registry<'a, M: EncodeMetric>(
     requires accepting { encoder.old.refused ≡ None }
     ensures accepting { OnOk result (encoder.new.refused ≡ None) }
     ensures ok { OnOk result
-        (AddsFamilies (λ m. M.offers m) (λ m. M.stamps m) (λ m. M.may_be_empty m)
+        (AddsFamilies M.EncodeMetric
         (own_metrics registry.now.facts) encoder.old.families
         encoder.new.families) }
     ensures err { IfErr result (λ stop. (stop.error ≡ EncodeError.Memory)
-        ⊎ FaultNamed stop.error (λ m. M.offers m) (λ m. M.stamps m) (λ m. M.may_fault m)
-        (listed_name (seen_listed stop.listed)) (own_metrics registry.now.facts)) }
+        ⊎ FaultNamed M.EncodeMetric (listed_name (seen_listed stop.listed)) stop.error
+        (own_metrics registry.now.facts)) }
 {
     for index in 0..registry.metric_count() {
         if let Some(listed) = registry.metric_at(index) {
@@ -128,11 +125,11 @@ fn gather<'a, M: EncodeMetric>(
     requires new { (encoder.old.families ≡ []) × (encoder.old.refused ≡ None) }
     ensures accepting { OnOk result (encoder.new.refused ≡ None) }
     ensures admitted { OnOk result
-        (Admits (λ m. M.offers m) (λ m. M.stamps m) (λ m. M.may_be_empty m)
+        (Admits M.EncodeMetric
         (listed_in registries.now) encoder.new.families) }
     ensures err { IfErr result (λ stop. (stop.error ≡ EncodeError.Memory)
-        ⊎ FaultNamed stop.error (λ m. M.offers m) (λ m. M.stamps m) (λ m. M.may_fault m)
-        (listed_name (seen_listed stop.listed)) (listed_in registries.now)) }
+        ⊎ FaultNamed M.EncodeMetric (listed_name (seen_listed stop.listed)) stop.error
+        (listed_in registries.now)) }
 {
     for registry in registries {
         encode_registry(encoder, registry)?;
@@ -152,11 +149,10 @@ pub fn collect<M: EncodeMetric>(
     requires { HasHistory registry.now }
     // Every history that the registry reads admits the exposition.
     ensures admitted { IfOk result
-        (AdmittedBy (λ m. M.offers m) (λ m. M.stamps m) (λ m. M.may_be_empty m) registry.now) }
+        (AdmittedBy M.EncodeMetric registry.now) }
     // A refusal names a fault that the tree has.
-    ensures fault { IfErr result (λ k. (k ≡ EncodeError.Memory)
-        ⊎ ((b : _) → Shows registry.now b
-        → Fault k (λ m. M.offers m) (λ m. M.stamps m) (λ m. M.may_fault m) (order b))) }
+    ensures fault { IfErr result
+        (λ k. (k ≡ EncodeError.Memory) ⊎ HasFault M.EncodeMetric k registry.now) }
     ensures not_writing { IfErr result (λ k. ¬ (IsWritersFault k)) }
 {
     let Ok(list) = registry.listing(alloc) else {
@@ -182,17 +178,15 @@ pub fn encode<W: Write, M: EncodeMetric>(
     requires { HasHistory registry.now }
     // The document, and nothing else, of an exposition that every history of the registry admits, and of no other exposition.
     ensures document { OnOk result (WritesAdmitted
-        (AdmittedBy (λ m. M.offers m) (λ m. M.stamps m) (λ m. M.may_be_empty m) registry.now)
+        (AdmittedBy M.EncodeMetric registry.now)
         (W.contents writer.old) (W.contents writer.new)) }
     // A refusal in collecting writes nothing, and names a fault that the tree has.
     ensures refused { IfErr result (λ k. ¬ (IsWritersFault k)
         → Keeps (W.contents writer.old) (W.contents writer.new)
-        × ((k ≡ EncodeError.Memory)
-        ⊎ ((b : _) → Shows registry.now b
-        → Fault k (λ m. M.offers m) (λ m. M.stamps m) (λ m. M.may_fault m) (order b)))) }
+        × ((k ≡ EncodeError.Memory) ⊎ HasFault M.EncodeMetric k registry.now)) }
     // After an error of the writer, a beginning of such a document was written.
     ensures stopped { IfErr result (λ k. IsWritersFault k → BeginsAdmitted
-        (AdmittedBy (λ m. M.offers m) (λ m. M.stamps m) (λ m. M.may_be_empty m) registry.now)
+        (AdmittedBy M.EncodeMetric registry.now)
         (W.contents writer.old) (W.contents writer.new)) }
 {
     let lines = document_lines(alloc, registry)?;

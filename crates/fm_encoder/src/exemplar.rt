@@ -15,7 +15,7 @@ use fm_exposition::code_points::are_short;
 use fm_exposition::{Exemplar, make};
 use fm_grammar::MetricType;
 use fm_labels::first_refusal::FirstRefusal;
-use fm_labels::label::LabelSetEncoder;
+use fm_labels::gathering;
 use fm_labels::label_set::EncodeLabelSet;
 use fm_raw::EncodeError;
 use fm_raw::fixed::Fixed;
@@ -163,10 +163,10 @@ fn written_labels<LS: EncodeLabelSet>(
         (λ k. OwnRefusal (LS.may_fault labels.now) k
         ⊎ LabelsFault k Unknown [] (LS.labels labels.now)) }
 {
-    let mut encoder = LabelSetEncoder::new(alloc, MetricType::Unknown);
+    let mut encoder = gathering::new(alloc, MetricType::Unknown);
     let visited = labels.encode(&mut encoder);
-    encoder.outcome(visited)?;
-    Ok(encoder.text().to_owned(alloc)?)
+    gathering::outcome(&encoder, visited)?;
+    Ok(gathering::text(&encoder).to_owned(alloc)?)
 }
 
 // The exemplar that a source emits, if it emits one.

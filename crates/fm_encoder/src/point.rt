@@ -23,10 +23,10 @@ use fm_exposition::{Exemplar, SampleStore, Value};
 use fm_grammar::{MetricType, SampleKind};
 use fm_labels::constants::ConstantLabels;
 use fm_labels::first_refusal::{FirstRefusal, own_refusal};
-use fm_labels::keep;
 use fm_labels::label::LabelSetEncoder;
 use fm_labels::label_set::EncodeLabelSet;
 use fm_labels::written_labels::WrittenLabels;
+use fm_labels::{gathering, keep};
 use fm_raw::EncodeError;
 use fm_text::{GrowingText, LabelText};
 use fm_writer::{FamilyHead, NewSample, Sink};
@@ -124,7 +124,7 @@ impl PointEncoder {
             alloc,
             name: String::new(alloc),
             time: None,
-            labels: LabelSetEncoder::new(alloc, MetricType::Unknown),
+            labels: gathering::new(alloc, MetricType::Unknown),
             deferred: None,
             sink,
             refused: FirstRefusal { error: None },
@@ -158,7 +158,7 @@ impl PointEncoder {
     {
         mem::swap(&mut self.name, name);
         self.time = time;
-        self.labels.begin(head.metric_type);
+        gathering::begin(&mut self.labels, head.metric_type);
         self.sink.unshare();
         self.deferred = None;
         keep!(
@@ -172,7 +172,7 @@ impl PointEncoder {
         ensures { Takes (BeginsPoint metric_type self.old self.new) self.new.refused result }
     {
         self.refused.check()?;
-        if metric_type != self.labels.metric_type() {
+        if metric_type != gathering::metric_type(&self.labels) {
             return self.refused.refuse(EncodeError::KindMismatch);
         }
         if let Some(error) = self.deferred {
@@ -206,7 +206,7 @@ impl PointEncoder {
     {
         let mut sample = NewSample {
             kind,
-            common: self.labels.text(),
+            common: gathering::text(&self.labels),
             own,
             value: *value,
             time: self.time,
@@ -238,7 +238,7 @@ impl PointEncoder {
     {
         let mut sample = NewSample {
             kind,
-            common: self.labels.text(),
+            common: gathering::text(&self.labels),
             own: &self.none,
             value: *value,
             time: self.time,
@@ -277,7 +277,7 @@ impl PointEncoder {
     pub(crate) fn metric_type(&self) -> MetricType
         ensures { result ≡ self.now.setting.metric_type }
     {
-        self.labels.metric_type()
+        gathering::metric_type(&self.labels)
     }
 
     pub(crate) fn time(&self) -> Option<u128>
@@ -306,8 +306,8 @@ impl PointEncoder {
         match constants.followed_by(&mut self.labels, written, labels) {
             Ok(()) => self.deferred = None,
             Err(error) => {
-                let metric_type = self.labels.metric_type();
-                self.labels.begin(metric_type);
+                let metric_type = gathering::metric_type(&self.labels);
+                gathering::begin(&mut self.labels, metric_type);
                 self.deferred = Some(error);
             }
         }

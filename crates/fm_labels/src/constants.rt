@@ -9,7 +9,7 @@ ghost use Rattle.fm_labels.specs.WrittenLabels.{AreWritten};
 ghost use Rattle.fm_labels.specs.inside.Constants.{AreTested, reserved_by};
 
 use crate::gathered::read_labels;
-use crate::label::LabelSetEncoder;
+use crate::label::{LabelSetEncoder, gathering};
 use crate::label_set::{EncodeLabelSet, encode_all};
 use crate::written_labels::WrittenLabels;
 use fm_grammar::MetricType;
@@ -32,9 +32,9 @@ fn test(alloc: Global, metric_type: MetricType, labels: &LabelText) -> Result<()
         (λ k. OwnRefusal NoFault k ⊎ LabelsFault k metric_type [] (emitted_again labels.now.labels)) }
 {
     let pairs = labels.pairs(alloc, 0)?;
-    let mut encoder = LabelSetEncoder::new(alloc, metric_type);
+    let mut encoder = gathering::new(alloc, metric_type);
     let visited = encode_again(pairs.as_slice(), &mut encoder);
-    encoder.outcome(visited)
+    gathering::outcome(&encoder, visited)
 }
 
 // Why no point is accepted under these labels in a family of this type, if one of them is not valid. Fails if memory runs out.
@@ -82,8 +82,8 @@ fn add_labels<LS: EncodeLabelSet>(
         ⊎ LabelsFault k encoder.old.metric_type encoder.old.labels (LS.labels labels.now)) }
 {
     if let Some(written) = written {
-        if !encoder.text().has_name_of(&written.labels) {
-            return Ok(encoder.append(&written.labels)?);
+        if !gathering::text(encoder).has_name_of(&written.labels) {
+            return Ok(gathering::append(encoder, &written.labels)?);
         }
     }
     read_labels(encoder, labels)
@@ -189,12 +189,13 @@ impl ConstantLabels {
             return Err(error);
         }
         if self.labels.len() > 0 {
-            encoder.restart(&self.labels)?;
+            gathering::restart(encoder, &self.labels)?;
             add_labels(encoder, written, labels)?;
         } else if let Some(written) = written {
-            encoder.restart(&written.labels)?;
+            gathering::restart(encoder, &written.labels)?;
         } else {
-            encoder.begin(encoder.metric_type());
+            let metric_type = gathering::metric_type(encoder);
+            gathering::begin(encoder, metric_type);
             read_labels(encoder, labels)?;
         }
         Ok(())

@@ -3,7 +3,7 @@ ghost use Rattle.std.specs.Prelude.{◌≡◌, ◌⊎◌, ◌++◌, None, MatchR
 ghost use Rattle.fm_labels.specs.Labels.{LabelsValid, LabelsFault, all_written};
 ghost use Rattle.fm_labels.specs.Refusals.{OwnRefusal};
 
-use crate::label::LabelSetEncoder;
+use crate::label::{LabelSetEncoder, gathering};
 use crate::label_set::EncodeLabelSet;
 use fm_grammar::MetricType;
 use fm_raw::EncodeError;
@@ -27,7 +27,7 @@ pub(crate) fn read_labels<LS: EncodeLabelSet>(
         return Ok(());
     }
     let visited = labels.encode(encoder);
-    encoder.outcome(visited)
+    gathering::outcome(encoder, visited)
 }
 
 /// The labels that a label set emits, which come after these labels in a family of this type. Its errors are those of the labels,
@@ -44,8 +44,8 @@ pub fn read_labels_after<LS: EncodeLabelSet>(
         (λ k. OwnRefusal (LS.may_fault labels.now) k
         ⊎ LabelsFault k metric_type before.now.labels (LS.labels labels.now)) }
 {
-    let mut all = LabelSetEncoder::new(alloc, metric_type);
-    all.restart(before)?;
+    let mut all = gathering::new(alloc, metric_type);
+    gathering::restart(&mut all, before)?;
     read_labels(&mut all, labels)?;
-    Ok(all.text().suffix(alloc, before.len())?)
+    Ok(gathering::text(&all).suffix(alloc, before.len())?)
 }

@@ -15,7 +15,7 @@ use fm_raw::name::is_label_name;
 use fm_text::LabelText;
 use std::marker::Model;
 
-mod gathering;
+pub(crate) mod gathering;
 mod named;
 
 /// A source of the name of a label.

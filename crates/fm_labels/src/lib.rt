@@ -15,6 +15,11 @@ pub mod labels;
 mod names;
 pub mod written_labels;
 
+pub mod gathering {
+    //! What encoders of points and exemplars do with a label set encoder, and no label set.
+    pub use crate::label::gathering::{begin, metric_type, new, outcome, text};
+}
+
 pub use constants::ConstantLabels;
 pub use first_refusal::FirstRefusal;
 pub use fm_raw::EncodeError;

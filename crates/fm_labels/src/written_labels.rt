@@ -5,7 +5,7 @@ ghost use Rattle.fm_raw.specs.declared.encode_error.EncodeError.{EncodeError};
 ghost use Rattle.fm_labels.specs.WrittenLabels.{AreWritten};
 ghost use Rattle.fm_labels.specs.Labels.{LabelsValid, all_written};
 
-use crate::label::LabelSetEncoder;
+use crate::label::gathering;
 use crate::label_set::EncodeLabelSet;
 use fm_grammar::MetricType;
 use fm_raw::EncodeError;
@@ -18,9 +18,9 @@ fn summary_labels<LS: EncodeLabelSet>(alloc: Global, labels: &LS) -> Result<Labe
     ensures { IfOk result (λ text. LabelsValid MetricType.Summary [] (LS.labels labels.now)
         × (text.labels ≡ all_written (LS.labels labels.now))) }
 {
-    let mut encoder = LabelSetEncoder::new(alloc, MetricType::Summary);
+    let mut encoder = gathering::new(alloc, MetricType::Summary);
     let visited = labels.encode(&mut encoder);
-    encoder.outcome(visited)?;
+    gathering::outcome(&encoder, visited)?;
     Ok(encoder.into_text())
 }
 

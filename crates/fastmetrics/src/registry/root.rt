@@ -37,6 +37,7 @@ use fm_raw::{EncodeError, Unit};
 use std::alloc::{AllocError, Global};
 use std::hash::RandomState;
 use std::io::Write;
+use std::marker::Model;
 use std::random::RandomSource;
 use std::sync::Wait;
 
@@ -62,6 +63,20 @@ pub struct Root<H: Wait, X = NoOwn> {
     hashing: LabelHashing,
     // How many names lead to the registry to which `leave` goes back.
     base: usize,
+}
+
+impl<H: Wait, X> Model for Root<H, X> {
+    ghost use Rattle.std.specs.Coded.{codes};
+    ghost use Rattle.fm_metrics.specs.contracts.named_states.NamedStates as states;
+    ghost use Rattle.fastmetrics.specs.Roots.{SeenRoot};
+    ghost use Rattle.fastmetrics.specs.inside.RootCode.{seen_root_code};
+    ghost use Rattle.fastmetrics.specs.declared.registry.kinds.Metric.{Metric};
+
+    ghost Value = { SeenRoot H (Metric H X) };
+
+    ghost coded = { seen_root_code H.code (Prim.hlevel (codes, states.the_row.coded)) };
+
+    ghost view = { λ r. record { at = r.at; base = r.base; wait = r.wait } };
 }
 
 impl<H: Wait + Drop, X: Drop> Drop for Root<H, X> {
@@ -120,11 +135,10 @@ impl<H: Waiter> Root<H> {
     /// A law, which does nothing: no metric of a root has a fault where the program has none of its own. So `collect` fails with
     /// `Memory` alone, `encode` with that or by the writer, and `fault` finds none.
     pub fn is_never_refused(&self)
-        ensures any { (k : EncodeError) → HasOwnFault k ⟦<NoOwn as EncodeMetric>⟧.offers ⟦<NoOwn as EncodeMetric>⟧.stamps
-            ⟦<NoOwn as EncodeMetric>⟧.may_fault self.now.at.tree → ⊥ }
-        ensures named { (name : Text) (k : EncodeError) → HasOwnFaultNamed name k
-            ⟦<NoOwn as EncodeMetric>⟧.offers ⟦<NoOwn as EncodeMetric>⟧.stamps
-            ⟦<NoOwn as EncodeMetric>⟧.may_fault self.now.at.tree → ⊥ }
+        ensures any { (k : EncodeError)
+            → HasOwnFault ⟦<NoOwn as EncodeMetric>⟧ k self.now.at.tree → ⊥ }
+        ensures named { (name : Text) (k : EncodeError)
+            → HasOwnFaultNamed ⟦<NoOwn as EncodeMetric>⟧ name k self.now.at.tree → ⊥ }
     {
         let _root = self;
     }
@@ -212,12 +226,9 @@ impl<H: Waiter, X: EncodeMetric> Root<H, X> {
     /// The exposition of the registry: what `collect` returns for it, with its errors.
     pub fn collect(&self) -> Result<Exposition, EncodeError>
         ensures admitted { IfOk result
-            (AdmittedBy (λ m. ⟦<Metric<H, X> as EncodeMetric>⟧.offers m)
-            (λ m. ⟦<Metric<H, X> as EncodeMetric>⟧.stamps m)
-            (λ m. ⟦<Metric<H, X> as EncodeMetric>⟧.may_be_empty m)
-            self.now.at.tree) }
+            (AdmittedBy ⟦<Metric<H, X> as EncodeMetric>⟧ self.now.at.tree) }
         ensures fault { IfErr result (λ k. (k ≡ EncodeError.Memory)
-            ⊎ HasOwnFault k X.offers X.stamps X.may_fault self.now.at.tree) }
+            ⊎ HasOwnFault X.EncodeMetric k self.now.at.tree) }
         ensures not_writing { IfErr result (λ k. ¬ (IsWritersFault k)) }
     {
         only_own_faults::<H, X>();
@@ -227,20 +238,14 @@ impl<H: Waiter, X: EncodeMetric> Root<H, X> {
     /// Writes the document of the registry, as `encode` does for it, with its errors.
     pub fn encode<W: Write>(&self, writer: &mut W) -> Result<(), EncodeError>
         ensures document { OnOk result (WritesAdmitted
-            (AdmittedBy (λ m. ⟦<Metric<H, X> as EncodeMetric>⟧.offers m)
-            (λ m. ⟦<Metric<H, X> as EncodeMetric>⟧.stamps m)
-            (λ m. ⟦<Metric<H, X> as EncodeMetric>⟧.may_be_empty m)
-            self.now.at.tree)
+            (AdmittedBy ⟦<Metric<H, X> as EncodeMetric>⟧ self.now.at.tree)
             (W.contents writer.old) (W.contents writer.new)) }
         ensures refused { IfErr result (λ k. ¬ (IsWritersFault k)
             → Keeps (W.contents writer.old) (W.contents writer.new)
             × ((k ≡ EncodeError.Memory)
-            ⊎ HasOwnFault k X.offers X.stamps X.may_fault self.now.at.tree)) }
+            ⊎ HasOwnFault X.EncodeMetric k self.now.at.tree)) }
         ensures stopped { IfErr result (λ k. IsWritersFault k → BeginsAdmitted
-            (AdmittedBy (λ m. ⟦<Metric<H, X> as EncodeMetric>⟧.offers m)
-            (λ m. ⟦<Metric<H, X> as EncodeMetric>⟧.stamps m)
-            (λ m. ⟦<Metric<H, X> as EncodeMetric>⟧.may_be_empty m)
-            self.now.at.tree)
+            (AdmittedBy ⟦<Metric<H, X> as EncodeMetric>⟧ self.now.at.tree)
             (W.contents writer.old) (W.contents writer.new)) }
     {
         only_own_faults::<H, X>();
@@ -250,13 +255,9 @@ impl<H: Waiter, X: EncodeMetric> Root<H, X> {
     /// It collects the registry, so it waits as `collect` does.
     pub fn fault(&self) -> Result<Option<FamilyFault>, AllocError>
         ensures found { IfOk result (λ found. IfSome found (λ f.
-            HasOwnFaultNamed (string_bytes f.name) f.error X.offers X.stamps X.may_fault
-            self.now.at.tree)) }
+            HasOwnFaultNamed X.EncodeMetric (string_bytes f.name) f.error self.now.at.tree)) }
         ensures none { IfOk result (λ found. found ≡ None → (e : Exposition)
-            × AdmittedBy (λ m. ⟦<Metric<H, X> as EncodeMetric>⟧.offers m)
-            (λ m. ⟦<Metric<H, X> as EncodeMetric>⟧.stamps m)
-            (λ m. ⟦<Metric<H, X> as EncodeMetric>⟧.may_be_empty m)
-            self.now.at.tree e) }
+            × AdmittedBy ⟦<Metric<H, X> as EncodeMetric>⟧ self.now.at.tree e) }
     {
         only_own_faults::<H, X>();
         fault(self.at.alloc(), self.at.registry())
@@ -273,7 +274,7 @@ impl<H: Waiter, X: EncodeMetric> Root<H, X> {
     pub fn document(&self) -> Result<Vec<u8>, EncodeError>
         ensures document { IfOk result (λ bytes. ⟦<Root<H, X> as Shown>⟧.is_document self.now bytes.items) }
         ensures fault { IfErr result (λ k. (k ≡ EncodeError.Memory)
-            ⊎ HasOwnFault k X.offers X.stamps X.may_fault self.now.at.tree) }
+            ⊎ HasOwnFault X.EncodeMetric k self.now.at.tree) }
     {
         let mut bytes = Vec::new(self.alloc());
         match self.encode(&mut bytes) {
@@ -292,9 +293,6 @@ pub trait Shown {
 
 impl<H: Waiter, X: EncodeMetric> Shown for Root<H, X> {
     ghost is_document = { λ root bytes. IsAdmittedText
-        (AdmittedBy (λ m. ⟦<Metric<H, X> as EncodeMetric>⟧.offers m)
-        (λ m. ⟦<Metric<H, X> as EncodeMetric>⟧.stamps m)
-        (λ m. ⟦<Metric<H, X> as EncodeMetric>⟧.may_be_empty m)
-        root.at.tree)
+        (AdmittedBy ⟦<Metric<H, X> as EncodeMetric>⟧ root.at.tree)
         bytes };
 }

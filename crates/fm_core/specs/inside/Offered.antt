@@ -2,14 +2,12 @@
 use Rattle.std.specs.Prelude.{◌≡◌, ℕ, List, [], Option, None}
 use Rattle.std.specs.List.{AllByRecursion}
 use Rattle.fm_grammar.specs.declared.MetricType.{MetricType}
-use Rattle.fm_grammar.specs.Exposition.{Text, Label, Sample, Family}
+use Rattle.fm_grammar.specs.Exposition.{Text, Label, Sample}
 use Rattle.fm_grammar.specs.WellFormed.{IsSample}
 use Rattle.fm_writer.specs.Output.{Output, OutputSamples, appended}
 use Rattle.fm_encoder.specs.Points.{Member}
 use Rattle.fm_encoder.specs.Gathered.{GatheredMembers}
 use Rattle.fm_encoder.specs.Offers.{AdmitsSamples}
-use Rattle.fm_core.specs.Admits.{IsFamilyOf}
-use Rattle.fm_core.specs.Families.{Heading}
 
 -- samples that the metric admits, which are well formed, went to the sink
 pub record Offered (Offers : Option ℕ → List Member → Type 0) (Stamps : Option ℕ → Type 0) (name : Text) (type : MetricType) (constants : List Label) (old new : Output) : Type 0 where
@@ -22,8 +20,3 @@ pub record Offered (Offers : Option ℕ → List Member → Type 0) (Stamps : Op
 pub record IsReady (encoder : GatheredMembers) : Type 0 where
   pub output : encoder.output ≡ OutputSamples []
   pub accepting : encoder.refused ≡ None
-
--- what one metric makes under a heading, as `Admits` says it of each metric of a list
-module _ (Offers : Option ℕ → List Member → Type 0) (Stamps : Option ℕ → Type 0) where
-  abbrev pub IsFamilyUnder : Heading → Family → Type 0
-  IsFamilyUnder = IsFamilyOf (λ _. Offers) (λ _. Stamps)

@@ -11,7 +11,7 @@ ghost use Rattle.fm_registry_model.specs.Listing.{listed_name, own_metrics, orde
 ghost use Rattle.fm_registry_model.specs.Tree.{Shows};
 ghost use Rattle.fm_core.specs.Seen.{seen_listed};
 ghost use Rattle.fm_core.specs.HasHistory.{HasHistory};
-ghost use Rattle.fm_core.specs.Admits.{AdmittedBy, FaultOf, Fault};
+ghost use Rattle.fm_core.specs.Admits.{AdmittedBy, FaultOf, Fault, HasFault};
 ghost use Rattle.fm_core.specs.inside.Documents.{text_so_far, HasLines, AddsNextRows, AddsRowsOf};
 
 use crate::registry::{ListedMetric, Registry};
@@ -47,11 +47,11 @@ fn add_listed<M: EncodeMetric>(
     ensures constants { OnOk result (encoder.new.context.constants ≡ encoder.old.context.constants) }
     ensures added { MatchResult result
         (λ _. HasLines encoder.new
-        × AddsNextRows (λ m. M.offers m) (λ m. M.stamps m) (λ m. M.may_be_empty m)
+        × AddsNextRows M.EncodeMetric
         (seen_listed listed.now)
         (text_so_far encoder.old.output) (text_so_far encoder.new.output))
         (λ k. (k ≡ EncodeError.Memory)
-        ⊎ FaultOf k (λ m. M.offers m) (λ m. M.stamps m) (λ m. M.may_fault m) (seen_listed listed.now)) }
+        ⊎ FaultOf M.EncodeMetric k (seen_listed listed.now)) }
 {
     let metric = listed.metric;
     if metric.is_empty() {
@@ -72,11 +72,11 @@ fn add_registry<M: EncodeMetric>(
     requires lines { HasLines encoder.old }
     ensures { MatchResult result
         (λ _. HasLines encoder.new
-        × AddsRowsOf (λ m. M.offers m) (λ m. M.stamps m) (λ m. M.may_be_empty m)
+        × AddsRowsOf M.EncodeMetric
         (own_metrics registry.now.facts)
         (text_so_far encoder.old.output) (text_so_far encoder.new.output))
         (λ k. (k ≡ EncodeError.Memory)
-        ⊎ Fault k (λ m. M.offers m) (λ m. M.stamps m) (λ m. M.may_fault m) (own_metrics registry.now.facts)) }
+        ⊎ Fault M.EncodeMetric k (own_metrics registry.now.facts)) }
 {
     collector::enter(encoder, alloc, registry.constant_labels())?;
     for index in 0..registry.metric_count() {
@@ -108,11 +108,10 @@ pub(crate) fn document_lines<M: EncodeMetric>(
 ) -> Result<TextBlocks, EncodeError>
     requires { HasHistory registry.now }
     ensures text { IfOk result (λ lines. (e : Exposition)
-        × AdmittedBy (λ m. M.offers m) (λ m. M.stamps m) (λ m. M.may_be_empty m) registry.now e
+        × AdmittedBy M.EncodeMetric registry.now e
         × IsExposition e × (lines ≡ document_rows e)) }
-    ensures fault { IfErr result (λ k. (k ≡ EncodeError.Memory)
-        ⊎ ((b : _) → Shows registry.now b
-        → Fault k (λ m. M.offers m) (λ m. M.stamps m) (λ m. M.may_fault m) (order b))) }
+    ensures fault { IfErr result
+        (λ k. (k ≡ EncodeError.Memory) ⊎ HasFault M.EncodeMetric k registry.now) }
     ensures not_writing { IfErr result (λ k. ¬ (IsWritersFault k)) }
 {
     let Ok(list) = registry.listing(alloc) else {

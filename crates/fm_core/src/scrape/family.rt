@@ -13,9 +13,10 @@ ghost use Rattle.fm_registry_model.specs.Registration.{printed_unit};
 ghost use Rattle.fm_registry_model.specs.Listing.{listed_name, IsListable};
 ghost use Rattle.fm_labels.specs.Refusals.{Takes};
 ghost use Rattle.fm_encoder.specs.Offers.{AdmitsSamples, MetricHasFault};
-ghost use Rattle.fm_core.specs.Families.{next_heading, FaultUnder, EncodesFamily};
-ghost use Rattle.fm_core.specs.inside.Documents.{heading_within};
-ghost use Rattle.fm_core.specs.inside.Offered.{IsReady, IsFamilyUnder};
+ghost use Rattle.fm_core.specs.Admits.{IsFamilyOf, FaultOf};
+ghost use Rattle.fm_core.specs.Families.{next_listed, EncodesFamily};
+ghost use Rattle.fm_core.specs.inside.Documents.{listed_within};
+ghost use Rattle.fm_core.specs.inside.Offered.{IsReady};
 
 use crate::scrape::scope::Scope;
 use crate::scrape::taking::take_family;
@@ -102,10 +103,10 @@ fn heads_of(
     scope: Scope<'_>,
     metadata: &Metadata,
 ) -> Result<(String, String, Option<String>), AllocError>
-    ensures { let heading = heading_within scope.entry metadata.now in
-        IfOk result (λ heads. (string_bytes heads.0 ≡ listed_name heading)
-        × (string_bytes heads.1 ≡ heading.registration.help)
-        × (option_map string_bytes heads.2 ≡ printed_unit heading.registration.unit)) }
+    ensures { let listed = listed_within scope.entry metadata.now (tt {0}) in
+        IfOk result (λ heads. (string_bytes heads.0 ≡ listed_name listed)
+        × (string_bytes heads.1 ≡ listed.registration.help)
+        × (option_map string_bytes heads.2 ≡ printed_unit listed.registration.unit)) }
 {
     let unit = text_of(metadata.unit());
     let name = joined_name(alloc, scope.namespace, metadata.name(), unit)?;
@@ -151,14 +152,13 @@ fn family_of<M: EncodeMetric>(
     metadata: &Metadata,
     metric: &M,
 ) -> Result<FamilySamples, EncodeError>
-    requires heading { IsListable (heading_within scope metadata.now) }
+    requires listable { IsListable (listed_within scope metadata.now metric.now) }
     requires ready { IsReady encoder.old }
     ensures ready { OnOk result (IsReady encoder.new) }
-    ensures family { let heading = heading_within scope.entry metadata.now in MatchResult result
-        (λ family. IsFamilyUnder (M.offers metric.now) (M.stamps metric.now) heading family
-        × IsFamily family)
-        (λ k. (k ≡ EncodeError.Memory)
-        ⊎ FaultUnder (M.offers metric.now) (M.stamps metric.now) k (M.may_fault metric.now) heading) }
+    ensures family { let listed = listed_within scope.entry metadata.now metric.now in
+        MatchResult result
+        (λ family. IsFamilyOf M.EncodeMetric listed family × IsFamily family)
+        (λ k. (k ≡ EncodeError.Memory) ⊎ FaultOf M.EncodeMetric k listed) }
 {
     let (name, help, unit) = heads_of(alloc, scope, metadata)?;
     own_name.clear();
@@ -247,12 +247,12 @@ impl<'a> MetricFamilyEncoder<'a> {
         metadata: &Metadata,
         metric: &M,
     ) -> Result<(), EncodeError>
-        requires heading { IsListable (next_heading self.old metadata.now) }
+        requires listable { IsListable (next_listed self.old metadata.now metric.now) }
         requires new_name { IsNewName
-            (listed_name (next_heading self.old metadata.now)) self.old.families }
-        ensures { Takes (EncodesFamily (M.offers metric.now) (M.stamps metric.now)
-            (M.may_be_empty metric.now) (M.may_fault metric.now)
-            (next_heading self.old metadata.now) self.old self.new) self.new.refused result }
+            (listed_name (next_listed self.old metadata.now metric.now)) self.old.families }
+        ensures { Takes (EncodesFamily M.EncodeMetric
+            (next_listed self.old metadata.now metric.now) self.old self.new)
+            self.new.refused result }
     {
         self.refused.check()?;
         if metric.is_empty() {

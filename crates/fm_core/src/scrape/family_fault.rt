@@ -5,7 +5,7 @@ ghost use Rattle.fm_registry_model.specs.Listing.{listed_name, order};
 ghost use Rattle.fm_registry_model.specs.Tree.{Shows};
 ghost use Rattle.fm_core.specs.Seen.{seen_listed};
 ghost use Rattle.fm_core.specs.HasHistory.{HasHistory};
-ghost use Rattle.fm_core.specs.Admits.{AdmittedBy, FaultNamed};
+ghost use Rattle.fm_core.specs.Admits.{AdmittedBy, HasFaultNamed};
 
 use crate::registry::{ListedMetric, Registry};
 use crate::scrape::document::print_name;
@@ -41,12 +41,11 @@ pub fn fault<M: EncodeMetric>(
 ) -> Result<Option<FamilyFault>, AllocError>
     requires { HasHistory registry.now }
     // The metric that is printed under this name has this fault.
-    ensures found { IfOk result (λ found. IfSome found (λ f. (b : _) → Shows registry.now b
-        → FaultNamed f.error (λ m. M.offers m) (λ m. M.stamps m) (λ m. M.may_fault m)
-        (string_bytes f.name) (order b))) }
+    ensures found { IfOk result (λ found. IfSome found
+        (λ f. HasFaultNamed M.EncodeMetric (string_bytes f.name) f.error registry.now)) }
     // Where none is refused, the registry admits an exposition.
     ensures none { IfOk result (λ found. found ≡ None → (e : Exposition)
-        × AdmittedBy (λ m. M.offers m) (λ m. M.stamps m) (λ m. M.may_be_empty m) registry.now e) }
+        × AdmittedBy M.EncodeMetric registry.now e) }
 {
     let Ok(registries) = registry.listing(alloc) else {
         return Err(AllocError);

@@ -21,7 +21,7 @@ use crate::point::bound_label::label_of_bucket;
 use crate::point::totals::count_value;
 use fm_exposition::Exemplar;
 use fm_grammar::{MetricType, SampleKind};
-use fm_labels::keep;
+use fm_labels::{gathering, keep};
 use fm_raw::EncodeError;
 use fm_raw::bucket::Bucket;
 use fm_raw::fixed::FixedSum;
@@ -87,7 +87,7 @@ impl PointEncoder {
         ensures { Takes
             (BeginsBuckets metric_type buckets slots self.old self.new) self.new.refused result }
     {
-        let is_of_type = metric_type == self.labels.metric_type();
+        let is_of_type = metric_type == gathering::metric_type(&self.labels);
         if self.refused.error.is_none() && is_of_type && buckets != slots {
             return self.refused.refuse(EncodeError::ExemplarCountMismatch);
         }
@@ -107,7 +107,7 @@ impl PointEncoder {
             &mut front,
             self.name.as_str(),
             SampleKind::Bucket,
-            self.labels.text(),
+            gathering::text(&self.labels),
         ) {
             Ok(()) => Ok(front),
             Err(_) => self.refused.refuse(EncodeError::Memory),
@@ -192,7 +192,7 @@ impl PointEncoder {
         };
         let mut sample = NewSample {
             kind: SampleKind::Bucket,
-            common: self.labels.text(),
+            common: gathering::text(&self.labels),
             own,
             value: count_value(values),
             time: self.time,

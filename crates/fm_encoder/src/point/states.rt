@@ -13,6 +13,7 @@ use crate::point::PointEncoder;
 use fm_exposition::Value;
 use fm_grammar::{MetricType, SampleKind};
 use fm_labels::gathered::read_labels_after;
+use fm_labels::gathering;
 use fm_labels::label_set::EncodeLabelSet;
 use fm_raw::EncodeError;
 use fm_text::LabelText;
@@ -45,7 +46,7 @@ impl PointEncoder {
         requires accepting { self.old.refused ≡ None }
         ensures { Takes (TestsStates is_empty self.old self.new) self.new.refused result }
     {
-        if !is_empty && self.labels.text().has_name(self.name.as_str()) {
+        if !is_empty && gathering::text(&self.labels).has_name(self.name.as_str()) {
             return self.refused.refuse(EncodeError::DuplicateLabel);
         }
         Ok(())
@@ -98,8 +99,8 @@ impl PointEncoder {
         self.begin_point(MetricType::Info)?;
         match read_labels_after(
             self.alloc,
-            self.labels.metric_type(),
-            self.labels.text(),
+            gathering::metric_type(&self.labels),
+            gathering::text(&self.labels),
             labels,
         ) {
             Ok(own) => self.push_labeled(SampleKind::Info, &own, &Value::Whole(1), None),

@@ -1,4 +1,4 @@
-//! What encoders of points and exemplars call of a label set encoder, and no label set.
+//! What encoders of points and exemplars do with a label set encoder, and no label set.
 ghost use Rattle.std.specs.Prelude.{◌≡◌, [], ◌++◌, None, OnOk};
 ghost use Rattle.fm_labels.specs.Refusals.{IsOutcome};
 
@@ -23,71 +23,74 @@ impl LabelEncoder {
     }
 }
 
+/// An encoder without labels.
+pub fn new(alloc: Global, metric_type: MetricType) -> LabelSetEncoder
+    ensures { result ≡ record { metric_type = metric_type; labels = []; refused = None } }
+{
+    LabelSetEncoder {
+        label: LabelEncoder {
+            metric_type,
+            labels: LabelText::new(alloc),
+            refused: FirstRefusal { error: None },
+        },
+    }
+}
+
+/// The type of the family that the labels are for.
+pub fn metric_type(encoder: &LabelSetEncoder) -> MetricType
+    ensures { result ≡ encoder.now.metric_type }
+{
+    encoder.label.metric_type
+}
+
+/// The labels so far.
+pub fn text(encoder: &LabelSetEncoder) -> &LabelText
+    ensures { result.now.labels ≡ encoder.now.labels }
+{
+    &encoder.label.labels
+}
+
+/// Replaces the labels by copies of these, as if nothing had been refused. If memory runs out, nothing is known of the labels.
+pub fn restart(encoder: &mut LabelSetEncoder, before: &LabelText) -> Result<(), AllocError>
+    ensures same_type { encoder.new.metric_type ≡ encoder.old.metric_type }
+    ensures restarted { OnOk result
+        (encoder.new ≡ record encoder.old { labels = before.now.labels; refused = None }) }
+{
+    encoder.label.refused.error = None;
+    encoder.label.labels.assign(before)
+}
+
+/// Removes all labels, as if nothing had been refused, for a family of this type.
+pub fn begin(encoder: &mut LabelSetEncoder, metric_type: MetricType)
+    ensures { encoder.new ≡ record { metric_type = metric_type; labels = []; refused = None } }
+{
+    encoder.label.metric_type = metric_type;
+    encoder.label.refused.error = None;
+    encoder.label.labels.clear();
+}
+
+/// Adds copies of these labels without a test. If memory runs out, nothing is known of the labels.
+pub fn append(encoder: &mut LabelSetEncoder, labels: &LabelText) -> Result<(), AllocError>
+    ensures same_type { encoder.new.metric_type ≡ encoder.old.metric_type }
+    ensures appended { OnOk result
+        (encoder.new ≡ record encoder.old { labels = encoder.old.labels ++ labels.now.labels }) }
+{
+    encoder.label.labels.append(labels)
+}
+
+/// The first refusal, after the visited source returned `visited`.
+pub fn outcome(
+    encoder: &LabelSetEncoder,
+    visited: Result<(), EncodeError>,
+) -> Result<(), EncodeError>
+    ensures { IsOutcome encoder.now.refused visited result }
+{
+    encoder.label.refused.outcome(visited)
+}
+
 impl LabelSetEncoder {
-    /// An encoder without labels.
-    pub fn new(alloc: Global, metric_type: MetricType) -> LabelSetEncoder
-        ensures { result ≡ record { metric_type = metric_type; labels = []; refused = None } }
-    {
-        LabelSetEncoder {
-            label: LabelEncoder {
-                metric_type,
-                labels: LabelText::new(alloc),
-                refused: FirstRefusal { error: None },
-            },
-        }
-    }
-
-    /// The type of the family that they are for.
-    pub fn metric_type(&self) -> MetricType
-        ensures { result ≡ self.now.metric_type }
-    {
-        self.label.metric_type
-    }
-
-    /// The labels so far.
-    pub fn text(&self) -> &LabelText
-        ensures { result.now.labels ≡ self.now.labels }
-    {
-        &self.label.labels
-    }
-
-    /// Replaces its labels by copies of these, as if nothing had been refused. If memory runs out, nothing is known of its labels.
-    pub fn restart(&mut self, before: &LabelText) -> Result<(), AllocError>
-        ensures same_type { self.new.metric_type ≡ self.old.metric_type }
-        ensures restarted { OnOk result
-            (self.new ≡ record self.old { labels = before.now.labels; refused = None }) }
-    {
-        self.label.refused.error = None;
-        self.label.labels.assign(before)
-    }
-
-    /// Removes all labels, as if nothing had been refused, for a family of this type.
-    pub fn begin(&mut self, metric_type: MetricType)
-        ensures { self.new ≡ record { metric_type = metric_type; labels = []; refused = None } }
-    {
-        self.label.metric_type = metric_type;
-        self.label.refused.error = None;
-        self.label.labels.clear();
-    }
-
-    /// Adds copies of these labels without a test. If memory runs out, nothing is known of its labels.
-    pub fn append(&mut self, labels: &LabelText) -> Result<(), AllocError>
-        ensures same_type { self.new.metric_type ≡ self.old.metric_type }
-        ensures appended { OnOk result
-            (self.new ≡ record self.old { labels = self.old.labels ++ labels.now.labels }) }
-    {
-        self.label.labels.append(labels)
-    }
-
-    /// The first refusal, after the visited source returned `visited`.
-    pub fn outcome(&self, visited: Result<(), EncodeError>) -> Result<(), EncodeError>
-        ensures { IsOutcome self.now.refused visited result }
-    {
-        self.label.refused.outcome(visited)
-    }
-
-    /// The labels.
-    pub fn into_text(self) -> LabelText
+    // The labels.
+    pub(crate) fn into_text(self) -> LabelText
         ensures { result.labels ≡ self.labels }
     {
         let LabelSetEncoder { label } = self;

@@ -2,10 +2,8 @@
 ghost use Rattle.fm_grammar.specs.Exposition.{Text};
 ghost use Rattle.fm_grammar.specs.declared.MetricType.{MetricType};
 ghost use Rattle.fm_raw.specs.declared.encode_error.EncodeError.{EncodeError};
-ghost use Rattle.fm_registry_model.specs.Tree.{Shows};
-ghost use Rattle.fm_registry_model.specs.Listing.{order};
 ghost use Rattle.fm_registry_model.specs.inside.Fitting.{HasFittingHistory};
-ghost use Rattle.fm_core.specs.Admits.{Fault, FaultNamed};
+ghost use Rattle.fm_core.specs.Admits.{HasFault, HasFaultNamed};
 ghost use Rattle.fastmetrics.specs.inside.FittingMetrics.{HasType, Fits};
 ghost use Rattle.fastmetrics.specs.Fits.{HasOwnFault, HasOwnFaultNamed};
 
@@ -19,17 +17,9 @@ pub(crate) fn only_own_faults<H: Waiter, X: EncodeMetric>()
     ensures types { (m : _) (t : MetricType) → ⟦<Metric<H, X> as EncodeMetric>⟧.types m t
         → HasType m t }
     ensures faults { (k : EncodeError) (t : _) → HasFittingHistory Fits t
-        → ((b : _) → Shows t b
-        → Fault k (λ m. ⟦<Metric<H, X> as EncodeMetric>⟧.offers m)
-        (λ m. ⟦<Metric<H, X> as EncodeMetric>⟧.stamps m)
-        (λ m. ⟦<Metric<H, X> as EncodeMetric>⟧.may_fault m)
-        (order b))
-        → HasOwnFault k X.offers X.stamps X.may_fault t }
+        → HasFault ⟦<Metric<H, X> as EncodeMetric>⟧ k t
+        → HasOwnFault X.EncodeMetric k t }
     ensures named { (k : EncodeError) (t : _) (name : Text) → HasFittingHistory Fits t
-        → ((b : _) → Shows t b
-        → FaultNamed k (λ m. ⟦<Metric<H, X> as EncodeMetric>⟧.offers m)
-        (λ m. ⟦<Metric<H, X> as EncodeMetric>⟧.stamps m)
-        (λ m. ⟦<Metric<H, X> as EncodeMetric>⟧.may_fault m)
-        name (order b))
-        → HasOwnFaultNamed name k X.offers X.stamps X.may_fault t }
+        → HasFaultNamed ⟦<Metric<H, X> as EncodeMetric>⟧ name k t
+        → HasOwnFaultNamed X.EncodeMetric name k t }
 {}

@@ -1,5 +1,6 @@
 //! Metrics that are there already, or that never change, in a line each.
-ghost use Rattle.std.specs.Prelude.{◌≡◌, ◌⊎◌, Err, None, map, String, Vec};
+ghost use Rattle.std.specs.Prelude.{◌≡◌, ◌⊎◌, ℕ, List, Err, None, map, String, Vec};
+ghost use Rattle.std.specs.List.{AllByRecursion};
 ghost use Rattle.fm_grammar.specs.LabelPairs.{labels_of, shown_label};
 ghost use Rattle.fm_registry_model.specs.declared.RegistryError.TheVariants.{Memory};
 ghost use Rattle.fm_core.specs.Named.{named_metric};
@@ -8,10 +9,13 @@ ghost use Rattle.fm_metrics.specs.declared.info.Info.{Info};
 ghost use Rattle.fm_metrics.specs.Constants.{label_set_of};
 ghost use Rattle.fastmetrics.specs.declared.registry.kinds.constant.Constant.TheVariants as constant;
 ghost use Rattle.fastmetrics.specs.declared.registry.kinds.Metric.TheVariants.{Constant};
+ghost use Rattle.fm_registry_model.specs.Tree.{Shows};
+ghost use Rattle.fm_registry_model.specs.Listing.{order};
+ghost use Rattle.fastmetrics.specs.ConstantPages.{IsConstant, constants_page};
 ghost use Rattle.fastmetrics.specs.Roots.{AddsOrNot, AddsKept};
 ghost use Rattle.fastmetrics.specs.Fits.{fit_refusal_here};
 
-use super::Root;
+use super::{Root, Shown};
 use crate::registry::kinds::Metric;
 use crate::registry::waiter::Waiter;
 use fm_core::registry::RegistryError;
@@ -52,5 +56,15 @@ impl<H: Waiter, X: EncodeMetric> Root<H, X> {
         let facts = owned_labels(self.at.alloc(), facts)?;
         self.at
             .register(name, help, None, Metric::from(Info::new(facts)))
+    }
+
+    /// A law, which does nothing: where each metric of a root is a constant, what was registered says which text its document is.
+    pub fn shows_its_constants(&self)
+        ensures { (b : _) (text : List ℕ) → Shows self.now.at.tree b
+            → ⟦<Root<H, X> as Shown>⟧.is_document self.now text
+            → AllByRecursion IsConstant (order b)
+            → text ≡ constants_page (order b) }
+    {
+        let _root = self;
     }
 }

@@ -22,22 +22,22 @@ returns-in-Err-clause-fault g c =
     let list = listed_in c.deref.result.now in
     elim (rw c.in-Err.is at c.gather.ensures.err) [
       | inl memory ↦ inl memory
-      | inr fault ↦ inr (λ b shows. subst (λ ls. Fault k (λ m. g.M.EncodeMetric.offers m) (λ m. g.M.EncodeMetric.stamps m) (λ m. g.M.EncodeMetric.may_fault m) ls) (ap listed_in c.deref.ensures.value ∙ c.in-Ok.ensures.history c.requires b shows)
-          (one-weaker _ (FaultOf k (λ m. g.M.EncodeMetric.offers m) (λ m. g.M.EncodeMetric.stamps m) (λ m. g.M.EncodeMetric.may_fault m)) (λ l named. named.1) list fault))
+      | inr fault ↦ inr (λ b shows. subst (λ ls. Fault g.M.EncodeMetric k ls) (ap listed_in c.deref.ensures.value ∙ c.in-Ok.ensures.history c.requires b shows)
+          (one-weaker _ (FaultOf g.M.EncodeMetric k) (λ l named. named.1) list fault))
     ]
 
 pub returns-in-Err-clause-not_writing : goal.returns-in-Err-clause-not_writing
 returns-in-Err-clause-not_writing g c =
     let k = c.in-Err.stop.error in
     let list = listed_in c.deref.result.now in
-    refusal-not_writing k (λ m. g.M.EncodeMetric.offers m) (λ m. g.M.EncodeMetric.stamps m) (λ m. g.M.EncodeMetric.may_fault m) list
+    refusal-not_writing g.M.EncodeMetric k list
     (elim (rw c.in-Err.is at c.gather.ensures.err) [
       | inl memory ↦ inl memory
-      | inr fault ↦ inr (one-weaker _ (FaultOf k (λ m. g.M.EncodeMetric.offers m) (λ m. g.M.EncodeMetric.stamps m) (λ m. g.M.EncodeMetric.may_fault m)) (λ l named. named.1) list fault)
+      | inr fault ↦ inr (one-weaker _ (FaultOf g.M.EncodeMetric k) (λ l named. named.1) list fault)
     ])
 
 pub returns-clause-admitted : goal.returns-clause-admitted
 returns-clause-admitted g c =
     let admitted = on_ok c.gather.result c.in_default-gather.not-Err c.gather.ensures.admitted in
     if_ended c.end.result c.gather.new.encoder.families c.gather.new.encoder.refused _ c.end.ensures
-    (λ b shows. subst (λ ls. Admits (λ m. g.M.EncodeMetric.offers m) (λ m. g.M.EncodeMetric.stamps m) (λ m. g.M.EncodeMetric.may_be_empty m) ls c.gather.new.encoder.families) (ap listed_in c.deref.ensures.value ∙ c.in-Ok.ensures.history c.requires b shows) admitted)
+    (λ b shows. subst (λ ls. Admits g.M.EncodeMetric ls c.gather.new.encoder.families) (ap listed_in c.deref.ensures.value ∙ c.in-Ok.ensures.history c.requires b shows) admitted)

@@ -11,7 +11,7 @@ encode_listed-requires-clause-listable g c κs within =
 
 pub encode_listed-requires-clause-new_name : goal.encode_listed-requires-clause-new_name
 encode_listed-requires-clause-new_name g c κs within =
-    next_new _ _ _ (own_metrics c.args.registry.now.facts) c.loop-index.index (seen_listed c.in-Some.listed) c.args.encoder.now.families c.loop-index.encoder.families
+    next_new g.M.EncodeMetric (own_metrics c.args.registry.now.facts) c.loop-index.index (seen_listed c.in-Some.listed) c.args.encoder.now.families c.loop-index.encoder.families
     (sym c.in-Some.ensures) c.requires.new_names c.loop-index.invariant.added
 
 pub returns-in-Err-clause-err : goal.returns-in-Err-clause-err
@@ -25,7 +25,7 @@ returns-in-Err-clause-err g c =
 pub loop-index-preserved : goal.loop-index-preserved
 loop-index-preserved g c = elim c.match-metric_at.branch [
   | in-Some+in_default-encode_listed w ↦ rw w.encoder-is (record {
-    added = AddsFamilies-next _ _ _ (own_metrics c.args.registry.now.facts) c.loop-index.index (seen_listed w.in-Some.listed) c.args.encoder.now.families c.loop-index.encoder.families w.encode_listed.new.encoder.families
+    added = AddsFamilies-next g.M.EncodeMetric (own_metrics c.args.registry.now.facts) c.loop-index.index (seen_listed w.in-Some.listed) c.args.encoder.now.families c.loop-index.encoder.families w.encode_listed.new.encoder.families
         (sym w.in-Some.ensures) c.loop-index.invariant.added (on_ok w.encode_listed.result w.in_default-encode_listed.not-Err w.encode_listed.ensures.ok);
     accepting = on_ok w.encode_listed.result w.in_default-encode_listed.not-Err w.encode_listed.ensures.accepting;
   })

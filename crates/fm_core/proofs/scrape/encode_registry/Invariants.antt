@@ -5,9 +5,7 @@ use Rattle.fm_core.proofs.scrape.encode_registry.Given as goal
 
 abbrev pub invariant-loop-index : goal.invariant-loop-index
 invariant-loop-index g l = record {
-  added : AddsFamilies (λ m. g.M.EncodeMetric.offers m)
-      (λ m. g.M.EncodeMetric.stamps m)
-      (λ m. g.M.EncodeMetric.may_be_empty m)
+  added : AddsFamilies g.M.EncodeMetric
       (take l.index (own_metrics l.fn.registry.facts)) l.fn.encoder.families l.encoder.families;
   accepting : l.encoder.refused ≡ None;
 }

@@ -15,7 +15,7 @@ encode_registry-requires-clause-listable g c κs lives =
 pub encode_registry-requires-clause-new_names : goal.encode_registry-requires-clause-new_names
 encode_registry-requires-clause-new_names g c κs lives =
     let within : c.loop-registry.registry-index < length c.args.registries.now = omega arith in
-    next_names (λ m. g.M.EncodeMetric.offers m) (λ m. g.M.EncodeMetric.stamps m) (λ m. g.M.EncodeMetric.may_be_empty m) c.args.registries.now c.loop-registry.registry-index c.registry-item.result c.loop-registry.encoder.families within c.registry-item.is
+    next_names g.M.EncodeMetric c.args.registries.now c.loop-registry.registry-index c.registry-item.result c.loop-registry.encoder.families within c.registry-item.is
     c.requires.names c.loop-registry.invariant.admitted
 
 pub returns-in_err-encode_registry-clause-err : goal.returns-in_err-encode_registry-clause-err
@@ -26,7 +26,7 @@ returns-in_err-encode_registry-clause-err g c =
     let stop = c.in_err-encode_registry.field-0.0 in
     rw (exit.1, exit.2) (elim refusal [
       | inl memory ↦ inl memory
-      | inr fault ↦ inr (one-in (λ l. (listed_name (seen_listed stop.listed) ≡ listed_name l) × FaultOf stop.error (λ m. g.M.EncodeMetric.offers m) (λ m. g.M.EncodeMetric.stamps m) (λ m. g.M.EncodeMetric.may_fault m) l)
+      | inr fault ↦ inr (one-in (λ l. (listed_name (seen_listed stop.listed) ≡ listed_name l) × FaultOf g.M.EncodeMetric stop.error l)
           c.args.registries.now c.loop-registry.registry-index c.registry-item.result within c.registry-item.is fault)
     ])
 
@@ -35,9 +35,9 @@ loop-registry-preserved g c =
     let within : c.loop-registry.registry-index < length c.args.registries.now = omega arith in
     let added = rw c.in_ok-encode_registry.was at c.encode_registry.ensures.ok in
     record {
-      admitted = subst (λ (fs : Exposition). Admits (λ m. g.M.EncodeMetric.offers m) (λ m. g.M.EncodeMetric.stamps m) (λ m. g.M.EncodeMetric.may_be_empty m) (listed_in (take (c.loop-registry.registry-index + 1) c.args.registries.now)) fs) (sym added.2)
-          (subst (λ (ls : List (Listed _)). Admits (λ m. g.M.EncodeMetric.offers m) (λ m. g.M.EncodeMetric.stamps m) (λ m. g.M.EncodeMetric.may_be_empty m) ls (c.loop-registry.encoder.families ++ added.0))
+      admitted = subst (λ (fs : Exposition). Admits g.M.EncodeMetric (listed_in (take (c.loop-registry.registry-index + 1) c.args.registries.now)) fs) (sym added.2)
+          (subst (λ (ls : List (Listed _)). Admits g.M.EncodeMetric ls (c.loop-registry.encoder.families ++ added.0))
           (sym (listed_in-next c.args.registries.now c.loop-registry.registry-index c.registry-item.result within c.registry-item.is))
-          (Admits-++ _ _ _ (listed_in (take c.loop-registry.registry-index c.args.registries.now)) (own_metrics c.registry-item.result.now.facts) c.loop-registry.encoder.families added.0 c.loop-registry.invariant.admitted added.1));
+          (Admits-++ g.M.EncodeMetric (listed_in (take c.loop-registry.registry-index c.args.registries.now)) (own_metrics c.registry-item.result.now.facts) c.loop-registry.encoder.families added.0 c.loop-registry.invariant.admitted added.1));
       accepting = rw c.in_ok-encode_registry.was at c.encode_registry.ensures.accepting;
     }

@@ -5,9 +5,7 @@ use Rattle.fm_core.proofs.scrape.gather.Given as goal
 
 abbrev pub invariant-loop-registry : goal.invariant-loop-registry
 invariant-loop-registry g l = record {
-  admitted : Admits (λ m. g.M.EncodeMetric.offers m)
-      (λ m. g.M.EncodeMetric.stamps m)
-      (λ m. g.M.EncodeMetric.may_be_empty m)
+  admitted : Admits g.M.EncodeMetric
       (listed_in (take l.registry-index l.registries)) l.encoder.families;
   accepting : l.encoder.refused ≡ None;
 }

@@ -33,7 +33,7 @@ loop-index-preserved g c = elim c.match-metric_at.branch [
       rw w.encoder-is (record {
         lines = added.0;
         constants = same ∙ c.loop-index.invariant.constants;
-        rows = AddsRowsOf-next _ _ _ (own_metrics c.args.registry.now.facts) c.loop-index.index (seen_listed w.in-Some.listed) (text_so_far c.args.encoder.now.output) (text_so_far c.loop-index.encoder.output) (text_so_far w.add_listed.new.encoder.output)
+        rows = AddsRowsOf-next g.M.EncodeMetric (own_metrics c.args.registry.now.facts) c.loop-index.index (seen_listed w.in-Some.listed) (text_so_far c.args.encoder.now.output) (text_so_far c.loop-index.encoder.output) (text_so_far w.add_listed.new.encoder.output)
             (sym w.in-Some.ensures) c.loop-index.invariant.rows added.1;
       })
   | in_default w ↦

@@ -7,8 +7,6 @@ abbrev pub invariant-loop-index : goal.invariant-loop-index
 invariant-loop-index g l = record {
   lines : HasLines l.encoder;
   constants : l.encoder.context.constants ≡ l.fn.registry.facts.labels;
-  rows : AddsRowsOf (λ m. g.M.EncodeMetric.offers m)
-      (λ m. g.M.EncodeMetric.stamps m)
-      (λ m. g.M.EncodeMetric.may_be_empty m)
+  rows : AddsRowsOf g.M.EncodeMetric
       (take l.index (own_metrics l.fn.registry.facts)) (text_so_far l.fn.encoder.output) (text_so_far l.encoder.output);
 }

@@ -25,7 +25,7 @@ loop-registry-init g c =
     let output = c.for_lines-encoder.ensures.output in
     record {
       lines = record { text = output ∙ ap OutputText (sym (ap text_so_far output)); accepting = c.for_lines-encoder.ensures.accepting };
-      rows = rw output (AddsRowsOf-none (λ m. g.M.EncodeMetric.offers m) (λ m. g.M.EncodeMetric.stamps m) (λ m. g.M.EncodeMetric.may_be_empty m) []);
+      rows = rw output (AddsRowsOf-none g.M.EncodeMetric []);
     }
 
 pub loop-registry-preserved : goal.loop-registry-preserved
@@ -34,9 +34,9 @@ loop-registry-preserved g c =
     let added = rw c.in_ok-add_registry.was at c.add_registry.ensures in
     record {
       lines = added.0;
-      rows = subst (λ (ls : List (Listed _)). AddsRowsOf (λ m. g.M.EncodeMetric.offers m) (λ m. g.M.EncodeMetric.stamps m) (λ m. g.M.EncodeMetric.may_be_empty m) ls [] (text_so_far c.add_registry.new.encoder.output))
+      rows = subst (λ (ls : List (Listed _)). AddsRowsOf g.M.EncodeMetric ls [] (text_so_far c.add_registry.new.encoder.output))
           (sym (listed_in-next c.deref-registry-items.result.now c.loop-registry.registry-index c.registry-item.result within c.registry-item.is))
-          (AddsRowsOf-++ _ _ _ (listed_in (take c.loop-registry.registry-index c.deref-registry-items.result.now)) (own_metrics c.registry-item.result.now.facts) [] (text_so_far c.loop-registry.encoder.output) (text_so_far c.add_registry.new.encoder.output)
+          (AddsRowsOf-++ g.M.EncodeMetric (listed_in (take c.loop-registry.registry-index c.deref-registry-items.result.now)) (own_metrics c.registry-item.result.now.facts) [] (text_so_far c.loop-registry.encoder.output) (text_so_far c.add_registry.new.encoder.output)
           c.loop-registry.invariant.rows added.1);
     }
 
@@ -48,8 +48,8 @@ returns-in_err-add_registry-clause-fault g c =
     let k = c.in_err-add_registry.field-0.0 in
     rw (exit.1, exit.2) (elim refusal [
       | inl memory ↦ inl memory
-      | inr fault ↦ inr (λ b shows. subst (λ ls. Fault k (λ m. g.M.EncodeMetric.offers m) (λ m. g.M.EncodeMetric.stamps m) (λ m. g.M.EncodeMetric.may_fault m) ls) (ap listed_in c.deref-registry-items.ensures.value ∙ c.in-Ok.ensures.history c.requires b shows)
-          (one-in (FaultOf k (λ m. g.M.EncodeMetric.offers m) (λ m. g.M.EncodeMetric.stamps m) (λ m. g.M.EncodeMetric.may_fault m)) c.deref-registry-items.result.now c.loop-registry.registry-index c.registry-item.result within c.registry-item.is fault))
+      | inr fault ↦ inr (λ b shows. subst (λ ls. Fault g.M.EncodeMetric k ls) (ap listed_in c.deref-registry-items.ensures.value ∙ c.in-Ok.ensures.history c.requires b shows)
+          (one-in (FaultOf g.M.EncodeMetric k) c.deref-registry-items.result.now c.loop-registry.registry-index c.registry-item.result within c.registry-item.is fault))
     ])
 
 pub returns-in_err-add_registry-clause-not_writing : goal.returns-in_err-add_registry-clause-not_writing
@@ -57,7 +57,7 @@ returns-in_err-add_registry-clause-not_writing g c =
     let exit = err_from_is_err_and c.from_residual.result c.from_residual.ensures.1 in
     let refusal = rw c.in_err-add_registry.was at c.add_registry.ensures in
     let k = c.in_err-add_registry.field-0.0 in
-    rw (exit.1, exit.2) (refusal-not_writing k (λ m. g.M.EncodeMetric.offers m) (λ m. g.M.EncodeMetric.stamps m) (λ m. g.M.EncodeMetric.may_fault m) (own_metrics c.registry-item.result.now.facts) refusal)
+    rw (exit.1, exit.2) (refusal-not_writing g.M.EncodeMetric k (own_metrics c.registry-item.result.now.facts) refusal)
 
 pub returns-clause-text : goal.returns-clause-text
 returns-clause-text g c =
@@ -65,7 +65,7 @@ returns-clause-text g c =
     let rows = rw whole at c.loop-registry.invariant.rows in
     let names = names_differ c.args.registry.now c.requires.history (listed_in c.deref-registry-items.result.now) c.requires.reads (ap listed_in c.deref-registry-items.ensures.value ∙ c.in-Ok.ensures.history c.requires c.requires.history c.requires.reads.shows) in (
       rows.0,
-      (λ b shows. subst (λ ls. Admits (λ m. g.M.EncodeMetric.offers m) (λ m. g.M.EncodeMetric.stamps m) (λ m. g.M.EncodeMetric.may_be_empty m) ls rows.0) (ap listed_in c.deref-registry-items.ensures.value ∙ c.in-Ok.ensures.history c.requires b shows) rows.1),
-      exposition_of _ _ _ (listed_in c.deref-registry-items.result.now) rows.0 rows.1 rows.2 names,
+      (λ b shows. subst (λ ls. Admits g.M.EncodeMetric ls rows.0) (ap listed_in c.deref-registry-items.ensures.value ∙ c.in-Ok.ensures.history c.requires b shows) rows.1),
+      exposition_of g.M.EncodeMetric (listed_in c.deref-registry-items.result.now) rows.0 rows.1 rows.2 names,
       c.in_ok-ended_lines.ensures ∙ ap (λ (t : Text). t ++ codes "# EOF\n") rows.3,
     )

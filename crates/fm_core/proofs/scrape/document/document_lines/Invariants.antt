@@ -6,8 +6,6 @@ use Rattle.fm_core.proofs.scrape.document.document_lines.Given as goal
 abbrev pub invariant-loop-registry : goal.invariant-loop-registry
 invariant-loop-registry g l = record {
   lines : HasLines l.encoder;
-  rows : AddsRowsOf (λ m. g.M.EncodeMetric.offers m)
-      (λ m. g.M.EncodeMetric.stamps m)
-      (λ m. g.M.EncodeMetric.may_be_empty m)
+  rows : AddsRowsOf g.M.EncodeMetric
       (listed_in (take l.registry-index l.registry-items)) [] (text_so_far l.encoder.output);
 }

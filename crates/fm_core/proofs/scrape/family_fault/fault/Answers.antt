@@ -20,7 +20,7 @@ gather-requires-clause-names g c κs within =
 pub returns-in_default-gather-clause-none : goal.returns-in_default-gather-clause-none
 returns-in_default-gather-clause-none g c = λ none. (
   c.gather.new.encoder.families,
-  (λ b shows. subst (λ ls. Admits (λ m. g.M.EncodeMetric.offers m) (λ m. g.M.EncodeMetric.stamps m) (λ m. g.M.EncodeMetric.may_be_empty m) ls c.gather.new.encoder.families) (ap listed_in c.deref.ensures.value ∙ c.in-Ok.ensures.history c.requires b shows)
+  (λ b shows. subst (λ ls. Admits g.M.EncodeMetric ls c.gather.new.encoder.families) (ap listed_in c.deref.ensures.value ∙ c.in-Ok.ensures.history c.requires b shows)
       (on_ok c.gather.result c.in_default-gather.not-Err c.gather.ensures.admitted)),
 )
 
@@ -30,6 +30,6 @@ returns-clause-found g c = λ b shows.
     let name = listed_name (seen_listed c.in-Err.stop.listed) in
     elim (rw c.in-Err.is at c.gather.ensures.err) [
       | inl memory ↦ absurd (c.in_default-error.not-Memory memory)
-      | inr fault ↦ subst (λ (n : Text). FaultNamed k (λ m. g.M.EncodeMetric.offers m) (λ m. g.M.EncodeMetric.stamps m) (λ m. g.M.EncodeMetric.may_fault m) n (order b)) (sym c.in_ok-name-in_default-error.ensures)
-          (subst (λ ls. FaultNamed k (λ m. g.M.EncodeMetric.offers m) (λ m. g.M.EncodeMetric.stamps m) (λ m. g.M.EncodeMetric.may_fault m) name ls) (ap listed_in c.deref.ensures.value ∙ c.in-Ok.ensures.history c.requires b shows) fault)
+      | inr fault ↦ subst (λ (n : Text). FaultNamed g.M.EncodeMetric n k (order b)) (sym c.in_ok-name-in_default-error.ensures)
+          (subst (λ ls. FaultNamed g.M.EncodeMetric name k ls) (ap listed_in c.deref.ensures.value ∙ c.in-Ok.ensures.history c.requires b shows) fault)
     ]

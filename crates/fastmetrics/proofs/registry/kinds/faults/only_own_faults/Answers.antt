@@ -1,4 +1,4 @@
-use Rattle.std.proofs.Common.{◌≡◌, ℕ, pos, Option, List, refl, codes}
+use Rattle.std.proofs.Common.{◌≡◌, pos, List, refl, codes}
 use Rattle.std.specs.Option.{option_map}
 use Rattle.fm_grammar.specs.declared.MetricType.{MetricType}
 use Rattle.fm_grammar.specs.declared.MetricType.TheVariants as type
@@ -7,10 +7,11 @@ use Rattle.fm_grammar.specs.WellFormed.{AreLabels}
 use Rattle.fm_raw.specs.declared.encode_error.EncodeError.{EncodeError}
 use Rattle.fm_labels.proofs.NameLemmas.{AreFree-named}
 use Rattle.fm_labels.proofs.FittingLemmas.{all_free}
-use Rattle.fm_encoder.specs.Points.{Member, millis}
+use Rattle.fm_encoder.specs.Points.{millis}
 use Rattle.fm_registry_model.specs.Listing.{listed_name}
 use Rattle.fm_metrics.specs.Counters.{counter_created}
 use Rattle.fm_encoder.specs.Offers.{MetricHasFault}
+use Rattle.fm_encoder.specs.declared.metric.EncodeMetric.{Ghosts}
 use Rattle.fm_core.specs.Admits.{FaultOf}
 use Rattle.fm_core.proofs.FittingLemmas.{one_of_fitting}
 use Rattle.fastmetrics.specs.declared.registry.kinds.Metric.{Metric}
@@ -25,19 +26,10 @@ use Rattle.fastmetrics.proofs.registry.kinds.faults.only_own_faults.Goals as goa
 
 module _ (g : Over) where
   -- what the metrics of a root declare
-  abbrev offers : Metric g.row.H.Denot g.row.X.Denot → Option ℕ → List Member → Type 0
-  offers m = (ghosts g.row.H g.row.X g.H.Waiter g.H.Waiter-dict g.H.Wait g.H.Wait-dict g.H.Clone g.H.Clone-dict g.X.EncodeMetric g.X.EncodeMetric-dict g.X.Destruct-dict).offers m
+  abbrev declared : Ghosts (Metric g.row.H.Denot g.row.X.Denot)
+  declared = ghosts g.row.H g.row.X g.H.Waiter g.H.Waiter-dict g.H.Wait g.H.Wait-dict g.H.Clone g.H.Clone-dict g.X.EncodeMetric g.X.EncodeMetric-dict g.X.Destruct-dict
 
-  abbrev stamps : Metric g.row.H.Denot g.row.X.Denot → Option ℕ → Type 0
-  stamps m = (ghosts g.row.H g.row.X g.H.Waiter g.H.Waiter-dict g.H.Wait g.H.Wait-dict g.H.Clone g.H.Clone-dict g.X.EncodeMetric g.X.EncodeMetric-dict g.X.Destruct-dict).stamps m
-
-  abbrev may_fault : Metric g.row.H.Denot g.row.X.Denot → Type 0
-  may_fault m = (ghosts g.row.H g.row.X g.H.Waiter g.H.Waiter-dict g.H.Wait g.H.Wait-dict g.H.Clone g.H.Clone-dict g.X.EncodeMetric g.X.EncodeMetric-dict g.X.Destruct-dict).may_fault m
-
-  abbrev types : Metric g.row.H.Denot g.row.X.Denot → MetricType → Type 0
-  types m = (ghosts g.row.H g.row.X g.H.Waiter g.H.Waiter-dict g.H.Wait g.H.Wait-dict g.H.Clone g.H.Clone-dict g.X.EncodeMetric g.X.EncodeMetric-dict g.X.Destruct-dict).types m
-
-  own_type : (m : Metric g.row.H.Denot g.row.X.Denot) (t : MetricType) → types m t → HasType m t
+  own_type : (m : Metric g.row.H.Denot g.row.X.Denot) (t : MetricType) → declared.types m t → HasType m t
   own_type (metric.Number x) t is = number_declares x t is
   own_type (metric.Histogram x) t is = is
   own_type (metric.GaugeHistogram x) t is = is
@@ -52,7 +44,7 @@ module _ (g : Over) where
   own_type (metric.Own x) t is = tt
 
   -- a metric that fits has a fault only if it is the program's own
-  by_kind : (k : EncodeError) (name : Text) (labels : List Label) (are : AreLabels labels) (t : MetricType) (m : Metric g.row.H.Denot g.row.X.Denot) → HasType m t → FitsUnder name labels m → MetricHasFault k (offers m) (stamps m) (may_fault m) name t labels
+  by_kind : (k : EncodeError) (name : Text) (labels : List Label) (are : AreLabels labels) (t : MetricType) (m : Metric g.row.H.Denot g.row.X.Denot) → HasType m t → FitsUnder name labels m → MetricHasFault k (declared.offers m) (declared.stamps m) (declared.may_fault m) name t labels
       → (x : g.row.X.Denot) × (m ≡ metric.Own x) × MetricHasFault k (g.X.EncodeMetric.offers x) (g.X.EncodeMetric.stamps x) (g.X.EncodeMetric.may_fault x) name t labels
   by_kind k name labels are t (metric.Number x) same fit fault = absurd (number_fits k name labels are t x same fault)
   by_kind k name labels are t (metric.Histogram x) same fit fault = absurd (histogram_fits k name labels are t _ _ _ _ (λ own. own) same fit fault)
@@ -74,7 +66,7 @@ pub returns-clause-faults : goal.returns-clause-faults
 returns-clause-faults g c k t sound faults = record {
   history = sound.history;
   shown = sound.reads.shows;
-  fault = λ b shows. one_of_fitting (FaultOf k (offers g) (stamps g) (may_fault g)) (OwnFault k g.X.EncodeMetric.offers g.X.EncodeMetric.stamps g.X.EncodeMetric.may_fault) Fits
+  fault = λ b shows. one_of_fitting (FaultOf (declared g) k) (OwnFault g.X.EncodeMetric k) Fits
       (λ l listable fit. by_kind g k _ l.labels listable.labels l.registration.metric_type l.registration.metric fit.0 fit.1) t b sound shows (faults b shows);
 }
 
@@ -82,6 +74,6 @@ pub returns-clause-named : goal.returns-clause-named
 returns-clause-named g c k t name sound faults = record {
   history = sound.history;
   shown = sound.reads.shows;
-  fault = λ b shows. one_of_fitting (λ l. (name ≡ listed_name l) × FaultOf k (offers g) (stamps g) (may_fault g) l) (λ l. (name ≡ listed_name l) × OwnFault k g.X.EncodeMetric.offers g.X.EncodeMetric.stamps g.X.EncodeMetric.may_fault l) Fits
+  fault = λ b shows. one_of_fitting (λ l. (name ≡ listed_name l) × FaultOf (declared g) k l) (λ l. (name ≡ listed_name l) × OwnFault g.X.EncodeMetric k l) Fits
       (λ l listable fit here. (here.0, by_kind g k _ l.labels listable.labels l.registration.metric_type l.registration.metric fit.0 fit.1 here.1)) t b sound shows (faults b shows);
 }

@@ -6,13 +6,12 @@ use Rattle.fastmetrics.proofs.registry.root.Root.encode.Goals as goal
 
 pub returns-clause-refused : goal.returns-clause-refused
 returns-clause-refused g c =
-    let own = g.X.EncodeMetric in
     IfErr-weaker c.encode.result _ _
     (λ k refused not_writers. (
       (refused not_writers).0,
       elim (refused not_writers).1 [
         | inl memory ↦ inl memory
-        | inr fault ↦ inr (subst (λ (t : Tree _). HasOwnFault k own.offers own.stamps own.may_fault t) c.registry.ensures.shown (c.only_own_faults.ensures.faults k c.registry.result.now c.registry.ensures.sound fault))
+        | inr fault ↦ inr (subst (λ (t : Tree _). HasOwnFault g.X.EncodeMetric k t) c.registry.ensures.shown (c.only_own_faults.ensures.faults k c.registry.result.now c.registry.ensures.sound fault))
       ],
     ))
     c.encode.ensures.refused

@@ -7,8 +7,7 @@ use Rattle.fastmetrics.proofs.registry.root.Root.fault.Goals as goal
 
 pub returns-clause-found : goal.returns-clause-found
 returns-clause-found g c =
-    let own = g.X.EncodeMetric in
     IfOk-weaker c.fault.result _ _
     (λ found told. IfSome_then found told
-    (λ f fault. subst (λ (t : Tree _). HasOwnFaultNamed (string_bytes f.name) f.error own.offers own.stamps own.may_fault t) c.registry.ensures.shown (c.only_own_faults.ensures.named f.error c.registry.result.now (string_bytes f.name) c.registry.ensures.sound fault)))
+    (λ f fault. subst (λ (t : Tree _). HasOwnFaultNamed g.X.EncodeMetric (string_bytes f.name) f.error t) c.registry.ensures.shown (c.only_own_faults.ensures.named f.error c.registry.result.now (string_bytes f.name) c.registry.ensures.sound fault)))
     c.fault.ensures.found

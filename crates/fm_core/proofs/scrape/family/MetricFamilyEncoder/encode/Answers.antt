@@ -3,14 +3,14 @@ use Rattle.fm_grammar.specs.Exposition.{Text}
 use Rattle.fm_grammar.specs.Reading.{IsExposition, IsNewName}
 use Rattle.fm_grammar.proofs.States.{exposition_push}
 use Rattle.fm_registry_model.specs.Listing.{listed_name}
-use Rattle.fm_core.specs.Families.{next_heading}
-use Rattle.fm_core.specs.inside.Documents.{heading_within}
+use Rattle.fm_core.specs.Families.{next_listed}
+use Rattle.fm_core.specs.inside.Documents.{listed_within}
 use Rattle.fm_core.proofs.scrape.family.MetricFamilyEncoder.encode.Goals as goal
 
 pub invariant_of-self : goal.invariant_of-self
 invariant_of-self g c =
-    let fresh : IsNewName (listed_name (heading_within c.self.inside.scope c.args.metadata.now)) c.self.inside.families.items =
-    subst (λ e. IsNewName (listed_name (next_heading e c.args.metadata.now)) e.families) (sym c.self.view_is) c.requires.new_name in
+    let fresh : IsNewName (listed_name (listed_within c.self.inside.scope c.args.metadata.now c.args.metric.now)) c.self.inside.families.items =
+    subst (λ e. IsNewName (listed_name (next_listed e c.args.metadata.now c.args.metric.now)) e.families) (sym c.self.view_is) c.requires.new_name in
     record {
       exposition = subst IsExposition (sym c.in-Ok-push.ensures.items)
           (exposition_push c.self.inside.families.items c.in-Ok.family c.self.invariant.exposition c.in-Ok.ensures.family.1 (subst (λ n. IsNewName n c.self.inside.families.items) (sym {A = Text} c.in-Ok.ensures.family.0.0) fresh));
