@@ -246,6 +246,7 @@ fn add_registry<M>(
 }
 
 /// What is advised of the metrics of a registry and all below it, in the order of its document: of those too that show nothing yet.
+/// Fails with `AllocError` if memory runs out.
 pub fn lint_registry<M>(alloc: Global, registry: &Registry<M>) -> Result<Vec<Warning>, AllocError>
     ensures { IfOk result (λ warnings. map seen_warning warnings.items
         ≡ warnings_of_all (listed_tree registry.now)) }
@@ -261,7 +262,7 @@ pub fn lint_registry<M>(alloc: Global, registry: &Registry<M>) -> Result<Vec<War
     Ok(warnings)
 }
 
-/// What is advised of the families of an exposition, in their order.
+/// What is advised of the families of an exposition, in their order. Fails with `AllocError` if memory runs out.
 pub fn lint_exposition(alloc: Global, exposition: &Exposition) -> Result<Vec<Warning>, AllocError>
     ensures { IfOk result (λ warnings. map seen_warning warnings.items
         ≡ flat_map warnings_of_family exposition.now) }

@@ -9,13 +9,15 @@ ghost use Rattle.fm_raw.specs.declared.encode_error.EncodeError.{EncodeError};
 ghost use Rattle.fm_registry_model.specs.declared.RegistryError.TheVariants.{Memory, NoRandomKeys};
 ghost use Rattle.fm_core.specs.HasHistory.{IsNewRoot};
 ghost use Rattle.fm_registry_model.specs.Lists.{seen_labels};
+ghost use Rattle.fm_registry_model.specs.inside.Fitting.{HasFittingHistory};
 ghost use Rattle.fm_registry_model.specs.Listing.{listed_tree};
 ghost use Rattle.fm_core.specs.Admits.{AdmittedBy};
 ghost use Rattle.fm_core.specs.Encoded.{IsAdmittedText, WritesAdmitted, BeginsAdmitted};
 ghost use Rattle.fm_core.specs.Lint.{seen_warning, warnings_of_all};
 ghost use Rattle.fm_core.specs.Named.{named_metric};
-ghost use Rattle.fastmetrics.specs.Roots.{AddsOrNot, Enters};
+ghost use Rattle.fastmetrics.specs.Roots.{AddsOrNot, AddsKept, Enters};
 ghost use Rattle.fastmetrics.specs.Fits.{fit_refusal_here, HasOwnFault, HasOwnFaultNamed};
+ghost use Rattle.fastmetrics.specs.inside.FittingMetrics.{Fits};
 
 mod collectors;
 mod constants;
@@ -29,7 +31,7 @@ use crate::registry::kinds::{Metric, NoOwn};
 use crate::registry::waiter::Waiter;
 use fm_core::format::text::{FamilyFault, collect, encode, fault};
 use fm_core::lint::{Warning, lint_registry};
-use fm_core::registry::{RegistryBuilder, RegistryError};
+use fm_core::registry::{Registry, RegistryBuilder, RegistryError};
 use fm_encoder::EncodeMetric;
 use fm_exposition::Exposition;
 use fm_family::LabelHashing;
@@ -194,6 +196,44 @@ impl<H: Waiter, X: EncodeMetric> Root<H, X> {
         self.at.enter(name, labels)
     }
 
+    // The registry.
+    fn registry(&self) -> &Registry<Metric<H, X>>
+        ensures shown { result.now ≡ self.now.at.tree }
+        ensures sound { HasFittingHistory Fits result.now }
+    {
+        self.at.registry()
+    }
+
+    // Registers a metric in the current subsystem.
+    fn add_metric(
+        &mut self,
+        name: &str,
+        help: &str,
+        unit: Option<Unit>,
+        metric: Metric<H, X>,
+    ) -> Result<(), RegistryError>
+        ensures { AddsOrNot (fit_refusal_here self.old.at name.now unit metric)
+            (⟦<Metric<H, X> as EncodeMetric>⟧.types metric)
+            (named_metric name.now help.now unit metric) self.old.at self.new.at result }
+    {
+        self.at.register(name, help, unit, metric)
+    }
+
+    // Registers a clone of a metric in the current subsystem, and returns the metric.
+    fn keep_metric<T: Into<Metric<H, X>> + Clone + Drop>(
+        &mut self,
+        name: &str,
+        help: &str,
+        unit: Option<Unit>,
+        metric: T,
+    ) -> Result<T, RegistryError>
+        ensures { AddsKept metric T.is_clone T.converts (fit_refusal_here self.old.at name.now unit)
+            ⟦<Metric<H, X> as EncodeMetric>⟧.types
+            (named_metric name.now help.now unit) self.old.at self.new.at result }
+    {
+        self.at.keep(name, help, unit, metric)
+    }
+
     // Goes to the root itself, above each namespace, and returns the path on which it was.
     pub(crate) fn go_to_top(&mut self) -> Vec<String> {
         self.at.go_to_top()
@@ -220,7 +260,7 @@ impl<H: Waiter, X: EncodeMetric> Root<H, X> {
             (named_metric name.now help.now unit converted) self.old.at
             self.new.at result }
     {
-        self.at.register(name, help, unit, metric.into())
+        self.add_metric(name, help, unit, metric.into())
     }
 
     /// The exposition of the registry: what `collect` returns for it, with its errors.
@@ -232,7 +272,7 @@ impl<H: Waiter, X: EncodeMetric> Root<H, X> {
         ensures not_writing { IfErr result (λ k. ¬ (IsWritersFault k)) }
     {
         only_own_faults::<H, X>();
-        collect(self.at.alloc(), self.at.registry())
+        collect(self.alloc(), self.registry())
     }
 
     /// Writes the document of the registry, as `encode` does for it, with its errors.
@@ -249,7 +289,7 @@ impl<H: Waiter, X: EncodeMetric> Root<H, X> {
             (W.contents writer.old) (W.contents writer.new)) }
     {
         only_own_faults::<H, X>();
-        encode(self.at.alloc(), writer, self.at.registry())
+        encode(self.alloc(), writer, self.registry())
     }
     /// The first family that a document can't show at this moment, and why, or `None`: what a server prints where `encode` was refused.
     /// It collects the registry, so it waits as `collect` does.
@@ -260,7 +300,7 @@ impl<H: Waiter, X: EncodeMetric> Root<H, X> {
             × AdmittedBy ⟦<Metric<H, X> as EncodeMetric>⟧ self.now.at.tree e) }
     {
         only_own_faults::<H, X>();
-        fault(self.at.alloc(), self.at.registry())
+        fault(self.alloc(), self.registry())
     }
 
     /// What a linter advises of the metrics, as a program's test asks it: of those too that show nothing yet.
@@ -268,7 +308,7 @@ impl<H: Waiter, X: EncodeMetric> Root<H, X> {
         ensures { IfOk result (λ warnings. map seen_warning warnings.items
             ≡ warnings_of_all (listed_tree self.now.at.tree)) }
     {
-        lint_registry(self.at.alloc(), self.at.registry())
+        lint_registry(self.alloc(), self.registry())
     }
     /// The document of the registry, in memory: the body of a server's answer to a scrape. It has the errors of `collect`.
     pub fn document(&self) -> Result<Vec<u8>, EncodeError>

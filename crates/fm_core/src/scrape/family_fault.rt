@@ -33,8 +33,8 @@ fn name_of<M>(alloc: Global, listed: &ListedMetric<'_, M>) -> Result<String, All
     Ok(name)
 }
 
-/// The first family of a registry that is refused at this moment, as `collect` would find it, or `None` if none is. It may wait if a
-/// metric waits for a lock.
+/// The first family of a registry that is refused at this moment, as `collect` would find it, or `None` if none is. Fails with
+/// `AllocError` if memory runs out. It may wait if a metric waits for a lock.
 pub fn fault<M: EncodeMetric>(
     alloc: Global,
     registry: &Registry<M>,

@@ -66,8 +66,7 @@ impl<H: Waiter, X: EncodeMetric> Root<H, X> {
         let unit = same_unit(&description.unit)?;
         let family = self.new_collected(description, clone, place)?;
         let metric = Metric::Own(X::hold(family));
-        self.at
-            .register(description.name, description.help, unit, metric)
+        self.add_metric(description.name, description.help, unit, metric)
     }
 
     /// Registers families of the type `M` in the current subsystem, in this order: at each scrape the collector gives the members of

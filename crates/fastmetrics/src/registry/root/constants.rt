@@ -35,7 +35,7 @@ impl<H: Waiter, X: EncodeMetric> Root<H, X> {
         ensures { AddsKept metric T.is_clone T.converts (fit_refusal_here self.old.at name.now None) ⟦<Metric<H, X> as EncodeMetric>⟧.types
             (named_metric name.now help.now None) self.old.at self.new.at result }
     {
-        self.at.keep(name, help, None, metric)
+        self.keep_metric(name, help, None, metric)
     }
 
     /// Registers facts in the current subsystem, each a name and a text. It has the errors of `register`.
@@ -53,9 +53,8 @@ impl<H: Waiter, X: EncodeMetric> Root<H, X> {
             (named_metric name.now help.now None (Constant (constant.Info info))) self.old.at
             self.new.at result) }
     {
-        let facts = owned_labels(self.at.alloc(), facts)?;
-        self.at
-            .register(name, help, None, Metric::from(Info::new(facts)))
+        let facts = owned_labels(self.alloc(), facts)?;
+        self.add_metric(name, help, None, Metric::from(Info::new(facts)))
     }
 
     /// A law, which does nothing: where each metric of a root is a constant, what was registered says which text its document is.

@@ -74,7 +74,7 @@ impl<H: Waiter, X: EncodeMetric> Root<H, X> {
             result }
     {
         let family = self.new_family(&description)?;
-        self.at.keep(description.name, description.help, description.unit, family)
+        self.keep_metric(description.name, description.help, description.unit, family)
     }
 
     /// Makes a family of counters of whole numbers with these label names, registers a clone of it in the current subsystem, and returns it.

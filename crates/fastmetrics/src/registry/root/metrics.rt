@@ -35,8 +35,8 @@ impl<H: Waiter, X: EncodeMetric> Root<H, X> {
             result }
     {
         let made = Maker::new(
-            self.wait,
-            self.at.alloc(),
+            self.wait(),
+            self.alloc(),
             description.bounds,
             description.created,
         );
@@ -46,7 +46,7 @@ impl<H: Waiter, X: EncodeMetric> Root<H, X> {
         let Ok(metric) = T::made(&maker) else {
             return Err(RegistryError::Memory);
         };
-        self.at.keep(description.name, description.help, description.unit, metric)
+        self.keep_metric(description.name, description.help, description.unit, metric)
     }
 
     /// Makes a counter of whole numbers, registers a clone of it in the current subsystem, and returns it. It has the errors of `register`.

@@ -23,8 +23,7 @@ impl<H: Waiter, X: EncodeMetric> Root<H, X> {
             (named_metric name.now help.now None (Own held)) self.old.at
             self.new.at result }
     {
-        self.at
-            .register(name, help, None, Metric::Own(X::hold(metric)))
+        self.add_metric(name, help, None, Metric::Own(X::hold(metric)))
     }
 
     /// Like `add_own`, by its description, which has a name, a help and perhaps a unit.
@@ -40,7 +39,7 @@ impl<H: Waiter, X: EncodeMetric> Root<H, X> {
             (named_metric description.entry.name.now description.entry.help.now description.entry.unit (Own held)) self.old.at
             self.new.at result }
     {
-        self.at.register(
+        self.add_metric(
             description.name,
             description.help,
             description.unit,
@@ -65,7 +64,7 @@ impl<H: Waiter, X: EncodeMetric> Root<H, X> {
             self.new.at
             result }
     {
-        let Ok(metric) = T::try_default(self.wait, self.at.alloc()) else {
+        let Ok(metric) = T::try_default(self.wait(), self.alloc()) else {
             return Err(RegistryError::Memory);
         };
         let Ok(clone) = metric.clone() else {
