@@ -76,8 +76,11 @@ pub use Rattle.fm_histogram.specs.Histogram
 pub use Rattle.fm_histogram.specs.Shown
 pub use Rattle.fm_histogram.specs.Shared
 pub use Rattle.fm_histogram.specs.Timers
+pub use Rattle.fm_histogram.specs.Observing
+pub use Rattle.fm_histogram.specs.Exemplars
 pub use Rattle.fm_tally.specs.Pieces
 pub use Rattle.fm_family.specs.Members
+pub use Rattle.fm_family.specs.MemberCalls
 pub use Rattle.fm_family.specs.MemberLends
 pub mod Paths
 pub mod Roots

@@ -3,4 +3,5 @@ pub mod Members
 pub mod VecMembers
 pub mod VecNames
 pub mod MemberLends
+pub mod MemberCalls
 pub mod inside

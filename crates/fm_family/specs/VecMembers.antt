@@ -44,3 +44,19 @@ AddsNew {M} limit values metric old new result = MatchOption (lookup (values_eq 
     (λ added. (added ≡ true) × (new ≡ old ++ (values, metric) ∷ []))
     (λ e. (new ≡ old) × ((e ≡ Memory) ⊎ ((e ≡ TooManyMembers) × (limit ≤ length old)))))
     (λ m. (new ≡ old) × (result ≡ Ok false))
+
+-- A look-up of values, which adds a member if there is none. If there is one, the result tells it, and the list stays. Else a metric that the
+-- factory promises was added as the last under these values, which the result tells; or the list is as it was, and the error is `Memory`,
+-- one that the factory promises, or `TooManyMembers` where there are as many members as the limit allows.
+abbrev pub FindsOrAdds : {M A : Type 0} → (Result M MetricError → Type 0) → ℕ → List Text → List (List Text × M) → List (List Text × M) → (A → M → Type 0) → Result A MetricError → Type 0
+FindsOrAdds {M} promises limit values old new tells answer = MatchOption (lookup (values_eq values) old)
+    (MatchResult answer
+    (λ a. (m : M) × promises (Ok m) × (length old < limit) × (new ≡ old ++ (values, m) ∷ []) × tells a m)
+    (λ e. (new ≡ old) × ((e ≡ Memory) ⊎ (((e ≡ TooManyMembers) × (limit ≤ length old)) ⊎ promises (Err e)))))
+    (λ m. (new ≡ old) × IsOkAnd answer (λ a. tells a m))
+
+-- no two members have the same values, each has as many as the family says, and there are no more members than the limit allows
+pub record AreVecMembers {M : Type 0} (members : VecState M) : Type 0 where
+  pub different : IsDistinct values_eq (keys_of members.entries)
+  pub values : AllByRecursion (λ entry. length entry.0 ≡ members.count) members.entries
+  pub within : length members.entries ≤ members.limit

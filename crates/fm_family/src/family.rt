@@ -1,9 +1,11 @@
 //! Families that threads share.
-ghost use Rattle.std.specs.Prelude.{◌≡◌, ◌⊎◌, Err, IfOk, IfErr, IfSome, ⊤};
+ghost use Rattle.std.specs.Prelude.{◌≡◌, ◌⊎◌, List, [], length, Err, IfOk, IfErr, IfSome, ⊤};
 ghost use Rattle.std.specs.Arc.{arc_value};
 ghost use Rattle.std.specs.Fn.{FnOnceReturnsAt};
 ghost use Rattle.fm_raw.specs.declared.error.MetricError.TheVariants.{Memory};
-ghost use Rattle.fm_family.specs.Members.{ClonesEqual, OffersDifferent, MayFault};
+ghost use Rattle.std.specs.List.Retain.{IsFiltered};
+ghost use Rattle.fm_family.specs.MemberCalls.{Locked, AreDifferent, CallsMember, Removes};
+ghost use Rattle.fm_family.specs.Members.{ClonesEqual, GetsOrAdds, OffersDifferent, MayFault, CalledAtMember};
 
 use crate::factory::{DefaultFactory, MetricFactory};
 use crate::members::FamilyCore;
@@ -92,9 +94,13 @@ impl<
     /// Calls `f` with the metric of these labels, if there is one, and returns its result. It takes no memory.
     pub fn with<R, F: FnOnce(&M) -> R>(&self, labels: &LS, f: F) -> Option<R>
         requires { F.IsAlwaysCallable f }
-        ensures { IfSome result (λ r. (metric : M) × FnOnceReturnsAt F.FnOnce f metric r) }
+        ensures looks_up { (members : List (LS × M))
+            × AreDifferent LS.eq members
+            × CallsMember F.FnOnce f (LS.eq labels.now) members result }
+        ensures called { IfSome result (λ r. (metric : M) × FnOnceReturnsAt F.FnOnce f metric r) }
     {
         let core = self.shared.core.read(&self.wait);
+        core.are_different();
         match core.get(labels) {
             Some(metric) => Some(f(metric)),
             None => None,
@@ -103,7 +109,11 @@ impl<
 
     /// How many members there are. It waits while another thread makes or removes a member, and takes no memory. Other
     /// threads may have changed the number before the caller reads it.
-    pub fn len(&self) -> usize {
+    pub fn len(&self) -> usize
+        ensures { (members : List (LS × M))
+            × AreDifferent LS.eq members
+            × (result ≡ length members) }
+    {
         let core = self.shared.core.read(&self.wait);
         core.len()
     }
@@ -113,16 +123,24 @@ impl<
     /// The others keep their order, their values and their labels. A handle that was cloned out of the metric before
     /// counts on, and is no longer in the exposition. If the labels are used again, their metric is new, and the last
     /// member. The call waits for all other calls of this family, and takes no memory.
-    pub fn remove(&self, labels: &LS) -> bool {
-        let mut core = self.shared.core.write(&self.wait);
+    pub fn remove(&self, labels: &LS) -> bool
+        ensures { Locked (AreDifferent LS.eq) (Removes (LS.eq labels.now)) result }
+    {
+        let mut guard = self.shared.core.write(&self.wait);
+        let core: &mut FamilyCore<LS, M, S> = &mut guard;
+        core.are_different();
         core.remove(labels)
     }
 
     /// Removes each member, as `remove` does. The factory and the hasher stay.
     ///
     /// The call waits for all other calls of this family, and takes no memory.
-    pub fn clear(&self) {
-        let mut core = self.shared.core.write(&self.wait);
+    pub fn clear(&self)
+        ensures { Locked (AreDifferent LS.eq) (λ old new _. new ≡ []) result }
+    {
+        let mut guard = self.shared.core.write(&self.wait);
+        let core: &mut FamilyCore<LS, M, S> = &mut guard;
+        core.are_different();
         core.clear();
     }
 
@@ -132,8 +150,12 @@ impl<
     /// call waits for all other calls of this family, which wait until it returns. It takes no memory.
     pub fn retain<F: FnMut(&LS, &M) -> bool>(&self, keep: F)
         requires { F.IsAlwaysCallable keep }
+        ensures { Locked (AreDifferent LS.eq)
+            (λ old new _. IsFiltered (CalledAtMember F.FnMut) keep old new) result }
     {
-        let mut core = self.shared.core.write(&self.wait);
+        let mut guard = self.shared.core.write(&self.wait);
+        let core: &mut FamilyCore<LS, M, S> = &mut guard;
+        core.are_different();
         core.retain(keep);
     }
 }
@@ -155,17 +177,23 @@ impl<
         requires ready { MF.is_ready (arc_value self.now.shared).factory }
         requires callable { F.IsAlwaysCallable f }
         requires clones { ClonesEqual LS.is_clone LS.eq }
+        ensures gets { Locked (AreDifferent LS.eq)
+            (λ old new r. GetsOrAdds LS.is_clone LS.eq
+            (MF.promises (arc_value self.now.shared).factory)
+            labels.now old new (λ r metric. FnOnceReturnsAt F.FnOnce f metric r) r) result }
         ensures called { IfOk result (λ r. (metric : M) × FnOnceReturnsAt F.FnOnce f metric r) }
         ensures refused { IfErr result
             (λ e. (e ≡ Memory) ⊎ MF.promises (arc_value self.now.shared).factory (Err e)) }
     {
         let shared = &*self.shared;
         let core = shared.core.read(&self.wait);
+        core.are_different();
         if let Some(metric) = core.get(labels) {
             return Ok(f(metric));
         }
         drop(core);
         let mut core = shared.core.write(&self.wait);
+        core.are_different();
         let index = core.index_or_new(labels, &shared.factory)?;
         Ok(f(core.at(index)))
     }

@@ -106,6 +106,13 @@ impl<LS: EncodeLabelSet + Eq + Hash, M, S: BuildHasher> FamilyCore<LS, M, S> {
         self.members.get(labels)
     }
 
+    // No two members have equal labels. It does nothing.
+    pub(crate) fn are_different(&self)
+        ensures { IsUnique LS.eq self.now }
+    {
+        let _ = self.members.len();
+    }
+
     // The index of the metric of these labels, if there is one.
     fn index_of(&self, labels: &LS) -> Option<usize>
         ensures found { is_some result ≡ is_some (get LS.eq self.now labels.now) }

@@ -5,8 +5,8 @@ use Rattle.std.proofs.lemmas.Bool.Decides.{nat_tests}
 use Rattle.std.proofs.lemmas.List.Sums.{sum_by-append, count_by-le-length}
 use Rattle.fm_raw.specs.declared.bucket.bound.Bucket.{Bucket}
 use Rattle.fm_raw.specs.declared.bucket.bound.Bound.TheVariants.{Finite, Inf}
-use Rattle.fm_histogram.specs.Histogram.{is_above, is_between, buckets_above, rises, index_among}
-use Rattle.fm_histogram.specs.inside.Counting.{index, one_more}
+use Rattle.fm_histogram.specs.Histogram.{is_above, is_between, buckets_above, rises, index_among, index}
+use Rattle.fm_histogram.specs.inside.Counting.{one_more}
 
 -- a bound above one that is not below x is not below x
 stays_above : (a b x : ℤ) → int_lt a x ≡ false → int_lt a b ≡ true → int_lt b x ≡ false

@@ -6,8 +6,8 @@ use Rattle.std.specs.Int.RustNames.{FitsSigned}
 use Rattle.std.proofs.lemmas.List.{append-nil}
 use Rattle.std.proofs.lemmas.List.Elements.{filter-append}
 use Rattle.fm_raw.specs.declared.bucket.bound.Bucket.{Bucket}
-use Rattle.fm_histogram.specs.Histogram.{Histogram, IsCounts, total, buckets_above, index_among}
-use Rattle.fm_histogram.specs.inside.Counting.{IsOfSome, index, one_more}
+use Rattle.fm_histogram.specs.Histogram.{Histogram, IsCounts, total, buckets_above, index_among, index}
+use Rattle.fm_histogram.specs.inside.Counting.{IsOfSome, one_more}
 use Rattle.fm_histogram.proofs.BucketLemmas.{observed, counts_within, index_is}
 
 -- the sum of one value more

@@ -1,5 +1,6 @@
 pub mod BucketLemmas
 pub mod CountLemmas
+pub mod SlotLemmas
 pub mod MergeLemmas
 pub mod EmptyLemmas
 pub mod BoundLemmas

@@ -1,5 +1,6 @@
 -- The histogram of a list of values: how many of them are in each interval between bounds, how many there are, and their sum.
 use Rattle.std.specs.Prelude.{ℕ, ◌+◌, Bool, true, not, ◌&&◌, ◌||◌, ◌≡◌, ℤ, pos, ◌+ℤ◌, ◌<◌, ◌^◌, List, [], ◌∷◌, Option, Some, None, length, count_by, filter, map, All, Contains, ◌↔◌, int_lt, suc, if◌then◌else◌}
+use Rattle.fm_raw.specs.BoundTests.{lies_below}
 use Rattle.fm_raw.specs.declared.bucket.bound.Bound.{Bound}
 use Rattle.fm_raw.specs.declared.bucket.bound.Bound.TheVariants.{Finite, Inf}
 use Rattle.fm_raw.specs.declared.bucket.bound.Bucket.{Bucket}
@@ -70,6 +71,11 @@ pub record CountsTaken (taken : ℤ → Bool) (s : Histogram) : Type 0 where
 abbrev pub index_among : ℤ → List ℤ → ℕ
 index_among x [] = 0
 index_among x (b ∷ bs) = if int_lt b x then suc (index_among x bs) else 0
+
+-- the index of the bucket that takes x: how many have a bound below it
+abbrev pub index : ℤ → List Bucket → ℕ
+index x [] = 0
+index x (b ∷ bs) = if lies_below b.upper_bound x then suc (index x bs) else 0
 
 -- the given bounds that are taken, each once and in order
 pub record IsBoundsOf (taken : ℤ → Bool) (given bounds : List ℤ) : Type 0 where

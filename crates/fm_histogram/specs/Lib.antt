@@ -3,6 +3,8 @@ pub use Rattle.fm_raw.specs.BoundTests
 pub use Rattle.fm_encoder.specs.Points
 pub use Rattle.fm_encoder.specs.Emits
 pub mod Histogram
+pub mod Observing
+pub mod Exemplars
 pub mod Shown
 pub mod Shared
 pub mod Timers

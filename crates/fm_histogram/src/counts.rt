@@ -3,8 +3,8 @@ ghost use Rattle.std.specs.Prelude.{◌≡◌, ℕ, ℤ, true, ◌+◌, ◌^◌,
 ghost use Rattle.fm_raw.specs.declared.error.MetricError.TheVariants.{Memory, CountFull, UnequalBounds};
 ghost use Rattle.fm_raw.specs.declared.bucket.bound.Bucket.{Bucket as OneBucket};
 ghost use Rattle.fm_raw.specs.Bounds.{default_bounds};
-ghost use Rattle.fm_histogram.specs.Histogram.{IsCounts, rises, upper_bounds, merged, merged_buckets};
-ghost use Rattle.fm_histogram.specs.inside.Counting.{one_more, index};
+ghost use Rattle.fm_histogram.specs.Histogram.{IsCounts, rises, upper_bounds, merged, merged_buckets, index};
+ghost use Rattle.fm_histogram.specs.inside.Counting.{one_more};
 
 use crate::index::index_of;
 use fm_raw::bucket::{Bound, Bucket, default_buckets};

@@ -10,6 +10,8 @@ ghost use Rattle.fm_encoder.specs.Points.{BucketsValid, ExemplarValid, EmittedEx
 ghost use Rattle.fm_histogram.specs.Histogram.{Histogram as Counted, CountsTaken, is_taken};
 ghost use Rattle.fm_histogram.specs.Shown.{alone};
 ghost use Rattle.fm_histogram.specs.Shared.{exemplar_histogram_created};
+ghost use Rattle.fm_histogram.specs.Observing.{Locked};
+ghost use Rattle.fm_histogram.specs.Exemplars.{ExemplarsFit, SlotsFit, LiesAt, ObservesAlone, ObservesWith};
 ghost use Rattle.fm_histogram.specs.inside.Slots.{emitted};
 
 use crate::snapshot::HistogramSnapshot;
@@ -19,6 +21,7 @@ use fm_encoder::{
 use fm_raw::{EncodeError, Fixed, MetricError, MetricType, TryDefault, TypedMetric};
 use std::alloc::{AllocError, Global};
 use std::fmt::{self, Debug, Formatter};
+use std::marker::Model;
 use std::sync::{Arc, Mutex, Wait};
 use std::time::Duration;
 
@@ -30,13 +33,25 @@ struct Seen {
     last: Vec<Option<LabeledExemplar<ExemplarLabels>>>,
 }
 
+impl Model for Seen {
+    ghost use Rattle.fm_histogram.specs.Exemplars.{WithExemplars, ExemplarsFit};
+
+    ghost Value = { WithExemplars };
+
+    ghost view = { λ s. record { counted = s.snapshot; last = s.last.items } };
+
+    ghost invariant = { λ s. ExemplarsFit (record { counted = s.snapshot; last = s.last.items }) };
+}
+
 impl Seen {
     // Nothing was counted.
     fn of_none(alloc: Global, snapshot: HistogramSnapshot) -> Result<Seen, MetricError>
         ensures { IfErr result (λ e. e ≡ Memory) }
     {
-        let mut last = Vec::with_capacity(alloc, snapshot.buckets().len())?;
-        for _ in 0..snapshot.buckets().len() {
+        snapshot.counts_taken();
+        let count = snapshot.buckets().len();
+        let mut last = Vec::with_capacity(alloc, count)?;
+        for index in 0..count {
             last.push(None)?;
         }
         Ok(Seen {
@@ -46,24 +61,37 @@ impl Seen {
         })
     }
 
+    // Counts a value. The exemplars stay.
+    fn observe(&mut self, value: Fixed) -> Result<(), MetricError>
+        ensures observes { ObservesAlone value self.old self.new result }
+        ensures fit { ExemplarsFit self.old }
+    {
+        let counted = self.snapshot.observe(value);
+        self.snapshot.counts_taken();
+        counted
+    }
+
     // Counts a value, and keeps the exemplar in the slot of its bucket.
     fn observe_with(&mut self, exemplar: LabeledExemplar<ExemplarLabels>) -> Result<(), MetricError>
-        ensures { IfErr result (λ e. (e ≡ CountFull) × (is_taken exemplar.value ≡ true)) }
+        ensures observes { ObservesWith exemplar self.old self.new result }
+        ensures fit { ExemplarsFit self.old }
     {
-        self.snapshot.observe(exemplar.value)?;
+        let index = self.snapshot.index_of(exemplar.value);
+        let counted = self.snapshot.observe(exemplar.value);
+        self.snapshot.counts_taken();
+        counted?;
         if exemplar.value < Fixed::ZERO {
             return Ok(());
         }
-        let index = self.snapshot.index_of(exemplar.value);
-        if let Some(slot) = self.last.get_mut(index) {
-            *slot = Some(exemplar);
-        }
+        self.last[index] = Some(exemplar);
         Ok(())
     }
 
-    // The exemplar of a bucket, if it has one. It is valid.
+    // The exemplar of a bucket, if it has one. It is valid, and lies in the bucket.
     fn slot(&self, index: usize) -> Option<&LabeledExemplar<ExemplarLabels>>
-        ensures { ExemplarValid (emitted result) }
+        ensures valid { ExemplarValid (emitted result) }
+        ensures fits { (e : EmittedExemplar) → emitted result ≡ e ∷ []
+            → LiesAt self.now.counted.buckets index e.value }
     {
         let exemplar = self.last.get(index)?.as_ref()?;
         exemplar.labels.are_taken();
@@ -72,9 +100,11 @@ impl Seen {
 
     // The same for each bucket.
     fn slots(&self) -> Result<Vec<Option<&LabeledExemplar<ExemplarLabels>>>, AllocError>
-        ensures { IfOk result
-            (λ slots. (length slots.items ≡ length self.now.snapshot.buckets)
+        ensures valid { IfOk result
+            (λ slots. (length slots.items ≡ length self.now.counted.buckets)
             × AllByRecursion ExemplarValid (map emitted slots.items)) }
+        ensures fit { IfOk result
+            (λ slots. SlotsFit self.now.counted.buckets (map emitted slots.items)) }
     {
         let count = self.snapshot.buckets().len();
         let mut slots = Vec::with_capacity(self.alloc, count)?;
@@ -82,6 +112,13 @@ impl Seen {
             slots.push(self.slot(i))?;
         }
         Ok(slots)
+    }
+
+    // What was counted.
+    fn snapshot(&self) -> &HistogramSnapshot
+        ensures { result.now ≡ self.now.counted }
+    {
+        &self.snapshot
     }
 }
 
@@ -159,15 +196,17 @@ impl<H: Wait + Drop> ExemplarHistogram<H> {
 impl<H: Wait> ExemplarHistogram<H> {
     /// Counts a value without an exemplar, as `Histogram::observe` does.
     pub fn observe(&self, value: Fixed) -> Result<(), MetricError>
-        ensures { IfErr result (λ e. (e ≡ CountFull) × (is_taken value ≡ true)) }
+        ensures observes { Locked ExemplarsFit (ObservesAlone value) result }
+        ensures refused { IfErr result (λ e. (e ≡ CountFull) × (is_taken value ≡ true)) }
     {
-        self.shared.seen.lock(&self.wait).snapshot.observe(value)
+        self.shared.seen.lock(&self.wait).observe(value)
     }
 
     /// Counts the exemplar's value, as `observe` does, and then keeps the exemplar in place of the last one of the bucket in which
     /// the value lies. Where `observe` changes nothing, this changes nothing.
     pub fn observe_with(&self, exemplar: LabeledExemplar<ExemplarLabels>) -> Result<(), MetricError>
-        ensures { IfErr result (λ e. (e ≡ CountFull) × (is_taken exemplar.value ≡ true)) }
+        ensures observes { Locked ExemplarsFit (ObservesWith exemplar) result }
+        ensures refused { IfErr result (λ e. (e ≡ CountFull) × (is_taken exemplar.value ≡ true)) }
     {
         self.shared.seen.lock(&self.wait).observe_with(exemplar)
     }
@@ -216,19 +255,20 @@ impl<H: Wait> TypedMetric for ExemplarHistogram<H> {
     const TYPE: MetricType = MetricType::Histogram;
 }
 
-/// What was counted so far, as a `Histogram` emits it, with valid exemplars.
+/// What was counted so far, as a `Histogram` emits it, with valid exemplars, each of which lies in its bucket.
 impl<H: Wait> EncodePoint for ExemplarHistogram<H> {
     ghost points = { λ h ps. (s : Counted)
         × (slots : List (List EmittedExemplar))
         × CountsTaken is_taken s
         × BucketsValid s.buckets slots
+        × SlotsFit s.buckets slots
         × (ps ≡ HistogramPoint s.buckets slots s.count s.sum
         (option_map millis (exemplar_histogram_created h)) ∷ []) };
 
     fn encode(&self, points: &mut PointEncoder) -> Result<(), EncodeError> {
         let seen = self.shared.seen.lock(&self.wait);
         let slots = seen.slots()?;
-        let snapshot = &seen.snapshot;
+        let snapshot = seen.snapshot();
         snapshot.counts_taken();
         points.encode_histogram(
             snapshot.buckets(),
@@ -247,6 +287,7 @@ impl<H: Wait + Send + Sync + Drop> EncodeMetric for ExemplarHistogram<H> {
         × (slots : List (List EmittedExemplar))
         × CountsTaken is_taken s
         × BucketsValid s.buckets slots
+        × SlotsFit s.buckets slots
         × (ms ≡ alone (HistogramPoint s.buckets slots s.count s.sum
         (option_map millis (exemplar_histogram_created h))) ∷ []) };
 

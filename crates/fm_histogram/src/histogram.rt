@@ -10,6 +10,7 @@ ghost use Rattle.fm_histogram.specs.Histogram.{Histogram as Counted, CountsTaken
 ghost use Rattle.fm_raw.specs.Bounds.{default_bounds};
 ghost use Rattle.fm_histogram.specs.Shown.{alone};
 ghost use Rattle.fm_histogram.specs.Shared.{histogram_created};
+ghost use Rattle.fm_histogram.specs.Observing.{ObservesLocked, seconds_of};
 
 use crate::sign::{Any, NotNegative, Sign};
 use crate::snapshot::{GaugeHistogramSnapshot, HistogramSnapshot, SnapshotOf};
@@ -57,6 +58,16 @@ pub type Histogram<H> = HistogramOf<NotNegative, H>;
 /// memory.
 pub type GaugeHistogram<H> = HistogramOf<Any, H>;
 
+// A duration in seconds. One that is too long is as long as a number can say.
+fn seconds_of(duration: Duration) -> Fixed
+    ensures { result ≡ seconds_of duration }
+{
+    match Fixed::from_duration(duration) {
+        Some(seconds) => seconds,
+        None => Fixed::from_millionths(i64::MAX),
+    }
+}
+
 impl<S: Sign, H: Wait + Drop> HistogramOf<S, H> {
     fn from_snapshot(
         wait: H,
@@ -92,9 +103,13 @@ impl<S: Sign, H: Wait> HistogramOf<S, H> {
     /// Counts a value in the first bucket whose bound is not below it. In a histogram a negative value changes nothing, which is no
     /// error. For a value that is taken it fails with `CountFull` if the count is the greatest `u64`, and then changes nothing.
     pub fn observe(&self, value: Fixed) -> Result<(), MetricError>
-        ensures { IfErr result (λ e. (e ≡ CountFull) × (takes S.NEGATIVE value ≡ true)) }
+        ensures observes { ObservesLocked (takes S.NEGATIVE) value result }
+        ensures refused { IfErr result (λ e. (e ≡ CountFull) × (takes S.NEGATIVE value ≡ true)) }
     {
-        self.locked.snapshot.lock(&self.wait).observe(value)
+        let mut guard = self.locked.snapshot.lock(&self.wait);
+        let snapshot: &mut SnapshotOf<S> = &mut guard;
+        snapshot.counts_taken();
+        snapshot.observe(value)
     }
 }
 
@@ -120,13 +135,10 @@ impl<H: Wait> Histogram<H> {
     /// Counts a duration in seconds, with its whole microseconds. One that is longer than 292,000 years counts as that. It fails with
     /// `CountFull` as `observe` does.
     pub fn observe_duration(&self, duration: Duration) -> Result<(), MetricError>
-        ensures { IfErr result (λ e. e ≡ CountFull) }
+        ensures observes { ObservesLocked is_taken (seconds_of duration) result }
+        ensures refused { IfErr result (λ e. e ≡ CountFull) }
     {
-        let seconds = match Fixed::from_duration(duration) {
-            Some(seconds) => seconds,
-            None => Fixed::from_millionths(i64::MAX),
-        };
-        self.observe(seconds)
+        self.observe(seconds_of(duration))
     }
 
     /// Calls `f` with what was counted so far, under the lock, and returns its result. The snapshot has fewer than 2^64 values,

@@ -6,8 +6,7 @@ ghost use Rattle.fm_raw.specs.declared.error.MetricError.TheVariants.{Memory, Co
 ghost use Rattle.fm_raw.specs.Bounds.{default_bounds};
 ghost use Rattle.fm_encoder.specs.Points.{millis, values_in};
 ghost use Rattle.fm_encoder.specs.Emits.{EmitsPoints};
-ghost use Rattle.fm_histogram.specs.inside.Counting.{index};
-ghost use Rattle.fm_histogram.specs.Histogram.{IsHistogram, CountsTaken, IsBoundsOf, takes, upper_bounds, merged};
+ghost use Rattle.fm_histogram.specs.Histogram.{IsHistogram, CountsTaken, IsBoundsOf, takes, upper_bounds, merged, index};
 ghost use Rattle.fm_labels.specs.Refusals.{NoFault};
 
 use crate::counts::Counts;

@@ -1,5 +1,7 @@
 //! Timers, which measure a duration for a histogram.
-ghost use Rattle.std.specs.Prelude.{IfErr};
+ghost use Rattle.std.specs.Prelude.{IfOk, IfErr, Ok};
+ghost use Rattle.fm_histogram.specs.Histogram.{is_taken};
+ghost use Rattle.fm_histogram.specs.Observing.{ObservesLocked, seconds_of};
 ghost use Rattle.fm_histogram.specs.Timers.{IsTimerFault};
 
 use crate::histogram::Histogram;
@@ -66,6 +68,8 @@ impl<H: Wait> Histogram<H> {
     ) -> (R, Result<Duration, TimerError>)
         requires { F.IsAlwaysCallable f }
         ensures returned { F.post f result.0 }
+        ensures observes { IfOk result.1
+            (λ elapsed. ObservesLocked is_taken (seconds_of elapsed) (Ok tt)) }
         ensures fault { IfErr result.1 IsTimerFault }
     {
         let timer = self.start_timer(clock);
@@ -81,7 +85,9 @@ impl<H: Wait, C: Clock> Timer<'_, H, C> {
     /// Counts the time since the start, as `Histogram::observe_duration` does, and returns it: no time, where the clock went back. It
     /// fails with `Clock` as reading the clock does, and with `CountFull`, and then counts nothing.
     pub fn stop(self) -> Result<Duration, TimerError>
-        ensures { IfErr result IsTimerFault }
+        ensures observes { IfOk result
+            (λ elapsed. ObservesLocked is_taken (seconds_of elapsed) (Ok tt)) }
+        ensures fault { IfErr result IsTimerFault }
     {
         let Timer {
             histogram,
@@ -107,7 +113,9 @@ fn count_since<H: Wait, C: Clock>(
     clock: &C,
     started: Instant,
 ) -> Result<Duration, TimerError>
-    ensures { IfErr result IsTimerFault }
+    ensures observes { IfOk result
+        (λ elapsed. ObservesLocked is_taken (seconds_of elapsed) (Ok tt)) }
+    ensures fault { IfErr result IsTimerFault }
 {
     let elapsed = match started.elapsed(clock) {
         Ok(elapsed) => elapsed,

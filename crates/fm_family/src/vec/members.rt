@@ -8,8 +8,7 @@ ghost use Rattle.fm_raw.specs.declared.error.MetricError.TheVariants.{Memory, To
 ghost use Rattle.fm_encoder.specs.Emits.{EmitsMembers};
 ghost use Rattle.fm_labels.specs.LabelValues.{shown_texts, values_eq};
 ghost use Rattle.fm_family.specs.Members.{OffersFirst, MayFault, CalledAtMember};
-ghost use Rattle.fm_family.specs.VecMembers.{named_labels, AddsNew};
-ghost use Rattle.fm_family.specs.inside.VecCode.{FindsOrAdds};
+ghost use Rattle.fm_family.specs.VecMembers.{named_labels, AddsNew, FindsOrAdds, AreVecMembers};
 ghost use Rattle.fm_family.specs.inside.Indexed.{HoldsMetric};
 
 use crate::factory::MetricFactory;
@@ -79,6 +78,13 @@ impl<M> VecMembers<M> {
         ensures values { AllByRecursion (λ entry. length entry.0 ≡ self.now.count) self.now.entries }
     {
         self.members.len()
+    }
+
+    // No two members have the same values, and all are counted. It does nothing.
+    pub(crate) fn are_different(&self)
+        ensures { AreVecMembers self.now }
+    {
+        let _ = self.members.len();
     }
 
     /// Whether there is no member.

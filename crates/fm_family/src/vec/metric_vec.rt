@@ -1,12 +1,16 @@
 //! Families by label names that threads share.
-ghost use Rattle.std.specs.Prelude.{◌≡◌, ◌⊎◌, IfOk, IfErr, Err, None, ⊤};
+ghost use Rattle.std.specs.Prelude.{◌≡◌, ◌⊎◌, [], length, IfOk, IfErr, Err, None, ⊤};
 ghost use Rattle.std.specs.Arc.{arc_value};
 ghost use Rattle.std.specs.Fn.{FnOnceReturnsAt};
 ghost use Rattle.fm_raw.specs.declared.error.MetricError.TheVariants.{Memory, TooManyMembers, WrongValueCount};
 ghost use Rattle.fm_registry_model.specs.Answer.{refusal_of};
 ghost use Rattle.fm_registry_model.specs.LabelNames.{shown_texts, IsOrMemory};
 ghost use Rattle.fm_labels.specs.ReservedNames.{family_names_refusal};
-ghost use Rattle.fm_family.specs.VecMembers.{OffersNamed, HasOtherCount};
+ghost use Rattle.std.specs.List.Retain.{IsFiltered};
+ghost use Rattle.fm_labels.specs.LabelValues.{values_eq};
+ghost use Rattle.fm_family.specs.MemberCalls.{Locked, Removes};
+ghost use Rattle.fm_family.specs.Members.{CalledAtMember};
+ghost use Rattle.fm_family.specs.VecMembers.{VecState, AreVecMembers, FindsOrAdds, OffersNamed, HasOtherCount};
 ghost use Rattle.fm_family.specs.VecNames.{vec_names, vec_factory};
 
 use crate::factory::MetricFactory;
@@ -99,8 +103,13 @@ impl<M: Drop, MF: Drop, H: Wait + Drop> MetricVec<M, MF, H> {
 
     /// How many members there are. It waits while another thread makes or removes a member, and takes no memory. Other
     /// threads may have changed the number before the caller reads it.
-    pub fn len(&self) -> usize {
+    pub fn len(&self) -> usize
+        ensures { (members : VecState M)
+            × AreVecMembers members
+            × (result ≡ length members.entries) }
+    {
         let core = self.shared.core.read(&self.wait);
+        core.are_different();
         core.len()
     }
 
@@ -123,20 +132,28 @@ impl<M: Drop, MF: Drop, H: Wait + Drop> MetricVec<M, MF, H> {
     /// the exposition. If the values are used again, their metric is new, and the last member. The call waits for all other calls of
     /// this family, and takes no memory.
     pub fn remove(&self, values: &[&str]) -> Result<bool, MetricError>
+        ensures removes { IfOk result (Locked AreVecMembers
+            (λ old new. Removes (values_eq (shown_texts values.now)) old.entries new.entries)) }
         ensures wrong { HasOtherCount (vec_names self.now) values.now
             → result ≡ Err WrongValueCount }
         ensures right { IfErr result (λ _. HasOtherCount (vec_names self.now) values.now) }
     {
         self.test_count(values)?;
-        let mut core = self.shared.core.write(&self.wait);
+        let mut guard = self.shared.core.write(&self.wait);
+        let core: &mut VecMembers<M> = &mut guard;
+        core.are_different();
         Ok(core.remove(values))
     }
 
     /// Removes each member, as `remove` does.
     ///
     /// The call waits for all other calls of this family, and takes no memory.
-    pub fn clear(&self) {
-        let mut core = self.shared.core.write(&self.wait);
+    pub fn clear(&self)
+        ensures { Locked AreVecMembers (λ old new _. new ≡ record old { entries = [] }) result }
+    {
+        let mut guard = self.shared.core.write(&self.wait);
+        let core: &mut VecMembers<M> = &mut guard;
+        core.are_different();
         core.clear();
     }
 
@@ -146,8 +163,12 @@ impl<M: Drop, MF: Drop, H: Wait + Drop> MetricVec<M, MF, H> {
     /// ever. The call waits for all other calls of this family, which wait until it returns. It takes no memory.
     pub fn retain<F: FnMut(&LabelValues, &M) -> bool>(&self, keep: F)
         requires { F.IsAlwaysCallable keep }
+        ensures { Locked AreVecMembers (λ old new _.
+            IsFiltered (CalledAtMember F.FnMut) keep old.entries new.entries) result }
     {
-        let mut core = self.shared.core.write(&self.wait);
+        let mut guard = self.shared.core.write(&self.wait);
+        let core: &mut VecMembers<M> = &mut guard;
+        core.are_different();
         core.retain(keep);
     }
 }
@@ -162,6 +183,10 @@ impl<M: Drop, MF: MetricFactory<M> + Drop, H: Wait + Drop> MetricVec<M, MF, H> {
     pub fn with<R, F: FnOnce(&M) -> R>(&self, values: &[&str], f: F) -> Result<R, MetricError>
         requires ready { MF.is_ready (vec_factory self.now) }
         requires callable { F.IsAlwaysCallable f }
+        ensures finds { length values.now ≡ length (vec_names self.now)
+            → Locked AreVecMembers (λ old new r. FindsOrAdds (MF.promises (vec_factory self.now))
+            old.limit (shown_texts values.now) old.entries new.entries
+            (λ r metric. FnOnceReturnsAt F.FnOnce f metric r) r) result }
         ensures called { IfOk result (λ r. (metric : M) × FnOnceReturnsAt F.FnOnce f metric r) }
         ensures wrong { HasOtherCount (vec_names self.now) values.now
             → result ≡ Err WrongValueCount }
@@ -172,12 +197,14 @@ impl<M: Drop, MF: MetricFactory<M> + Drop, H: Wait + Drop> MetricVec<M, MF, H> {
         self.test_count(values)?;
         let shared = &*self.shared;
         let core = shared.core.read(&self.wait);
+        core.are_different();
         if let Some(metric) = core.get(values) {
             return Ok(f(metric));
         }
         drop(core);
         let mut core = shared.core.write(&self.wait);
         core.expect(values.len());
+        core.are_different();
         let index = core.index_or_new(self.alloc, values, &shared.factory)?;
         Ok(f(core.at(index)))
     }

@@ -1,6 +1,5 @@
 -- One value more in a list of counts.
 use Rattle.std.specs.Prelude.{ℕ, ◌+◌, ℤ, pos, neg_ℤ, ◌≤ℤ◌, ◌*◌, ◌^◌, List, [], ◌∷◌, int_lt, suc, if◌then◌else◌}
-use Rattle.fm_raw.specs.BoundTests.{lies_below}
 use Rattle.fm_raw.specs.declared.bucket.bound.Bucket.{Bucket}
 use Rattle.fm_histogram.specs.Histogram.{Histogram, IsCounts}
 
@@ -10,11 +9,6 @@ pub record IsOfSome (bounds : List ℤ) (s : Histogram) : Type 0 where
   pub is : IsCounts bounds values s
   pub low : neg_ℤ (pos (2 ^ 63 * s.count)) ≤ℤ s.sum
   pub high : s.sum ≤ℤ pos (2 ^ 63 * s.count)
-
--- the index of the bucket that takes x
-abbrev pub index : ℤ → List Bucket → ℕ
-index x [] = 0
-index x (b ∷ bs) = if lies_below b.upper_bound x then suc (index x bs) else 0
 
 -- a bucket with one value more
 abbrev pub one_more : Bucket → Bucket

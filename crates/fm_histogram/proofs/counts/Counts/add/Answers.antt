@@ -5,8 +5,8 @@ use Rattle.std.specs.Int.{w64, w128}
 use Rattle.std.specs.Int.RustNames.{FitsSigned}
 use Rattle.std.specs.Vec.{with_items}
 use Rattle.fm_raw.specs.declared.bucket.bound.Bucket.{Bucket}
-use Rattle.fm_histogram.specs.Histogram.{Histogram, IsCounts, index_among}
-use Rattle.fm_histogram.specs.inside.Counting.{IsOfSome, index, one_more}
+use Rattle.fm_histogram.specs.Histogram.{Histogram, IsCounts, index_among, index}
+use Rattle.fm_histogram.specs.inside.Counting.{IsOfSome, one_more}
 use Rattle.fm_histogram.proofs.BucketLemmas.{index_within, count_of_buckets}
 use Rattle.fm_histogram.proofs.EmptyLemmas.{endless}
 use Rattle.fm_histogram.proofs.CountLemmas.{sum_fits, observes, count_within, index_here}

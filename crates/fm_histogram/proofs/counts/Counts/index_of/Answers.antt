@@ -1,6 +1,5 @@
 use Rattle.std.proofs.Common.{None, ◌∙◌, ap, sym}
-use Rattle.fm_histogram.specs.Histogram.{Histogram}
-use Rattle.fm_histogram.specs.inside.Counting.{index}
+use Rattle.fm_histogram.specs.Histogram.{Histogram, index}
 use Rattle.fm_histogram.proofs.BucketLemmas.{index_is_first, index_within}
 use Rattle.fm_histogram.proofs.CountLemmas.{index_here}
 use Rattle.fm_histogram.proofs.counts.Counts.index_of.Goals as goal
