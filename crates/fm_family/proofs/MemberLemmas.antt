@@ -10,6 +10,9 @@ use Rattle.fm_raw.specs.declared.error.MetricError.TheVariants.{Memory}
 use Rattle.std.proofs.Common.{Result, Ok, Err, MatchOption}
 use Rattle.fm_raw.specs.declared.error.MetricError.{MetricError}
 use Rattle.fm_family.specs.Members.{OffersFirst, OffersDifferent, GetsOrAdds, MayFault}
+use denote.Ref.{Bor}
+use Rattle.std.specs.Fn.{Once, FnOnceReturnsAt}
+use Rattle.fm_family.specs.MemberCalls.{CallsMember}
 use Rattle.fm_family.specs.inside.Indexed.{HoldsMetric}
 use Rattle.std.proofs.Math.Seq.{take-append_seam}
 use Rattle.fm_raw.specs.declared.encode_error.EncodeError.{EncodeError}
@@ -118,3 +121,22 @@ refused_absent {L} {M} is_clone eq promises labels old new tells e h = by (looku
     by : (o : Option M) → MatchOption o ((new ≡ old) × ((e ≡ Memory) ⊎ promises (Err e))) (λ m. (new ≡ old) × ⊥) → IsSome o → ⊥
     by None h some = true≢false (sym some)
     by (Some m) h some = h.1
+
+-- a look-up whose result tells something else of the metric
+module _ {L M A B : Type 0} (is_clone : L → L → Type 0) (eq : L → L → Bool) (promises : Result M MetricError → Type 0) (labels : L) (old new : List (L × M)) (tells : A → M → Type 0) (tells' : B → M → Type 0) where
+  gets_by : (found : Option M) (a : A) (b : B) → ((m : M) → tells a m → tells' b m)
+      → MatchOption found ((k : L) × (m : M) × is_clone labels k × (eq labels k ≡ true) × promises (Ok m) × (new ≡ old ++ (k, m) ∷ []) × tells a m) (λ m. (new ≡ old) × tells a m)
+      → MatchOption found ((k : L) × (m : M) × is_clone labels k × (eq labels k ≡ true) × promises (Ok m) × (new ≡ old ++ (k, m) ∷ []) × tells' b m) (λ m. (new ≡ old) × tells' b m)
+  gets_by None a b so h = (h.0, h.1, h.2, h.3, h.4, h.5, so h.1 h.6)
+  gets_by (Some m) a b so h = (h.0, so m h.1)
+
+  pub GetsOrAdds-tells : (a : A) (b : B) → ((m : M) → tells a m → tells' b m) → GetsOrAdds is_clone eq promises labels old new tells (Ok a) → GetsOrAdds is_clone eq promises labels old new tells' (Ok b)
+  GetsOrAdds-tells a b so h = gets_by (lookup (eq labels) old) a b so h
+
+-- a metric that is there
+pub GetsOrAdds-found : {L M A : Type 0} (is_clone : L → L → Type 0) (eq : L → L → Bool) (promises : Result M MetricError → Type 0) (labels : L) (old : List (L × M)) (tells : A → M → Type 0) (a : A) (m : M) → Some m ≡ lookup (eq labels) old → tells a m → GetsOrAdds is_clone eq promises labels old old tells (Ok a)
+GetsOrAdds-found is_clone eq promises labels old tells a m is told = rw (← is) (refl, told)
+
+-- a closure that is called at a metric that is there
+pub CallsMember-found : {F L M R : Type 0} (g : Once F (Bor M × Unit {0}) R) (f : F) (test : L → Bool) (members : List (L × M)) (r : R) (m : M) → Some m ≡ lookup test members → FnOnceReturnsAt g f m r → CallsMember g f test members (Some r)
+CallsMember-found g f test members r m is called = rw (← is) called

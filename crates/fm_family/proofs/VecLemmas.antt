@@ -1,18 +1,19 @@
 -- The counts of the members of a family by label names.
-use Rattle.std.proofs.Common.{◌≡◌, ℕ, zero, suc, ◌<◌, ◌≤◌, ◌+◌, Bool, true, false, if◌then◌else◌, List, [], ◌∷◌, ◌++◌, length, take, set, get_or, swap, refl, sym, ap, ◌∙◌, arith, length-append, Any, Option, Result, Ok, Err, OnOk, OnErr, ◌⊎◌, inl, inr}
+use Rattle.std.proofs.Common.{◌≡◌, ℕ, zero, suc, ◌<◌, ◌≤◌, ◌+◌, Bool, true, false, if◌then◌else◌, List, [], ◌∷◌, ◌++◌, length, take, set, get_or, swap, refl, sym, ap, ◌∙◌, arith, length-append, Any, Option, None, Some, MatchOption, Result, Ok, Err, OnOk, OnErr, ◌⊎◌, inl, inr}
 use Rattle.std.proofs.lemmas.List.{length-take}
 use Rattle.std.proofs.lemmas.List.Edits.{length-swap}
 use Rattle.std.specs.Cmp.{IsEquivalence, on_equiv}
 use Rattle.std.specs.Cmp.Lexicographic.{nat_list_eq_equiv}
 use Rattle.std.specs.List.{AllByRecursion, IsDistinct}
-use Rattle.std.specs.Map.{keys_of}
+use Rattle.std.specs.Map.{keys_of, lookup}
+use Rattle.fm_raw.specs.declared.error.MetricError.{MetricError}
 use Rattle.indexmap.specs.IndexMap.{shift_remove_entry}
 use Rattle.indexmap.proofs.MapLemmas.{distinct-take}
 use Rattle.fm_grammar.specs.Exposition.{Text}
 use Rattle.fm_labels.specs.LabelValues.{joined, values_eq}
 use Rattle.fm_encoder.specs.Points.{Point, Member}
 use Rattle.fm_family.specs.Members.{OffersFirst, MayFault}
-use Rattle.fm_family.specs.VecMembers.{OffersNamed, named_labels, NeverFaults}
+use Rattle.fm_family.specs.VecMembers.{OffersNamed, named_labels, NeverFaults, FindsOrAdds}
 use Rattle.fm_family.specs.inside.VecCode.{AreCounted}
 use Rattle.fm_family.proofs.MemberLemmas.{keys_of-take}
 
@@ -103,3 +104,18 @@ nothing_named names Points = ([], tt, tt, refl)
 -- a fault of a pair whose values have none is that of its metric
 pub metric_fault : {M : Type 0} (F : M → Type 0) (pairs : List (List Text × M)) → Any (MayFault NeverFaults F) pairs → (metric : M) × F metric
 metric_fault F pairs fault = (fault.1.1, elim fault.4 [ inl none ↦ absurd none | inr own ↦ own ])
+
+-- a look-up whose result tells something else of the metric
+module _ {M A B : Type 0} (promises : Result M MetricError → Type 0) (limit : ℕ) (values : List Text) (old new : List (List Text × M)) (tells : A → M → Type 0) (tells' : B → M → Type 0) where
+  finds_by : (found : Option M) (a : A) (b : B) → ((m : M) → tells a m → tells' b m)
+      → MatchOption found ((m : M) × promises (Ok m) × (length old < limit) × (new ≡ old ++ (values, m) ∷ []) × tells a m) (λ m. (new ≡ old) × tells a m)
+      → MatchOption found ((m : M) × promises (Ok m) × (length old < limit) × (new ≡ old ++ (values, m) ∷ []) × tells' b m) (λ m. (new ≡ old) × tells' b m)
+  finds_by None a b so h = (h.0, h.1, h.2, h.3, so h.0 h.4)
+  finds_by (Some m) a b so h = (h.0, so m h.1)
+
+  pub FindsOrAdds-tells : (a : A) (b : B) → ((m : M) → tells a m → tells' b m) → FindsOrAdds promises limit values old new tells (Ok a) → FindsOrAdds promises limit values old new tells' (Ok b)
+  FindsOrAdds-tells a b so h = finds_by (lookup (values_eq values) old) a b so h
+
+-- a metric that is there
+pub FindsOrAdds-found : {M A : Type 0} (promises : Result M MetricError → Type 0) (limit : ℕ) (values : List Text) (old : List (List Text × M)) (tells : A → M → Type 0) (a : A) (m : M) → Some m ≡ lookup (values_eq values) old → tells a m → FindsOrAdds promises limit values old old tells (Ok a)
+FindsOrAdds-found promises limit values old tells a m is told = rw (← is) (refl, told)

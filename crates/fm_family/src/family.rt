@@ -99,7 +99,8 @@ impl<
             × CallsMember F.FnOnce f (LS.eq labels.now) members result }
         ensures called { IfSome result (λ r. (metric : M) × FnOnceReturnsAt F.FnOnce f metric r) }
     {
-        let core = self.shared.core.read(&self.wait);
+        let guard = self.shared.core.read(&self.wait);
+        let core: &FamilyCore<LS, M, S> = &guard;
         core.are_different();
         match core.get(labels) {
             Some(metric) => Some(f(metric)),
@@ -124,7 +125,7 @@ impl<
     /// counts on, and is no longer in the exposition. If the labels are used again, their metric is new, and the last
     /// member. The call waits for all other calls of this family, and takes no memory.
     pub fn remove(&self, labels: &LS) -> bool
-        ensures { Locked (AreDifferent LS.eq) (Removes (LS.eq labels.now)) result }
+        ensures { Locked (AreDifferent {M = M} LS.eq) (Removes (LS.eq labels.now)) result }
     {
         let mut guard = self.shared.core.write(&self.wait);
         let core: &mut FamilyCore<LS, M, S> = &mut guard;
@@ -136,7 +137,7 @@ impl<
     ///
     /// The call waits for all other calls of this family, and takes no memory.
     pub fn clear(&self)
-        ensures { Locked (AreDifferent LS.eq) (λ old new _. new ≡ []) result }
+        ensures { Locked (AreDifferent {M = M} LS.eq) (λ old new _. new ≡ []) result }
     {
         let mut guard = self.shared.core.write(&self.wait);
         let core: &mut FamilyCore<LS, M, S> = &mut guard;
@@ -186,13 +187,15 @@ impl<
             (λ e. (e ≡ Memory) ⊎ MF.promises (arc_value self.now.shared).factory (Err e)) }
     {
         let shared = &*self.shared;
-        let core = shared.core.read(&self.wait);
+        let guard = shared.core.read(&self.wait);
+        let core: &FamilyCore<LS, M, S> = &guard;
         core.are_different();
         if let Some(metric) = core.get(labels) {
             return Ok(f(metric));
         }
-        drop(core);
-        let mut core = shared.core.write(&self.wait);
+        drop(guard);
+        let mut guard = shared.core.write(&self.wait);
+        let core: &mut FamilyCore<LS, M, S> = &mut guard;
         core.are_different();
         let index = core.index_or_new(labels, &shared.factory)?;
         Ok(f(core.at(index)))

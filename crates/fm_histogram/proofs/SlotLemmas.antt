@@ -101,10 +101,12 @@ fit_with e old new r h counts done = fit_by e old new r h counts done.observes (
 -- one slot more
 pub slots_more : (buckets : List Bucket) (slots : List (Option (Bor Kept))) (slot : Option (Bor Kept)) (i : ℕ) → length slots ≡ i → SlotsFit buckets (map emitted slots) → ((e : EmittedExemplar) → emitted slot ≡ e ∷ [] → LiesAt buckets i e.value)
     → SlotsFit buckets (map emitted (slots ++ slot ∷ []))
-slots_more buckets slots slot i long slots_fit here = record { fit = λ j e at.
-    let P : ℕ → List EmittedExemplar → Type 0 = λ k es. (y : EmittedExemplar) → es ≡ y ∷ [] → LiesAt buckets k y.value in
-    let last : P (length (map emitted slots)) (emitted slot) = subst (λ k. P k (emitted slot)) (sym (length-map slots emitted ∙ long)) here in
-    push_at P (map emitted slots) (emitted slot) last (λ k es there y same. slots_fit.fit k y (there ∙ ap (λ s. Some s) same)) j (e ∷ []) (subst (λ es. slice_get es j ≡ Some (e ∷ [])) (map_push emitted slots slot) at) e refl }
+slots_more buckets slots slot i long slots_fit here = record {
+  fit = λ j e at.
+      let P : ℕ → List EmittedExemplar → Type 0 = λ k es. (y : EmittedExemplar) → es ≡ y ∷ [] → LiesAt buckets k y.value in
+      let last : P (length (map emitted slots)) (emitted slot) = subst (λ k. P k (emitted slot)) (sym (length-map slots emitted ∙ long)) here in
+      push_at P (map emitted slots) (emitted slot) last (λ k es there y same. slots_fit.fit k y (there ∙ ap (λ s. Some s) same)) j (e ∷ []) (subst (λ es. slice_get es j ≡ Some (e ∷ [])) (map_push emitted slots slot) at) e refl;
+}
 
 pub valid_more : (slots : List (Option (Bor Kept))) (slot : Option (Bor Kept)) → AllByRecursion ExemplarValid (map emitted slots) → ExemplarValid (emitted slot) → AllByRecursion ExemplarValid (map emitted (slots ++ slot ∷ []))
 valid_more [] slot all valid = (valid, tt)

@@ -132,7 +132,7 @@ impl<M: Drop, MF: Drop, H: Wait + Drop> MetricVec<M, MF, H> {
     /// the exposition. If the values are used again, their metric is new, and the last member. The call waits for all other calls of
     /// this family, and takes no memory.
     pub fn remove(&self, values: &[&str]) -> Result<bool, MetricError>
-        ensures removes { IfOk result (Locked AreVecMembers
+        ensures removes { IfOk result (Locked (AreVecMembers {M = M})
             (λ old new. Removes (values_eq (shown_texts values.now)) old.entries new.entries)) }
         ensures wrong { HasOtherCount (vec_names self.now) values.now
             → result ≡ Err WrongValueCount }
@@ -149,7 +149,7 @@ impl<M: Drop, MF: Drop, H: Wait + Drop> MetricVec<M, MF, H> {
     ///
     /// The call waits for all other calls of this family, and takes no memory.
     pub fn clear(&self)
-        ensures { Locked AreVecMembers (λ old new _. new ≡ record old { entries = [] }) result }
+        ensures { Locked (AreVecMembers {M = M}) (λ old new _. new ≡ record old { entries = [] }) result }
     {
         let mut guard = self.shared.core.write(&self.wait);
         let core: &mut VecMembers<M> = &mut guard;
@@ -196,13 +196,15 @@ impl<M: Drop, MF: MetricFactory<M> + Drop, H: Wait + Drop> MetricVec<M, MF, H> {
     {
         self.test_count(values)?;
         let shared = &*self.shared;
-        let core = shared.core.read(&self.wait);
+        let guard = shared.core.read(&self.wait);
+        let core: &VecMembers<M> = &guard;
         core.are_different();
         if let Some(metric) = core.get(values) {
             return Ok(f(metric));
         }
-        drop(core);
-        let mut core = shared.core.write(&self.wait);
+        drop(guard);
+        let mut guard = shared.core.write(&self.wait);
+        let core: &mut VecMembers<M> = &mut guard;
         core.expect(values.len());
         core.are_different();
         let index = core.index_or_new(self.alloc, values, &shared.factory)?;

@@ -6,7 +6,7 @@ pub invariant_of-self : goal.invariant_of-self
 invariant_of-self c =
     let counts = c.observe-counted.ensures in let inside = c.self.inside in
     fit_alone c.args.value (record { counted = inside.snapshot; last = inside.last.items }) _ c.observe-counted.result c.self.invariant c.counts_taken.ensures
-        (record { observes = record { counted = counts.counted; full = counts.full; only_full = counts.only_full; kept = counts.kept }; same = refl })
+    (record { observes = record { counted = counts.counted; full = counts.full; only_full = counts.only_full; kept = counts.kept }; same = refl })
 
 pub returns-clause-observes : goal.returns-clause-observes
 returns-clause-observes c =
