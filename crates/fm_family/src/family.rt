@@ -194,11 +194,8 @@ impl<
             return Ok(f(metric));
         }
         drop(guard);
-        let mut guard = shared.core.write(&self.wait);
-        let core: &mut FamilyCore<LS, M, S> = &mut guard;
-        core.are_different();
-        let index = core.index_or_new(labels, &shared.factory)?;
-        Ok(f(core.at(index)))
+        let mut core = shared.core.write(&self.wait);
+        core.with_or_new(labels, &shared.factory, f)
     }
 }
 

@@ -1,6 +1,8 @@
 //! The members of a family: metrics by label set, in the order in which they were made.
-ghost use Rattle.std.specs.Prelude.{◌≡◌, ◌<◌, ◌↔◌, ◌++◌, IfOk, IfSome, OnOk, OnErr, IsTrue, Some, None, Ok, Any, List, option_copied, [], ◌∷◌, length, slice_get, is_some, IsSome, IsOk, swap, take};
+ghost use Rattle.std.specs.Prelude.{◌≡◌, ◌<◌, ◌↔◌, ◌++◌, ◌⊎◌, Err, IfErr, IfOk, IfSome, OnOk, OnErr, IsTrue, Some, None, Ok, Any, List, option_copied, [], ◌∷◌, length, slice_get, is_some, IsSome, IsOk, swap, take};
 ghost use Rattle.std.specs.Borrow.{sem};
+ghost use Rattle.std.specs.Fn.{FnOnceReturnsAt};
+ghost use Rattle.fm_raw.specs.declared.error.MetricError.TheVariants.{Memory};
 ghost use Rattle.std.specs.List.Retain.{IsFiltered};
 ghost use Rattle.indexmap.specs.IndexMap.{get, values, IsUnique, shift_remove_entry};
 ghost use Rattle.fm_encoder.specs.Points.{Member, MembersValid, members_samples};
@@ -180,6 +182,28 @@ impl<LS: EncodeLabelSet + Clone + Eq + Hash + Drop, M: Drop, S: BuildHasher> Fam
         let key = labels.clone()?;
         self.add(key, metric)?;
         Ok(index)
+    }
+
+    // Calls `f` with the metric of these labels, which the factory makes if there is none.
+    pub(crate) fn with_or_new<MF: MetricFactory<M>, R, F: FnOnce(&M) -> R>(
+        &mut self,
+        labels: &LS,
+        factory: &MF,
+        f: F,
+    ) -> Result<R, MetricError>
+        requires ready { get LS.eq self.old labels.now ≡ None → MF.is_ready factory.now }
+        requires callable { F.IsAlwaysCallable f }
+        requires clones { ClonesEqual LS.is_clone LS.eq }
+        ensures gets { GetsOrAdds LS.is_clone LS.eq (MF.promises factory.now)
+            labels.now self.old.entries
+            self.new.entries (λ r metric. FnOnceReturnsAt F.FnOnce f metric r) result }
+        ensures called { IfOk result (λ r. (metric : M) × FnOnceReturnsAt F.FnOnce f metric r) }
+        ensures refused { IfErr result (λ e. (e ≡ Memory) ⊎ MF.promises factory.now (Err e)) }
+        ensures different { IsUnique LS.eq self.old }
+    {
+        self.are_different();
+        let index = self.index_or_new(labels, factory)?;
+        Ok(f(self.at(index)))
     }
 
     /// The metric of these labels. If there is none, the factory makes one, which is added as the last, under a clone of the

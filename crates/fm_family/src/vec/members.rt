@@ -1,5 +1,6 @@
 //! The members of a family whose label names are declared.
-ghost use Rattle.std.specs.Prelude.{◌≡◌, ◌<◌, ◌≤◌, ◌↔◌, ◌++◌, IfOk, IfErr, IfSome, OnOk, OnErr, IsTrue, Some, None, Err, Any, [], ◌∷◌, length, MatchOption, option_copied, slice_get, is_some, swap, take};
+ghost use Rattle.std.specs.Prelude.{◌≡◌, ◌<◌, ◌≤◌, ◌↔◌, ◌++◌, ◌⊎◌, IfOk, IfErr, IfSome, OnOk, OnErr, IsTrue, Some, None, Err, Any, [], ◌∷◌, length, MatchOption, option_copied, slice_get, is_some, swap, take};
+ghost use Rattle.std.specs.Fn.{FnOnceReturnsAt};
 ghost use Rattle.std.specs.List.Retain.{IsFiltered};
 ghost use Rattle.std.specs.List.{IsDistinct, AllByRecursion};
 ghost use Rattle.std.specs.Map.{lookup, keys_of, values_of};
@@ -179,6 +180,29 @@ impl<M: Drop> VecMembers<M> {
         let key = LabelValues::new(alloc, values)?;
         self.add(key, metric)?;
         Ok(index)
+    }
+
+    // Calls `f` with the metric of these values, which the factory makes if there is none.
+    pub(crate) fn with_or_new<MF: MetricFactory<M>, R, F: FnOnce(&M) -> R>(
+        &mut self,
+        alloc: Global,
+        values: &[&str],
+        factory: &MF,
+        f: F,
+    ) -> Result<R, MetricError>
+        requires ready { MF.is_ready factory.now }
+        requires callable { F.IsAlwaysCallable f }
+        requires count { length values.now ≡ self.old.count }
+        ensures finds { FindsOrAdds (MF.promises factory.now) self.old.limit (shown_texts values.now)
+            self.old.entries self.new.entries (λ r metric. FnOnceReturnsAt F.FnOnce f metric r) result }
+        ensures called { IfOk result (λ r. (metric : M) × FnOnceReturnsAt F.FnOnce f metric r) }
+        ensures refused { IfErr result (λ e. (e ≡ Memory) ⊎ ((e ≡ TooManyMembers)
+            ⊎ MF.promises factory.now (Err e))) }
+        ensures different { AreVecMembers self.old }
+    {
+        self.are_different();
+        let index = self.index_or_new(alloc, values, factory)?;
+        Ok(f(self.at(index)))
     }
 
     /// Adds a metric under these values as the last member, and returns whether it did: a member of these values that is there

@@ -203,12 +203,9 @@ impl<M: Drop, MF: MetricFactory<M> + Drop, H: Wait + Drop> MetricVec<M, MF, H> {
             return Ok(f(metric));
         }
         drop(guard);
-        let mut guard = shared.core.write(&self.wait);
-        let core: &mut VecMembers<M> = &mut guard;
+        let mut core = shared.core.write(&self.wait);
         core.expect(values.len());
-        core.are_different();
-        let index = core.index_or_new(self.alloc, values, &shared.factory)?;
-        Ok(f(core.at(index)))
+        core.with_or_new(self.alloc, values, &shared.factory, f)
     }
 }
 
