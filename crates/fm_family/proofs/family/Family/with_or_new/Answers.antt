@@ -17,3 +17,11 @@ returns-in-Some-clause-gets g c =
 
 pub returns-in-Some-clause-called : goal.returns-in-Some-clause-called
 returns-in-Some-clause-called g c = (c.in-Some.metric.now, (c.in-Some.metric, c.f.ensures, refl))
+
+pub returns-clause-gets : goal.returns-clause-gets
+returns-clause-gets g c = rw (← c.deref-shared.ensures) (record {
+  old = c.deref_mut.result.now.entries;
+  new = c.with_or_new.new.self.entries;
+  sound = c.with_or_new.ensures.different;
+  is_done = c.with_or_new.ensures.gets;
+})

@@ -18,3 +18,11 @@ returns-in-Some-clause-finds g c _ =
       sound = c.are_different.ensures;
       is_done = FindsOrAdds-found (g.MF.MetricFactory.promises (vec_factory c.args.self.now)) members.limit (shown_texts c.args.values.now) members.entries (λ r m. FnOnceReturnsAt g.F.FnOnce c.args.f m r) c.f.result metric.now c.in-Some.ensures called;
     }
+
+pub returns-clause-finds : goal.returns-clause-finds
+returns-clause-finds g c _ = rw (← c.deref-shared.ensures) (record {
+  old = c.deref_mut-2.result.now;
+  new = c.with_or_new.new.self;
+  sound = c.with_or_new.ensures.different;
+  is_done = c.with_or_new.ensures.finds;
+})
