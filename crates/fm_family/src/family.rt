@@ -1,5 +1,5 @@
 //! Families that threads share.
-ghost use Rattle.std.specs.Prelude.{◌≡◌, ◌⊎◌, List, [], length, Err, IfOk, IfErr, IfSome, ⊤};
+ghost use Rattle.std.specs.Prelude.{◌≡◌, ◌⊎◌, List, length, Err, IfOk, IfErr, IfSome, ⊤};
 ghost use Rattle.std.specs.Arc.{arc_value};
 ghost use Rattle.std.specs.Fn.{FnOnceReturnsAt};
 ghost use Rattle.fm_raw.specs.declared.error.MetricError.TheVariants.{Memory};
@@ -136,12 +136,8 @@ impl<
     /// Removes each member, as `remove` does. The factory and the hasher stay.
     ///
     /// The call waits for all other calls of this family, and takes no memory.
-    pub fn clear(&self)
-        ensures { Locked (AreDifferent {M = M} LS.eq) (λ old new _. new ≡ []) result }
-    {
-        let mut guard = self.shared.core.write(&self.wait);
-        let core: &mut FamilyCore<LS, M, S> = &mut guard;
-        core.are_different();
+    pub fn clear(&self) {
+        let mut core = self.shared.core.write(&self.wait);
         core.clear();
     }
 

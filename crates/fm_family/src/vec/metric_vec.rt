@@ -1,5 +1,5 @@
 //! Families by label names that threads share.
-ghost use Rattle.std.specs.Prelude.{◌≡◌, ◌⊎◌, [], length, IfOk, IfErr, Err, None, ⊤};
+ghost use Rattle.std.specs.Prelude.{◌≡◌, ◌⊎◌, length, IfOk, IfErr, Err, None, ⊤};
 ghost use Rattle.std.specs.Arc.{arc_value};
 ghost use Rattle.std.specs.Fn.{FnOnceReturnsAt};
 ghost use Rattle.fm_raw.specs.declared.error.MetricError.TheVariants.{Memory, TooManyMembers, WrongValueCount};
@@ -148,12 +148,8 @@ impl<M: Drop, MF: Drop, H: Wait + Drop> MetricVec<M, MF, H> {
     /// Removes each member, as `remove` does.
     ///
     /// The call waits for all other calls of this family, and takes no memory.
-    pub fn clear(&self)
-        ensures { Locked (AreVecMembers {M = M}) (λ old new _. new ≡ record old { entries = [] }) result }
-    {
-        let mut guard = self.shared.core.write(&self.wait);
-        let core: &mut VecMembers<M> = &mut guard;
-        core.are_different();
+    pub fn clear(&self) {
+        let mut core = self.shared.core.write(&self.wait);
         core.clear();
     }
 

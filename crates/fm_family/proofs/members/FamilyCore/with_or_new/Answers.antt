@@ -15,7 +15,7 @@ returns-clause-gets g c =
     let new = c.index_or_new.new.self.entries in
     let same = λ (m : g.row.M.Denot) (holds : HoldsMetric new c.in_ok-index.index m). let is : c.at.result.now ≡ m = cc (sym c.at.ensures ∙ holds) in is in
     GetsOrAdds-tells g.LS.Clone.is_clone g.LS.PartialEq.eq (g.MF.MetricFactory.promises c.args.factory.now) c.args.labels.now c.args.self.now.entries new (HoldsMetric new) (λ r m. FnOnceReturnsAt g.F.FnOnce c.args.f m r)
-        c.in_ok-index.index c.f.result (λ m holds. (c.at.result, c.f.ensures, same m holds)) c.in_ok-index.ensures.gets
+    c.in_ok-index.index c.f.result (λ m holds. (c.at.result, c.f.ensures, same m holds)) c.in_ok-index.ensures.gets
 
 pub returns-clause-called : goal.returns-clause-called
 returns-clause-called g c = (c.at.result.now, (c.at.result, c.f.ensures, refl))

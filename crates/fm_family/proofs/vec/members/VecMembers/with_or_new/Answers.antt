@@ -16,7 +16,7 @@ returns-clause-finds g c =
     let old = c.args.self.now in let new = c.index_or_new.new.self in
     let same = λ (m : g.row.M.Denot) (holds : HoldsMetric new.entries c.in_ok-index.index m). let is : c.at.result.now ≡ m = cc (sym c.at.ensures ∙ holds) in is in
     FindsOrAdds-tells (g.MF.MetricFactory.promises c.args.factory.now) old.limit (shown_texts c.args.values.now) old.entries new.entries (HoldsMetric new.entries) (λ r m. FnOnceReturnsAt g.F.FnOnce c.args.f m r)
-        c.in_ok-index.index c.f.result (λ m holds. (c.at.result, c.f.ensures, same m holds)) c.in_ok-index.ensures.finds
+    c.in_ok-index.index c.f.result (λ m holds. (c.at.result, c.f.ensures, same m holds)) c.in_ok-index.ensures.finds
 
 pub returns-clause-called : goal.returns-clause-called
 returns-clause-called g c = (c.at.result.now, (c.at.result, c.f.ensures, refl))
