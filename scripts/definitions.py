@@ -16,7 +16,7 @@ TOP = Path(__file__).resolve().parent.parent
 WORD = re.compile(r"[^\s(){}\[\],;.→λ←]+")
 
 # The most lines of each: what `encode` promises, what a registration does, and what metrics declare.
-MOST = {"encode": 740, "registering": 340, "declared": 580}
+MOST = {"encode": 740, "registering": 340, "declared": 600}
 
 # The sources of the calls that register, with the names of those that do where others stand beside them.
 REGISTERING = {
