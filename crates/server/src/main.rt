@@ -16,6 +16,7 @@ use std::sync::atomic::AtomicI64;
 use std::sync::atomic::Ordering::SeqCst;
 use std::sync::{Arc, Wait};
 use std::thread;
+use std::thread::Threads;
 
 // The jobs that wait, which each scrape collects.
 #[derive(Drop)]
@@ -91,8 +92,17 @@ fn make_pool<H: Waiter>(root: &mut Root<H, Own>) -> Result<Pool<H>, RegistryErro
     })
 }
 
+// What the workers share.
+#[derive(Drop)]
+struct Server<H: Wait> {
+    root: Root<H, Own>,
+    http: Http<H>,
+    pool: Pool<H>,
+}
+
 // What is counted of one request.
-fn serve<H: Waiter>(http: &Http<H>) -> Result<(), MetricError> {
+fn serve<H: Waiter>(server: &Server<H>) -> Result<(), MetricError> {
+    let http = &server.http;
     let _in_flight = http.in_flight.track_in_progress();
     http.requests.with(&["GET"], |count| count.inc())?;
     http.routes.with(&["80", "200"], |count| count.inc())?;
@@ -103,7 +113,8 @@ fn serve<H: Waiter>(http: &Http<H>) -> Result<(), MetricError> {
 }
 
 // What is counted of one job.
-fn run_job<H: Waiter>(pool: &Pool<H>) -> Result<(), MetricError> {
+fn run_job<H: Waiter>(server: &Server<H>) -> Result<(), MetricError> {
+    let pool = &server.pool;
     let _busy = pool.busy.track_in_progress();
     pool.jobs.inc();
     pool.time.inc_by(Fixed::from_millionths(1_500_000))?;
@@ -111,6 +122,14 @@ fn run_job<H: Waiter>(pool: &Pool<H>) -> Result<(), MetricError> {
     pool.waits
         .with(&["mail", "out"], |wait| wait.observe(waited))??;
     Ok(())
+}
+
+// Counts by two workers. It stands apart, since the check proves that `join` may send what it is passed only where little else is
+// known of it.
+fn run<R: Threads + Waiter>(rt: &R, server: &Server<R>) -> Result<(), MetricError> {
+    let (served, done) = thread::join(rt, || serve(server), || run_job(server));
+    served?;
+    done
 }
 
 // The document, without what the process tells, which is another at each run.
@@ -138,13 +157,12 @@ fn main(rt: HostRuntime) -> anyhow::Result<()> {
     let http = make_http(&mut root)?;
     root.leave();
     let pool = make_pool(&mut root)?;
+    let server = Server { root, http, pool };
 
     queues.mail.store(3, SeqCst);
     load.set(Fixed::from_millionths(500_000));
-    let (served, done) = thread::join(&rt, || serve(&http), || run_job(&pool));
-    served?;
-    done?;
+    run(&rt, &server)?;
     process.read(&rt)?;
-    rt.stdout().write_all(scrape(&root)?.as_bytes())?;
+    rt.stdout().write_all(scrape(&server.root)?.as_bytes())?;
     Ok(())
 }
