@@ -95,7 +95,6 @@ fn make_pool<H: Waiter>(root: &mut Root<H, Own>) -> Result<Pool<H>, RegistryErro
 // What the workers share.
 #[derive(Drop)]
 struct Server<H: Wait> {
-    root: Root<H, Own>,
     http: Http<H>,
     pool: Pool<H>,
 }
@@ -157,12 +156,12 @@ fn main(rt: HostRuntime) -> anyhow::Result<()> {
     let http = make_http(&mut root)?;
     root.leave();
     let pool = make_pool(&mut root)?;
-    let server = Server { root, http, pool };
+    let server = Server { http, pool };
 
     queues.mail.store(3, SeqCst);
     load.set(Fixed::from_millionths(500_000));
     run(&rt, &server)?;
     process.read(&rt)?;
-    rt.stdout().write_all(scrape(&server.root)?.as_bytes())?;
+    rt.stdout().write_all(scrape(&root)?.as_bytes())?;
     Ok(())
 }
