@@ -26,7 +26,7 @@ RARE = [
     (b"HEAD /metrics HTTP/1.1" + END, "HEAD", "405", "/metrics"),
     (b"GET /work?number=7 HTTP/1.1" + END, "GET", "200", "/work"),
     (b"hello\r\n\r\n", "other", "400", "other"),
-    (b"GET /work HTTP/1.1\r\nLong: " + 9000 * b"x" + END, "other", "431", "other"),
+    (b"GET /work HTTP/1.1\r\nLong: " + 9000 * b"x" + END, "other", "400", "other"),
 ]
 TURN = 15 * [WORK] + 2 * [SCRAPE] + [MISSING, POSTED]
 
@@ -37,13 +37,13 @@ def request(number):
     return TURN[place] if place < len(TURN) else RARE[number // 20 % len(RARE)]
 
 
-def fault(response, body, method, code, path):
+def fault(response, body, code, path):
     """What is wrong with a response, or nothing."""
     if str(response.status) != code:
         return f"status {response.status}"
     if response.getheader("Connection") != "close":
         return "it doesn't say that the connection ends"
-    if response.getheader("Content-Length") != str(len(body)) and method != "HEAD":
+    if response.getheader("Content-Length") != str(len(body)):
         return f"{len(body)} bytes, said to be {response.getheader('Content-Length')}"
     if code == "405" and response.getheader("Allow") != "GET":
         return "it doesn't say what is allowed"
@@ -70,7 +70,7 @@ def send(port, numbers, counts, faults):
         sent, method, code, path = request(number)
         try:
             response, body = exchange(port, sent, method)
-            wrong = fault(response, body, method, code, path)
+            wrong = fault(response, body, code, path)
         except (OSError, http.client.HTTPException) as error:
             wrong = repr(error)
         if wrong:

@@ -152,11 +152,10 @@ def compare_document(counts, headers, file, alone):
     """Compares a document that curl received."""
     with open(headers) as lines:
         said = dict(line.strip().split(": ", 1) for line in lines if ": " in line)
-    said = {name.lower(): value for name, value in said.items()}
     with open(file, "rb") as document:
         body = document.read()
-    compare("content type", DOCUMENT_TYPE, said.get("content-type"))
-    compare("content length", str(len(body)), said.get("content-length"))
+    compare("content type", DOCUMENT_TYPE, said.get("Content-Type"))
+    compare("content length", str(len(body)), said.get("Content-Length"))
     compare("last line", b"# EOF\n", body.splitlines(keepends=True)[-1])
     document, wanted = read_document(file), by_labels(counts)
     compare_names(document)
