@@ -311,22 +311,17 @@ def unnamed(text):
             yield f"docs/CALLS.md doesn't name {name}: {path.relative_to(TOP)}"
 
 
-def run_by(paths):
-    """What a program's files have, without the functions that nothing in it names a second time."""
-    words = Counter(word for path in paths for word in re.findall(r"\w+", source(path)))
-    for path in paths:
+def sources():
+    """The files of libraries, programs and tests, each without the functions of programs that no program names a second time."""
+    tests = [*TOP.glob("bench/replay/src/**/*.rt.in"), *TOP.glob("bench/tests/src/**/*.rt.in")]
+    crates = {path: path.relative_to(TOP).parts[1] for path in TOP.glob("crates/*/src/**/*.rt")}
+    programs = [path for path, crate in crates.items() if crate not in libraries()]
+    words = Counter(word for path in [*programs, *tests] for word in re.findall(r"\w+", source(path)))
+    for path in [*crates, *tests]:
         items = re.split(r"^(?=(?:pub )?fn )", source(path), flags=re.M)
         names = [re.match(r"(?:pub )?fn (\w+)", it) for it in items]
-        yield path, "".join(it for it, name in zip(items, names) if not name or name[1] == "main" or words[name[1]] > 1)
-
-
-def sources():
-    """The files of libraries, programs and tests, each with what of it is run."""
-    for folder in TOP.glob("crates/*/src"):
-        paths = sorted(folder.glob("**/*.rt"))
-        yield from ((it, source(it)) for it in paths) if folder.parent.name in libraries() else run_by(paths)
-    for path in [*TOP.glob("bench/replay/src/**/*.rt.in"), *TOP.glob("bench/tests/src/**/*.rt.in")]:
-        yield path, source(path)
+        are_run = [path not in programs or not name or name[1] == "main" or words[name[1]] > 1 for name in names]
+        yield path, "".join(it for it, is_run in zip(items, are_run) if is_run)
 
 
 def uncalled():
