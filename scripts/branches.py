@@ -100,10 +100,17 @@ def stand_within(bodies, folder):
 
 
 def trials_of(placed):
-    """The lines of C for these bodies: each with each of its tests, or with all. Where a test may ask for memory only so often, it is tried with no body too."""
-    named = [(test, number, body) for number, body in placed.items() for test in sorted(tests_of(body)[1]) or [None]]
-    right = [(test, 0, body) for body in placed.values() for test in limits_of(body)]
-    line = lambda test, number, body: (f'"{test}"' if test else "0", number, body.seconds or MOST_RUN, limits_of(body).get(test, 0))
+    """The lines of C for these bodies: each with each of its tests, or with all. Where a test may ask for memory only so often, it is tried with no body too,
+    and has to ask so often."""
+    named = [(test, number, body, 0) for number, body in placed.items() for test in sorted(tests_of(body)[1]) or [None]]
+    right = [(test, 0, body, has_to_end) for body in placed.values() for test in limits_of(body) for has_to_end in (0, 1)]
+    line = lambda test, number, body, has_to_end: (
+        f'"{test}"' if test else "0",
+        number,
+        body.seconds or MOST_RUN,
+        limits_of(body).get(test, 0) - has_to_end,
+        has_to_end,
+    )
     return "".join(f"    {{{', '.join(map(str, it))}}},\n" for it in dict.fromkeys(line(*it) for it in named + right))
 
 

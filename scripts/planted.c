@@ -1,6 +1,7 @@
 // For scripts/tested_bodies.py: which of the bodies that are planted beside each other runs. A test runs once for each body that it may refuse, in a
 // process of its own, whose end is noted in a file, and then with none of them. Where a test may ask for memory only so often, its process ends at the
-// first request that is one too many. A program that is passed a number runs with that body.
+// first request that is one too many; with no body it has to end at the one before, so that the number is as low as it can be. A program that is
+// passed a number runs with that body.
 #include <fcntl.h>
 #include <stddef.h>
 #include <stdint.h>
@@ -14,7 +15,8 @@ struct trial {
     const char *test; // or null, for each test
     uint32_t body; // or 0 for none
     unsigned seconds;
-    unsigned long requests; // the first request for memory that must not be made, or 0
+    unsigned long requests; // the request for memory at which its process ends, or 0
+    int has_to_end;         // whether that request has to be made
 };
 
 // The name of that file, and the trials.
@@ -57,7 +59,7 @@ static int is_child(const struct trial *trial, const char *test) {
         return 0;
     FILE *file = fopen(RESULTS, "a");
     if (file) {
-        fprintf(file, "%u %s %s\n", trial->body, test, status ? "failed" : "passed");
+        fprintf(file, "%u %s %s\n", trial->body, test, !status == trial->has_to_end ? "failed" : "passed");
         fclose(file);
     }
     return 0;
