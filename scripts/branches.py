@@ -26,9 +26,9 @@ pub fn is(number: u32) -> bool {
 """
 
 
-# What stands before a test whose memory is limited: how many times it may ask for it, or must; for how many bytes, together or at once; and how many
-# requests may not be given back at its end. But for `at_least` the number is the first that is too much.
-LIMIT = re.compile(r"(requests|at_least|bytes|greatest|kept)::(\d+)::(\S+)$")
+# What stands before a test whose memory is limited: how many times it asks for it, for how many bytes, together or at once, and how many requests are not
+# given back at its end. The number is the first that is too much.
+LIMIT = re.compile(r"(requests|bytes|greatest|kept)::(\d+)::(\S+)$")
 
 
 def tests_of(body):

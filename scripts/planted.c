@@ -12,16 +12,16 @@
 #include <sys/wait.h>
 #include <unistd.h>
 
-// What is limited of the memory that a test asks for: how many requests, at most or at least, their bytes together, those of the greatest one, and how many
-// are not given back at the end.
-enum limited { NOTHING, REQUESTS, AT_LEAST, BYTES, GREATEST, KEPT };
+// What is limited of the memory that a test asks for: how many requests, their bytes together, those of the greatest one, and how many requests are not
+// given back at the end.
+enum limited { NOTHING, REQUESTS, BYTES, GREATEST, KEPT };
 
 struct trial {
     const char *test; // or null, for each test
     uint32_t body; // or 0 for none
     unsigned seconds;
     enum limited limited;
-    unsigned long limit; // the least number that is too much, or, of requests at least, the least one that is enough
+    unsigned long limit; // the least number that is too much
 };
 
 // The name of that file, and the trials.
@@ -67,12 +67,10 @@ static void limit(const struct trial *trial) {
 }
 
 // How many requests weren't given back.
-static unsigned long kept(void) { return asked->requests - asked->returns; }
+static unsigned long kept(void) { return asked->requests > asked->returns ? asked->requests - asked->returns : 0; }
 
-// Whether a process that ended asked for too little, or kept too much.
-static int is_wrong(const struct trial *trial) {
-    return (trial->limited == AT_LEAST && asked->requests < trial->limit) || (trial->limited == KEPT && kept() >= trial->limit);
-}
+// Whether a process that ended kept too much.
+static int keeps_too_much(const struct trial *trial) { return trial->limited == KEPT && kept() >= trial->limit; }
 
 // Whether this is the process that runs the test with a body. The process before it waits for it, and notes how it ended.
 static int is_child(const struct trial *trial, const char *test) {
@@ -94,9 +92,10 @@ static int is_child(const struct trial *trial, const char *test) {
         return 0;
     FILE *file = fopen(RESULTS, "a");
     if (file) {
-        fprintf(file, "%u %s %s\n", trial->body, test, status || is_wrong(trial) ? "failed" : "passed");
+        fprintf(file, "%u %s %s\n", trial->body, test, status || keeps_too_much(trial) ? "failed" : "passed");
         if (trial->limited)
-            fprintf(file, "%u %s: %lu requests, %lu bytes, at most %lu at once, %lu kept\n", trial->body, test, asked->requests, asked->bytes, asked->greatest, kept());
+            fprintf(file, "%u %s: %lu requests, %lu bytes, at most %lu at once, %lu kept\n", trial->body, test, asked->requests, asked->bytes, asked->greatest,
+                    kept());
         fclose(file);
     }
     return 0;
