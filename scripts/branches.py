@@ -27,7 +27,7 @@ pub fn is(number: u32) -> bool {
 
 
 # What stands before a test whose memory is limited: how many times it asks for it, for how many bytes, together or at once, and how many requests are not
-# given back at its end. The number is the first that is too much.
+# given back at its end. The number is the first that is too much; with no body it is just not reached.
 LIMIT = re.compile(r"(requests|bytes|greatest|kept)::(\d+)::(\S+)$")
 
 

@@ -1,6 +1,7 @@
 // For scripts/tested_bodies.py: which of the bodies that are planted beside each other runs. A test runs once for each body that it may refuse, in a
 // process of its own, whose end is noted in a file, and then with none of them. Where there is a limit on the memory that a test asks for, its process
-// ends at the first request that is too much, and what it asked for is noted too. A program that is passed a number runs with that body.
+// ends at the first request that is too much, and what it asked for is noted too; with no body that has to be just one less, so that the number is as low
+// as it can be. A program that is passed a number runs with that body.
 #include <fcntl.h>
 #include <stdatomic.h>
 #include <stddef.h>
@@ -69,8 +70,11 @@ static void limit(const struct trial *trial) {
 // How many requests weren't given back.
 static unsigned long kept(void) { return asked->requests > asked->returns ? asked->requests - asked->returns : 0; }
 
-// Whether a process that ended kept too much.
-static int keeps_too_much(const struct trial *trial) { return trial->limited == KEPT && kept() >= trial->limit; }
+// Whether a process asked for too much, or, with no body, for another number than one less.
+static int is_wrong(const struct trial *trial) {
+    unsigned long all[] = {0, asked->requests, asked->bytes, asked->greatest, kept()};
+    return trial->body ? all[trial->limited] >= trial->limit : all[trial->limited] + 1 != trial->limit;
+}
 
 // Whether this is the process that runs the test with a body. The process before it waits for it, and notes how it ended.
 static int is_child(const struct trial *trial, const char *test) {
@@ -92,7 +96,7 @@ static int is_child(const struct trial *trial, const char *test) {
         return 0;
     FILE *file = fopen(RESULTS, "a");
     if (file) {
-        fprintf(file, "%u %s %s\n", trial->body, test, status || keeps_too_much(trial) ? "failed" : "passed");
+        fprintf(file, "%u %s %s\n", trial->body, test, status || (trial->limited && is_wrong(trial)) ? "failed" : "passed");
         if (trial->limited)
             fprintf(file, "%u %s: %lu requests, %lu bytes, at most %lu at once, %lu kept\n", trial->body, test, asked->requests, asked->bytes, asked->greatest,
                     kept());

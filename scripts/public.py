@@ -10,7 +10,8 @@ function of a public trait. Looked at are
 - the blocks of docs/CALLS.md, each after a line `<!-- calls: MODULE .. -->`: the `use` lines of these modules of `fastmetrics`, and the signatures of what they
   have. A name that several modules have stands in the first block alone. The block of `std` has the `use` lines of its names in all others;
 - the text of docs/CALLS.md, which names each public name and call; one is enough of those with a unit, with a description, and for each whole number;
-- the tests, the programs, and the one that replays scripts: one of their files makes each public call, and names its type.
+- the tests, the programs without their functions that nothing calls, and the one that replays scripts: one of their files makes each public call, and names
+  its type.
 
 --write renews the list and the blocks. Prints a line for each difference; the status is 0 if there is none.
 """
@@ -18,7 +19,7 @@ import difflib
 import re
 import sys
 import textwrap
-from collections import namedtuple
+from collections import Counter, namedtuple
 from fnmatch import fnmatchcase
 from functools import cache
 from pathlib import Path
@@ -37,22 +38,22 @@ INTERNAL = re.compile(r"//! What .* call[^\n]*, and no ")
 HIDDEN = {"encode_all", "encode_written", "whole_millis"}
 # Calls of which docs/CALLS.md names one.
 TOGETHER = re.compile(r"\w+_with_unit|\w*(counter|gauge|histogram)s?_with|encode_[iu](\d+|size)(_value)?")
-# Made by the library itself, so that tests see what they do by what calls them: by `collect`, `encode` and families, by roots, by `find_bucket` and
-# `observe_all`, and by the label values of each type.
+# Made by the library itself, so that tests see what they do by what calls them: by `collect`, `encode` and families, by roots, and by `find_bucket` and
+# `observe_all`.
 INSIDE = """
-    Registry::listing Registry::metric_* Registry::at Registry::run_call FamilyCore::* Collected::names Collector::* Holds::* Made::* MetricFamilyEncoder::*
-    Encode*Value::encode EncodeLabelName::encode ValueEncoder::* LabelEncoder::encode_*_value LabelSetEncoder::encode_named LabelValues::a* StateSetValue::*
-    ExemplarLabels::are_taken Exemplar::* Info::get Metadata::* Probe::* Gate::*
+    Collected::names Collector::* Holds::* Made::* MetricFamilyEncoder::* Encode*Value::encode EncodeLabelName::encode ValueEncoder::*
+    LabelSetEncoder::encode_named StateSetValue::* ExemplarLabels::are_taken Probe::* Gate::*
 """.split()
-# Looked for by the name of the call alone: these are made where their type isn't named.
-ALIKE = "RegistrySubsystemBuilder::* Subsystem::name".split()
+# What stands for the name of a type where its calls are made: the call that gives one.
+GIVEN_BY = {"RegistryBuilder": "builder", "RegistrySubsystemBuilder": "subsystem_builder", "Subsystem": "subsystem"}
 
 KINDS = "struct|enum|trait|const fn|fn|const|type"
 # Where the head of an item ends: before its body, its clauses, or a semicolon.
 END = r"(?=\s*\{\}?$|;$|\s*\n\s+(?:requires|ensures|ghost)\b)"
 REEXPORT = re.compile(r"^ *pub use (\w+)((?:::\w+)*)(?:::\{([^}]*)\})?(?: as (\w+))?;", re.M)
 OF_STD = re.compile(r"^use (std(?:::[a-z_]+)*)::(?:\{([^}]*)\}|(\w+));", re.M)
-CALLED = re.compile(r"\b(\w+)(?:::<[^()]*?>)?\s*\(|::(\w+)\b")
+# A call by a value, by a path, and by the name alone.
+CALLED = re.compile(r"(\.\s*)?(::)?\b(\w+)(?:::<[^()]*?>)?\s*\(|(::)(\w+)\b")
 # What stays in one line where a signature is wrapped.
 WHOLE = re.compile(r"<[^<>:]*>|\[[^\[\]]*\]|\w \{ [^{}]{,60} \}|'\w+ |\w: |-> |mut |for |dyn ")
 # A public declaration, or an `impl`: its head in one line, and what stands below it.
@@ -289,38 +290,54 @@ def by_crate():
 
 
 def calls():
-    """Each public call, as `TYPE::CALL` or as the name of a function, with the names of its type, and its file."""
+    """Each public call, as `TYPE::CALL` or as the name of a function, with the names of its type, its file, and the ways in which it can be made: `.` by
+    a value, `::` by a path, or by its name alone."""
     for type_, its in by_meaning().items():
         if type_.kind.endswith("fn"):
-            yield type_.name, set(), type_.path
+            yield type_.name, set(), type_.path, {"", "::"}
         for it in [type_] if type_.kind == "trait" else [it for it in implementations()[0].get(type_, []) if not parts(it)[1]]:
-            for found in re.finditer(r"^(?:const )?fn (\w+)", "\n".join(members(it)), re.M):
-                yield f"{type_.name}::{found[1]}", {type_.name, *(it.name for it in its)}, it.path
+            for found in re.finditer(r"^(?:const )?fn (\w+)(?:<.*?>)?\((&?(?:'\w+ )?(?:mut )?self\b)?", "\n".join(members(it)), re.M):
+                names = {type_.name, GIVEN_BY.get(type_.name, type_.name), *(it.name for it in its)}
+                yield f"{type_.name}::{found[1]}", names, it.path, {".", "::"} if found[2] else {"::"}
 
 
 def unnamed(text):
     """The public names and calls that the page's own text doesn't name."""
     prose = re.sub(r"^```.*?^```$", "", text, flags=re.M | re.S)
     words = {word for _, ticked in TICKED.findall(prose) for word in re.findall(r"\w+", ticked)}
-    names = {it.name: it.path for its in by_meaning().values() for it in its} | {call.split("::")[-1]: path for call, _, path in calls()}
+    names = {it.name: it.path for its in by_meaning().values() for it in its} | {call.split("::")[-1]: path for call, _, path, _ in calls()}
     for name, path in names.items():
         if name not in words and not TOGETHER.fullmatch(name):
             yield f"docs/CALLS.md doesn't name {name}: {path.relative_to(TOP)}"
 
 
+def sources():
+    """The files of libraries, programs and tests, each without the functions of programs that no program names a second time."""
+    tests = [*TOP.glob("bench/replay/src/**/*.rt.in"), *TOP.glob("bench/tests/src/**/*.rt.in")]
+    crates = {path: path.relative_to(TOP).parts[1] for path in TOP.glob("crates/*/src/**/*.rt")}
+    programs = [path for path, crate in crates.items() if crate not in libraries()]
+    words = Counter(word for path in [*programs, *tests] for word in re.findall(r"\w+", source(path)))
+    for path in [*crates, *tests]:
+        items = re.split(r"^(?=(?:pub )?fn )", source(path), flags=re.M)
+        names = [re.match(r"(?:pub )?fn (\w+)", it) for it in items]
+        are_run = [path not in programs or not name or name[1] == "main" or words[name[1]] > 1 for name in names]
+        yield path, "".join(it for it, is_run in zip(items, are_run) if is_run)
+
+
 def uncalled():
     """The public calls that nothing makes."""
     files = []
-    for path in [*TOP.glob("crates/*/src/**/*.rt"), *TOP.glob("bench/replay/src/**/*.rt.in"), *TOP.glob("bench/tests/src/**/*.rt.in")]:
-        made = {first or second for first, second in CALLED.findall(re.sub(r"\bfn \w+", "", source(path)))}
-        files.append((path.relative_to(TOP).parts[1] in libraries(), made, set(re.findall(r"\w+", source(path)))))
-    for call, names, path in calls():
-        is_inside, is_alike = (any(fnmatchcase(call, it) for it in listed) for listed in (INSIDE, ALIKE))
-        makers = [words for is_library, made, words in files if call.split("::")[-1] in made and (is_inside or not is_library)]
-        if not any(is_alike or not names or names & words for words in makers):
+    for path, text in sources():
+        made = {(by_value.strip() or before or other, name or named) for by_value, before, name, other, named in CALLED.findall(re.sub(r"\bfn \w+", "", text))}
+        files.append((path.relative_to(TOP).parts[1] in libraries(), made, set(re.findall(r"\w+", text))))
+    for call, names, path, ways in calls():
+        is_inside = any(fnmatchcase(call, it) for it in INSIDE)
+        forms = {(way, call.split("::")[-1]) for way in ways}
+        makers = [words for is_library, made, words in files if forms & made and (is_inside or not is_library)]
+        if not any(not names or names & words for words in makers):
             yield f"no test and no program calls {call}: {path.relative_to(TOP)}"
-    for it in (*INSIDE, *ALIKE):
-        if not any(fnmatchcase(call, it) for call, _, _ in calls()):
+    for it in INSIDE:
+        if not any(fnmatchcase(call, it) for call, _, _, _ in calls()):
             yield f"there is no public call {it}, which scripts/public.py lists"
 
 

@@ -10,8 +10,8 @@ runs once for each body that names it, and once with none (scripts/planted.c): s
 that no test refused so, the crates are compiled with it in place of what is right, up to three times. A body with which a test never ends has a line
 `seconds: N`, after which a test has failed. With `requests::N::TEST` the test has failed once it asks for memory the Nth time, with `bytes::N::TEST`
 once it has asked for N bytes, with `greatest::N::TEST` once it asks for N at once, and with `kept::N::TEST` if it ends with N requests that were not
-given back. It must pass so without the body, and then what it asked for is printed. A test `cases::NAME` of a program is a case of its cases.toml
-(scripts/cases.py). With `tests: replay NAME..` scripts of bench/replay stand for tests, and one of them has to differ from its answer
+given back. Without the body it must reach just one less, and what it asks for is printed. A test `cases::NAME` of a program is a case of its
+cases.toml (scripts/cases.py). With `tests: replay NAME..` scripts of bench/replay stand for tests, and one of them has to differ from its answer
 (scripts/replay.sh); they run with each body alone, and all scripts with none, those for refused memory also with each request refused in turn. Prints
 a line for each body; 'N passed, M failed', of the tests with no body; 'N agree, M differ', of the runs of scripts with none; and then 'N refused, M
 not refused'. The status is 0 if each M is 0.

@@ -36,6 +36,7 @@ static unsigned long refused; // the number of the request that is refused, or 0
 static int is_forking;        // whether a process goes on at each request with it refused
 static int right;             // what the first run printed
 static atomic_uint is_watched;
+static atomic_ulong until; // how many requests there are until one is refused, or 0
 
 // Where the program's code begins and ends, among all that is loaded.
 static char *code_begin, *code_end;
@@ -136,7 +137,11 @@ static int forks_here(unsigned long request) {
 }
 
 static int is_refused(void *caller) {
-    if (!seen || !is_watched || (char *)caller < code_begin || code_end <= (char *)caller)
+    if ((char *)caller < code_begin || code_end <= (char *)caller)
+        return 0;
+    if (until)
+        return --until == 0;
+    if (!seen || !is_watched)
         return 0;
     unsigned long request = atomic_fetch_add(&seen->requests, 1) + 1;
     return is_forking ? forks_here(request) : request == refused;
@@ -148,6 +153,9 @@ void *realloc(void *place, size_t size) { return is_refused(__builtin_return_add
 
 // Whether the requests count from now on: those of a line, and none between lines.
 void watch(uint32_t is_on) { is_watched = is_on; }
+
+// Has this request refused, counted from now on, or with 0 none, in a run in which no other one is.
+void refuse_one(uint32_t request) { until = request; }
 
 // A line is done again.
 void do_again(void) {
@@ -173,9 +181,9 @@ static int run(int *status) {
 }
 
 __attribute__((constructor)) static void refuse_each(int count, char **words) {
+    dl_iterate_phdr(find_code, NULL);
     if (count != 2 || strcmp(words[1], "refuse"))
         return;
-    dl_iterate_phdr(find_code, NULL);
     seen = mmap(NULL, sizeof *seen, PROT_READ | PROT_WRITE, MAP_SHARED | MAP_ANONYMOUS, -1, 0);
     if (seen == MAP_FAILED)
         _exit(3);
