@@ -26,19 +26,20 @@ pub fn is(number: u32) -> bool {
 """
 
 
-# What stands before a test that must ask for memory fewer times than the number says.
-LIMIT = re.compile(r"requests::(\d+)::(\S+)$")
+# What stands before a test whose memory is limited: how many times it asks for it, for how many bytes, together or at once, and how many requests are not
+# given back at its end. The number is the first that is too much; with no body it is just not reached.
+LIMIT = re.compile(r"(requests|bytes|greatest|kept)::(\d+)::(\S+)$")
 
 
 def tests_of(body):
     """The crate of tests that a body names, and the tests that fail with it alone, if it names them."""
     crate, *tests = body.tests.split()
-    return crate, {LIMIT.sub(r"\2", it) for it in tests}
+    return crate, {LIMIT.sub(r"\3", it) for it in tests}
 
 
 def limits_of(body):
-    """The tests of these that must ask for memory fewer than so many times, each with that number."""
-    return {it[2]: int(it[1]) for it in map(LIMIT.match, body.tests.split()) if it}
+    """The tests of these whose memory is limited, each with what is limited, as scripts/planted.c names it, and the number."""
+    return {it[3]: (it[1].upper(), int(it[2])) for it in map(LIMIT.match, body.tests.split()) if it}
 
 
 def block_of(function, lines):
@@ -100,17 +101,11 @@ def stand_within(bodies, folder):
 
 
 def trials_of(placed):
-    """The lines of C for these bodies: each with each of its tests, or with all. Where a test may ask for memory only so often, it is tried with no body too,
-    and has to ask so often."""
-    named = [(test, number, body, 0) for number, body in placed.items() for test in sorted(tests_of(body)[1]) or [None]]
-    right = [(test, 0, body, has_to_end) for body in placed.values() for test in limits_of(body) for has_to_end in (0, 1)]
-    line = lambda test, number, body, has_to_end: (
-        f'"{test}"' if test else "0",
-        number,
-        body.seconds or MOST_RUN,
-        limits_of(body).get(test, 0) - has_to_end,
-        has_to_end,
-    )
+    """The lines of C for these bodies: each with each of its tests, or with all. Where a test's memory is limited, it is tried with no body too."""
+    named = [(test, number, body) for number, body in placed.items() for test in sorted(tests_of(body)[1]) or [None]]
+    right = [(test, 0, body) for body in placed.values() for test in limits_of(body)]
+    limits = lambda test, body: limits_of(body).get(test, ("NOTHING", 0))
+    line = lambda test, number, body: (f'"{test}"' if test else "0", number, body.seconds or MOST_RUN, *limits(test, body))
     return "".join(f"    {{{', '.join(map(str, it))}}},\n" for it in dict.fromkeys(line(*it) for it in named + right))
 
 

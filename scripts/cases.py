@@ -29,6 +29,12 @@ TOP = os.path.dirname(os.path.dirname(os.path.realpath(__file__)))
 ONE_RUN = 60
 
 
+def whole(told):
+    """A text, or the one that a list of pieces describes."""
+    pieces = [told] if isinstance(told, str) else told
+    return "".join(it if isinstance(it, str) else "".join(it[0].replace("%", str(number)) for number in range(it[1])) for it in pieces)
+
+
 class Case:
     """A run of a program, and what it has to write."""
 
@@ -36,7 +42,7 @@ class Case:
         encoding = told.get("encoding", "utf-8")
         self.name, self.to, self.status = name, told.get("to"), told.get("status", 0)
         self.args = [it.encode(encoding) for it in told.get("args", [])]
-        self.stdin, self.stdout, self.stderr = (told.get(it, "").encode(encoding) for it in ("stdin", "stdout", "stderr"))
+        self.stdin, self.stdout, self.stderr = (whole(told.get(it, "")).encode(encoding) for it in ("stdin", "stdout", "stderr"))
 
     def run(self, program, environment=None):
         """The status of one run, and what it writes to standard output and to standard error."""

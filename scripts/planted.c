@@ -1,22 +1,28 @@
 // For scripts/tested_bodies.py: which of the bodies that are planted beside each other runs. A test runs once for each body that it may refuse, in a
-// process of its own, whose end is noted in a file, and then with none of them. Where a test may ask for memory only so often, its process ends at the
-// first request that is one too many; with no body it has to end at the one before, so that the number is as low as it can be. A program that is
-// passed a number runs with that body.
+// process of its own, whose end is noted in a file, and then with none of them. Where there is a limit on the memory that a test asks for, its process
+// ends at the first request that is too much, and what it asked for is noted too; with no body that has to be just one less, so that the number is as low
+// as it can be. A program that is passed a number runs with that body.
 #include <fcntl.h>
+#include <stdatomic.h>
 #include <stddef.h>
 #include <stdint.h>
 #include <stdio.h>
 #include <stdlib.h>
 #include <string.h>
+#include <sys/mman.h>
 #include <sys/wait.h>
 #include <unistd.h>
+
+// What is limited of the memory that a test asks for: how many requests, their bytes together, those of the greatest one, and how many requests are not
+// given back at the end.
+enum limited { NOTHING, REQUESTS, BYTES, GREATEST, KEPT };
 
 struct trial {
     const char *test; // or null, for each test
     uint32_t body; // or 0 for none
     unsigned seconds;
-    unsigned long requests; // the request for memory at which its process ends, or 0
-    int has_to_end;         // whether that request has to be made
+    enum limited limited;
+    unsigned long limit; // the least number that is too much
 };
 
 // The name of that file, and the trials.
@@ -30,18 +36,50 @@ uint32_t planted_body(void) { return running; }
 // What finds faulty addresses (AddressSanitizer) calls the first function after each request, and the second after each return of memory.
 int __sanitizer_install_malloc_and_free_hooks(void (*)(const volatile void *, size_t), void (*)(const volatile void *));
 
-static unsigned long requests, one_too_many;
+// What a process asked for, which the one that waits for it sees too.
+struct asked {
+    atomic_ulong requests, returns, bytes, greatest;
+};
+
+static const struct trial *limits;
+static struct asked *asked;
 
 static void count(const volatile void *place, size_t size) {
-    (void)place, (void)size;
-    if (++requests == one_too_many)
+    (void)place;
+    unsigned long requests = atomic_fetch_add(&asked->requests, 1) + 1, bytes = atomic_fetch_add(&asked->bytes, size) + size;
+    if (size > asked->greatest)
+        asked->greatest = size;
+    if ((limits->limited == REQUESTS && requests >= limits->limit) || (limits->limited == BYTES && bytes >= limits->limit) ||
+        (limits->limited == GREATEST && size >= limits->limit))
         _exit(1);
 }
 
-static void pass(const volatile void *place) { (void)place; }
+static void count_return(const volatile void *place) {
+    if (place)
+        atomic_fetch_add(&asked->returns, 1);
+}
+
+// Has the requests of this process counted. It must not make too many.
+static void limit(const struct trial *trial) {
+    asked = mmap(NULL, sizeof *asked, PROT_READ | PROT_WRITE, MAP_SHARED | MAP_ANONYMOUS, -1, 0);
+    if (asked == MAP_FAILED)
+        _exit(3);
+    limits = trial;
+}
+
+// How many requests weren't given back.
+static unsigned long kept(void) { return asked->requests > asked->returns ? asked->requests - asked->returns : 0; }
+
+// Whether a process asked for too much, or, with no body, for another number than one less.
+static int is_wrong(const struct trial *trial) {
+    unsigned long all[] = {0, asked->requests, asked->bytes, asked->greatest, kept()};
+    return trial->body ? all[trial->limited] >= trial->limit : all[trial->limited] + 1 != trial->limit;
+}
 
 // Whether this is the process that runs the test with a body. The process before it waits for it, and notes how it ended.
 static int is_child(const struct trial *trial, const char *test) {
+    if (trial->limited)
+        limit(trial);
     pid_t child = fork();
     if (child == 0) {
         int nothing = open("/dev/null", O_WRONLY);
@@ -49,9 +87,8 @@ static int is_child(const struct trial *trial, const char *test) {
         dup2(nothing, 2);
         alarm(trial->seconds);
         running = trial->body;
-        one_too_many = trial->requests;
-        if (one_too_many)
-            __sanitizer_install_malloc_and_free_hooks(count, pass);
+        if (trial->limited)
+            __sanitizer_install_malloc_and_free_hooks(count, count_return);
         return 1;
     }
     int status = 0;
@@ -59,7 +96,10 @@ static int is_child(const struct trial *trial, const char *test) {
         return 0;
     FILE *file = fopen(RESULTS, "a");
     if (file) {
-        fprintf(file, "%u %s %s\n", trial->body, test, !status == trial->has_to_end ? "failed" : "passed");
+        fprintf(file, "%u %s %s\n", trial->body, test, status || (trial->limited && is_wrong(trial)) ? "failed" : "passed");
+        if (trial->limited)
+            fprintf(file, "%u %s: %lu requests, %lu bytes, at most %lu at once, %lu kept\n", trial->body, test, asked->requests, asked->bytes, asked->greatest,
+                    kept());
         fclose(file);
     }
     return 0;

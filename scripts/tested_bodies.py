@@ -3,16 +3,18 @@
 
     scripts/tested_bodies.py [CRATE..]        those of all crates, or of these
 
-A crate lists them in must-fail/tested_bodies.md, as its wrong bodies are listed (scripts/wrong_bodies.py), each with a line `tests: tests TEST..`, those
-tests of bench/tests that fail with this body alone; with `tests: tests` some test has to fail. All of them are planted in one copy of the crates, each
-as another branch of its functions, and the tests are compiled once, with run-time checks and no proof (scripts/unproved.py); each test runs once for
-each body that names it, and once with none (scripts/planted.c): so the gate runs its tests. Of a body that lies outside a function, or that no test
-refused so, the crates are compiled with it in place of what is right, up to three times. A body with which a test never ends has a line `seconds: N`,
-after which a test has failed. With `requests::N::TEST` the test has failed once it asks for memory the Nth time, and must ask just once less without
-the body. A test `cases::NAME` of a program is a case of its cases.toml (scripts/cases.py). With `tests: replay NAME..` scripts of bench/replay stand for
-tests, and one of them has to differ from its answer (scripts/replay.sh); they run with each body alone, and all scripts with none, those for refused
-memory also with each request refused in turn. Prints a line for each body; 'N passed, M failed', of the tests with no body; 'N agree, M differ', of the
-runs of scripts with none; and then 'N refused, M not refused'. The status is 0 if each M is 0.
+A crate lists them in must-fail/tested_bodies.md, as its wrong bodies are listed (scripts/wrong_bodies.py), each with a line `tests: tests TEST..`,
+those tests of bench/tests that fail with this body alone; with `tests: tests` some test has to fail. All of them are planted in one copy of the
+crates, each as another branch of its functions, and the tests are compiled once, with run-time checks and no proof (scripts/unproved.py); each test
+runs once for each body that names it, and once with none (scripts/planted.c): so the gate runs its tests. Of a body that lies outside a function, or
+that no test refused so, the crates are compiled with it in place of what is right, up to three times. A body with which a test never ends has a line
+`seconds: N`, after which a test has failed. With `requests::N::TEST` the test has failed once it asks for memory the Nth time, with `bytes::N::TEST`
+once it has asked for N bytes, with `greatest::N::TEST` once it asks for N at once, and with `kept::N::TEST` if it ends with N requests that were not
+given back. Without the body it must reach just one less, and what it asks for is printed. A test `cases::NAME` of a program is a case of its
+cases.toml (scripts/cases.py). With `tests: replay NAME..` scripts of bench/replay stand for tests, and one of them has to differ from its answer
+(scripts/replay.sh); they run with each body alone, and all scripts with none, those for refused memory also with each request refused in turn. Prints
+a line for each body; 'N passed, M failed', of the tests with no body; 'N agree, M differ', of the runs of scripts with none; and then 'N refused, M
+not refused'. The status is 0 if each M is 0.
 """
 import glob
 import os
@@ -91,6 +93,7 @@ def failing_beside(bodies):
         if not ran or not re.search(r"^test result: ", said, re.M):
             sys.exit(f"the tests were not run, or not all: {' / '.join(said.strip().split(chr(10))[-3:])[:400]}")
         failed = {}
+        print("".join(sorted(set(re.findall(r"^0 (\S+: .*\n)", text_of(f"{folder}/results"), re.M)))), end="", flush=True)
         for number, test in re.findall(r"^(\d+) (\S+) failed$", text_of(f"{folder}/results"), re.M):
             if number == "0":
                 ran[test] = False
