@@ -23,5 +23,6 @@ fn main(rt: HostRuntime) -> anyhow::Result<()> {
     globals::show(rt, rt.alloc(), &mut rt.stdout())?;
     many::show(rt, &mut rt.stdout())?;
     own::show(rt, &mut rt.stdout())?;
-    errors::show(rt, &mut rt.stdout())
+    errors::show(rt, &mut rt.stdout())?;
+    roots::show(rt, &mut rt.stdout())
 }

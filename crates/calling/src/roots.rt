@@ -7,6 +7,7 @@ use fastmetrics::metrics::gauge::ConstGauge;
 use fastmetrics::metrics::state_set::NamedStates;
 use fastmetrics::registry::{RegistryError, Root, Shown, Waiter};
 use std::alloc::Global;
+use std::io::Write;
 use std::random::RandomSource;
 use std::sync::Mutex;
 
@@ -69,4 +70,13 @@ pub fn version_page<H: Waiter + RandomSource + AllocGlobal>(rt: H) -> anyhow::Re
     )?;
     root.shows_its_constants();
     Ok(root.document()?)
+}
+
+/// Writes that page.
+pub fn show<H: Waiter + RandomSource + AllocGlobal, W: Write>(
+    rt: H,
+    out: &mut W,
+) -> anyhow::Result<()> {
+    out.write_all(&version_page(rt)?)?;
+    Ok(())
 }
