@@ -2,7 +2,7 @@
 use Rattle.std.specs.Prelude.{◌≡◌, ℕ, List, Option, Result, Ok, Err, ◌⊎◌}
 use Rattle.std.specs.Io.KnownBytes.{Keeps}
 use Rattle.fastmetrics.specs.Exposition.{Exposition}
-use Rattle.fastmetrics.specs.Encoded.{WritesAdmitted, BeginsAdmitted}
+use Rattle.fastmetrics.specs.Encoded.{IsAdmittedText, Writes, BeginsToWrite}
 use Rattle.expose_io.specs.declared.output.Fault.{Fault}
 use Rattle.expose_io.specs.declared.output.Fault.TheVariants.{UnknownScene, Refused}
 
@@ -20,6 +20,6 @@ status_of _ = 1
 -- Nothing and the fault's status if there is no registry.
 abbrev pub Finishes : {R : Type 0} → (R → Exposition → Type 0) → Option (List ℕ) → Option (List ℕ) → Result R Fault → ℕ → Type 0
 Finishes IsAdmitted old new (Ok registry) status =
-    ((status ≡ 0) × WritesAdmitted (IsAdmitted registry) old new)
-    ⊎ ((status ≡ 1) × (Keeps old new ⊎ BeginsAdmitted (IsAdmitted registry) old new))
+    ((status ≡ 0) × Writes (IsAdmittedText (IsAdmitted registry)) old new)
+    ⊎ ((status ≡ 1) × (Keeps old new ⊎ BeginsToWrite (IsAdmittedText (IsAdmitted registry)) old new))
 Finishes IsAdmitted old new (Err fault) status = (status ≡ status_of fault) × Keeps old new

@@ -11,7 +11,7 @@ ghost use Rattle.fm_registry_model.specs.Tree.{Shows};
 ghost use Rattle.fm_core.specs.Seen.{seen_listed, listed_in};
 ghost use Rattle.fm_core.specs.HasHistory.{HasHistory};
 ghost use Rattle.fm_core.specs.Admits.{Admits, AdmittedBy, AdmitsNext, FaultOf, FaultNamed, HasFault};
-ghost use Rattle.fm_core.specs.Encoded.{WritesAdmitted, BeginsAdmitted};
+ghost use Rattle.fm_core.specs.Encoded.{IsAdmittedText, Writes, BeginsToWrite};
 ghost use Rattle.fm_core.specs.inside.Documents.{listed_within, AddsFamilies};
 
 mod document;
@@ -177,16 +177,16 @@ pub fn encode<W: Write, M: EncodeMetric>(
 ) -> Result<(), EncodeError>
     requires { HasHistory registry.now }
     // The document, and nothing else, of an exposition that every history of the registry admits, and of no other exposition.
-    ensures document { OnOk result (WritesAdmitted
-        (AdmittedBy M.EncodeMetric registry.now)
+    ensures document { OnOk result (Writes
+        (IsAdmittedText (AdmittedBy M.EncodeMetric registry.now))
         (W.contents writer.old) (W.contents writer.new)) }
     // A refusal in collecting writes nothing, and names a fault that the tree has.
     ensures refused { IfErr result (λ k. ¬ (IsWritersFault k)
         → Keeps (W.contents writer.old) (W.contents writer.new)
         × ((k ≡ EncodeError.Memory) ⊎ HasFault M.EncodeMetric k registry.now)) }
     // After an error of the writer, a beginning of such a document was written.
-    ensures stopped { IfErr result (λ k. IsWritersFault k → BeginsAdmitted
-        (AdmittedBy M.EncodeMetric registry.now)
+    ensures stopped { IfErr result (λ k. IsWritersFault k → BeginsToWrite
+        (IsAdmittedText (AdmittedBy M.EncodeMetric registry.now))
         (W.contents writer.old) (W.contents writer.new)) }
 {
     let lines = document_lines(alloc, registry)?;

@@ -12,7 +12,7 @@ ghost use Rattle.fm_registry_model.specs.Lists.{seen_labels};
 ghost use Rattle.fm_registry_model.specs.inside.Fitting.{HasFittingHistory};
 ghost use Rattle.fm_registry_model.specs.Listing.{listed_tree};
 ghost use Rattle.fm_core.specs.Admits.{AdmittedBy};
-ghost use Rattle.fm_core.specs.Encoded.{IsAdmittedText, WritesAdmitted, BeginsAdmitted};
+ghost use Rattle.fm_core.specs.Encoded.{IsAdmittedText, Writes, BeginsToWrite};
 ghost use Rattle.fm_core.specs.Lint.{seen_warning, warnings_of_all};
 ghost use Rattle.fm_core.specs.Named.{named_metric};
 ghost use Rattle.fastmetrics.specs.Roots.{AddsOrNot, AddsKept, Enters};
@@ -277,15 +277,15 @@ impl<H: Waiter, X: EncodeMetric> Root<H, X> {
 
     /// Writes the document of the registry, as `encode` does for it, with its errors.
     pub fn encode<W: Write>(&self, writer: &mut W) -> Result<(), EncodeError>
-        ensures document { OnOk result (WritesAdmitted
-            (AdmittedBy ⟦<Metric<H, X> as EncodeMetric>⟧ self.now.at.tree)
+        ensures document { OnOk result (Writes
+            (⟦<Root<H, X> as Shown>⟧.is_document self.now)
             (W.contents writer.old) (W.contents writer.new)) }
         ensures refused { IfErr result (λ k. ¬ (IsWritersFault k)
             → Keeps (W.contents writer.old) (W.contents writer.new)
             × ((k ≡ EncodeError.Memory)
             ⊎ HasOwnFault X.EncodeMetric k self.now.at.tree)) }
-        ensures stopped { IfErr result (λ k. IsWritersFault k → BeginsAdmitted
-            (AdmittedBy ⟦<Metric<H, X> as EncodeMetric>⟧ self.now.at.tree)
+        ensures stopped { IfErr result (λ k. IsWritersFault k → BeginsToWrite
+            (⟦<Root<H, X> as Shown>⟧.is_document self.now)
             (W.contents writer.old) (W.contents writer.new)) }
     {
         only_own_faults::<H, X>();
