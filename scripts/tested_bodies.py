@@ -53,7 +53,7 @@ def copied_to(folder):
 
 
 def without_other_tests(folder, crate, bodies):
-    """Leaves out of a copy of a crate the tests that no body names: they run by themselves (scripts/try_tests.sh)."""
+    """Leaves out of a copy of a crate the tests that no body names: they run by themselves (scripts/test.sh)."""
     named = set().union(*(tests_of(body)[1] for body in bodies))
     if not all(tests_of(body)[1] for body in bodies):
         return
@@ -226,7 +226,7 @@ def main():
                 how = f"refused by {tests_of(body)[0]} {' '.join(failed[:3])}" if failed else "NOT REFUSED: " + " / ".join(said.strip().split("\n")[-3:])[:400]
                 print(f"tested body of {body.crate.name}, {body.title}: {how}", flush=True)
             for name in sorted(it for it, passes in ran.items() if not passes):
-                print(f"FAILED with no body: {name}, {'a script (scripts/replay.sh)' if are_scripts(job[0]) else 'a test (scripts/try_tests.sh)'}")
+                print(f"FAILED with no body: {name}, {'a script (scripts/replay.sh)' if are_scripts(job[0]) else 'a test (scripts/test.sh)'}")
             if ran:
                 passed = sum(ran.values())
                 bad += len(ran) - passed
