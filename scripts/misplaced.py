@@ -1,5 +1,6 @@
 #!/usr/bin/env python3
-"""Prints the definitions of specs/ that no public clause reaches: they belong into specs/inside/.
+"""Prints the definitions of specs/ that no public clause reaches: they belong into specs/inside/; and the bodies of must-fail/ whose old text doesn't stand
+in its file once, so that they can't be planted.
 
     scripts/misplaced.py [CRATE..]
 
@@ -14,6 +15,7 @@ import sys
 sys.dont_write_bytecode = True
 
 from definitions import TOP, import_of, module, reach, words_of
+from wrong_bodies import Crate, listed
 
 SIGNATURE = re.compile(r"(pub(\([^)]*\))?\s+)?(const\s+)?(unsafe\s+)?fn\s")
 BLOCK = re.compile(r"(pub(\([^)]*\))?\s+)?(trait|impl)\b")
@@ -95,12 +97,24 @@ def home(start):
     return start
 
 
+def without_place(crate):
+    """The bodies of a crate, to be refused by the check or by tests, whose old text doesn't stand in its file once."""
+    for body in (it for name in ("wrong_bodies", "tested_bodies") for it in listed(Crate(crate.name, []), name)):
+        path = crate / body.file
+        text = path.read_text() if path.is_file() else ""
+        yield from (f"{body.title} ({body.file}, {text.count(old)} times)" for old, _ in body.pairs if text.count(old) != 1)
+
+
 def main():
     found = False
     crates = sorted(it for it in (TOP / "crates").iterdir() if (it / "src").is_dir())
     starts = {home(it) for crate in crates for path in crate.glob("src/**/*.rt") for it in Source(path).cited()}
     public = reach(starts)
     chosen = [it for it in crates if it.name in sys.argv[1:] or len(sys.argv) == 1 and (it / "src/lib.rt").exists()]
+    for crate in crates if len(sys.argv) == 1 else chosen:
+        for body in without_place(crate):
+            print(f"its old text has to stand once: {crate.name}, {body}")
+            found = True
     for crate in chosen:
         for path in sorted(crate.glob("specs/**/*.antt")):
             name = str(path.relative_to(TOP / "crates"))[: -len(".antt")].replace("/", ".")

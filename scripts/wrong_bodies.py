@@ -1,7 +1,7 @@
 #!/usr/bin/env python3
 """Tries the wrong bodies of the crates, each of which the check must refuse.
 
-    scripts/wrong_bodies.py [--follow LOG | --right | --full | --places] [CRATE..]        those of all crates, or of these
+    scripts/wrong_bodies.py [--follow LOG | --right | --full] [CRATE..]        those of all crates, or of these
 
 A crate lists its wrong bodies in must-fail/wrong_bodies.md: below a heading of its own, a line `file: src/FILE`, and pairs of lines
 `old: TEXT` and `new: TEXT`. Each old text stands in the file once.
@@ -27,7 +27,6 @@ is NOT REFUSED. It has to become another body, or one that a test refuses (`scri
 The libraries below a crate have to be built, in the crates' out/rlib, as `rt ci` leaves them. With --follow LOG, the output of an `rt ci` that
 still runs, a crate is tried once it is proved there, with all processors but one until the run ends; the libraries are linked into a
 folder as they are proved, since the run's end may put back older ones. What was refused before on this machine isn't tried again (scripts/kept.py).
-With --places nothing is tried: it names those, and those for tests, whose old text doesn't stand in its file once.
 Prints a line for each wrong body, and then 'N refused, M not refused'; the status is 0 if M is 0.
 """
 import argparse
@@ -363,30 +362,13 @@ def said_of_what_is_right(left, crates):
     return 1 if counts[1] else 0
 
 
-def said_of_places(crates):
-    """Prints the bodies of both lists whose old text doesn't stand in its file once."""
-    moved = 0
-    for crate in crates:
-        for body in (it for name in ("wrong_bodies", "tested_bodies") for it in listed(crate, name)):
-            path = f"{crate.folder}/{body.file}"
-            text = text_of(path) if os.path.isfile(path) else ""
-            for old, _ in body.pairs:
-                if text.count(old) != 1:
-                    print(f"{crate.name}, {body.title}: an old text stands in {body.file} {text.count(old)} times, and not once")
-                    moved += 1
-    return 1 if moved else 0
-
-
 def main():
     words = argparse.ArgumentParser(usage=__doc__)
     words.add_argument("--follow")
     words.add_argument("--right", action="store_true")
     words.add_argument("--full", action="store_true")
-    words.add_argument("--places", action="store_true")
     words.add_argument("crates", nargs="*")
     given, crates = words.parse_args(), crates_of()
-    if given.places:
-        return said_of_places(crates.values())
     left = [it for name, it in crates.items() if (not given.crates or name in given.crates) and it.batches()]
     # Those with the most bodies first, so that no long check is the last.
     left.sort(key=lambda it: -len(listed(it, "wrong_bodies")))
