@@ -3,7 +3,7 @@ ghost use Rattle.std.specs.Prelude.{◌≡◌, IfOk, IfErr, codes};
 ghost use Rattle.fm_raw.specs.MetricErrors.{error_number as metric_number};
 ghost use Rattle.fm_raw.specs.BucketErrors.{error_number as bucket_number};
 ghost use Rattle.fm_tally.specs.TallyErrors.{error_number as tally_number};
-ghost use Rattle.fm_registry_model.specs.RegistryErrors.{error_number as registry_number};
+ghost use Rattle.fm_registry_rules.specs.RegistryErrors.{error_number as registry_number};
 ghost use Rattle.fm_raw.specs.EncodeErrors.{error_number as encode_number};
 ghost use Rattle.fm_raw.specs.declared.encode_error.EncodeError.{EncodeError as AnEncodeError};
 ghost use Rattle.fastmetrics.specs.HasHistory.{HasHistory};

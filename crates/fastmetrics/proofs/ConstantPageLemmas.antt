@@ -7,8 +7,8 @@ use Rattle.fm_grammar.specs.Law.{IsDocumentOf}
 use Rattle.fm_grammar.proofs.Spellings.{document_spelling}
 use Rattle.fm_exposition.specs.inside.DocumentRows.{document_rows}
 use Rattle.fm_exposition.proofs.RowLemmas.{document_is}
-use Rattle.fm_registry_model.specs.Registration.{printed_unit}
-use Rattle.fm_registry_model.specs.Listing.{Listed, listed_name}
+use Rattle.fm_registry_rules.specs.Registration.{printed_unit}
+use Rattle.fm_registry_rules.specs.Listing.{Listed, listed_name}
 use Rattle.fm_labels.specs.Labels.{EmittedLabel}
 use Rattle.fm_labels.proofs.NameLemmas.{emitted_again-pairs}
 use Rattle.fm_encoder.specs.Points.{Member, InfoPoint, members_samples}

@@ -5,11 +5,11 @@ use Rattle.std.specs.String.{string_bytes}
 use Rattle.std.specs.declared.alloc.Global.{Global}
 use Rattle.fm_grammar.specs.LabelPairs.{label_of, labels_of}
 use Rattle.fm_grammar.specs.Exposition.{Label}
-use Rattle.fm_registry_model.specs.LabelNames.{shown_texts}
+use Rattle.fm_registry_rules.specs.LabelNames.{shown_texts}
 use Rattle.std.proofs.lemmas.List.{take_more, map-append}
 use Rattle.std.specs.Borrow.{Bor}
-use Rattle.fm_registry_model.specs.Texts.{Text, has_text}
-use Rattle.fm_registry_model.specs.Answer.{Refusal, DuplicateLabel}
+use Rattle.fm_registry_rules.specs.Texts.{Text, has_text}
+use Rattle.fm_registry_rules.specs.Answer.{Refusal, DuplicateLabel}
 use Rattle.fastmetrics.specs.Roots.{constants_refusal}
 
 -- no refusal: the test was false, and there was none later

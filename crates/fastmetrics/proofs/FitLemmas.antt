@@ -6,11 +6,11 @@ use Rattle.std.specs.Cmp.Lexicographic.{bytes_decides}
 use Rattle.fm_grammar.specs.declared.MetricType.{MetricType}
 use Rattle.fm_grammar.specs.declared.MetricType.TheVariants as type
 use Rattle.fm_grammar.specs.Names.{IsLabelName}
-use Rattle.fm_registry_model.specs.Texts.{Text, Labels, has_text}
-use Rattle.fm_registry_model.specs.Answer.{Refusal, DuplicateLabel, Memory, refusal_of, or_then}
-use Rattle.fm_registry_model.specs.declared.RegistryError.{RegistryError}
-use Rattle.fm_registry_model.specs.LabelNames.{AreLabelNames, names_refusal, IsOrMemory}
-use Rattle.fm_registry_model.proofs.NameListLemmas.{names_valid}
+use Rattle.fm_registry_rules.specs.Texts.{Text, Labels, has_text}
+use Rattle.fm_registry_rules.specs.Answer.{Refusal, DuplicateLabel, Memory, refusal_of, or_then}
+use Rattle.fm_registry_rules.specs.declared.RegistryError.{RegistryError}
+use Rattle.fm_registry_rules.specs.LabelNames.{AreLabelNames, names_refusal, IsOrMemory}
+use Rattle.fm_registry_rules.proofs.NameListLemmas.{names_valid}
 use Rattle.fm_labels.specs.Labels.{IsReserved, NameFits, label_names}
 use Rattle.fm_labels.specs.ReservedNames.{reserved_refusal}
 use Rattle.fm_labels.specs.inside.FittingNames.{NamesFit}

@@ -2,15 +2,15 @@
 use Rattle.std.proofs.Common.{Option, Some, None, IfSome, Result, Ok, Err, sym, subst}
 use Rattle.fm_grammar.specs.declared.MetricType.{MetricType}
 use Rattle.fm_raw.specs.declared.metadata.Unit as unit
-use Rattle.fm_registry_model.specs.Texts.{Text, Path, Labels, printed_name}
+use Rattle.fm_registry_rules.specs.Texts.{Text, Path, Labels, printed_name}
 use Rattle.std.specs.Option.{option_map}
 use Rattle.fm_raw.specs.Units.{seen_unit}
-use Rattle.fm_registry_model.specs.Registration.{Registration, printed_unit}
-use Rattle.fm_registry_model.specs.Tree.{Tree, subtree_from}
-use Rattle.fm_registry_model.specs.Listing.{Listed}
-use Rattle.fm_registry_model.specs.inside.Fitting.{FitsAt, HasFittingHistory}
-use Rattle.fm_registry_model.specs.declared.RegistryError.{RegistryError}
-use Rattle.fm_registry_model.proofs.FittingTreeLemmas.{fitting-root, fitting-subsystem}
+use Rattle.fm_registry_rules.specs.Registration.{Registration, printed_unit}
+use Rattle.fm_registry_rules.specs.Tree.{Tree, subtree_from}
+use Rattle.fm_registry_rules.specs.Listing.{Listed}
+use Rattle.fm_registry_rules.specs.inside.Fitting.{FitsAt, HasFittingHistory}
+use Rattle.fm_registry_rules.specs.declared.RegistryError.{RegistryError}
+use Rattle.fm_registry_rules.proofs.FittingTreeLemmas.{fitting-root, fitting-subsystem}
 use Rattle.fm_core.specs.HasHistory.{IsNewRoot}
 use Rattle.fm_core.specs.Named.{named_metric}
 use Rattle.fm_core.proofs.FittingLemmas.{fitting_registers}

@@ -5,11 +5,11 @@ use Rattle.std.proofs.lemmas.List.{nil_from_length}
 use Rattle.fm_grammar.specs.declared.MetricType.{MetricType}
 use Rattle.fm_raw.specs.declared.metadata.Unit as unit
 use Rattle.fm_grammar.specs.LabelPairs.{labels_of}
-use Rattle.fm_registry_model.specs.Texts.{Text, Path, Labels}
-use Rattle.fm_registry_model.specs.History.{History, Call, Register, Subsystem}
-use Rattle.fm_registry_model.specs.Answer.{Refusal, Memory, refusal_of, seen_error, after}
-use Rattle.fm_registry_model.specs.Tree.{Tree, Reads}
-use Rattle.fm_registry_model.specs.declared.RegistryError.{RegistryError}
+use Rattle.fm_registry_rules.specs.Texts.{Text, Path, Labels}
+use Rattle.fm_registry_rules.specs.History.{History, Call, Register, Subsystem}
+use Rattle.fm_registry_rules.specs.Answer.{Refusal, Memory, refusal_of, seen_error, after}
+use Rattle.fm_registry_rules.specs.Tree.{Tree, Reads}
+use Rattle.fm_registry_rules.specs.declared.RegistryError.{RegistryError}
 use Rattle.fm_core.specs.Calls.{RunsCall, IsCall, seen_path}
 use Rattle.fm_core.specs.declared.registry.tree.run.RegistryCall.{RegistryCall}
 use Rattle.fm_core.specs.Named.{named_metric}

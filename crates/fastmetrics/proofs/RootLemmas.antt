@@ -5,18 +5,18 @@ use Rattle.std.specs.String.{string_bytes}
 use Rattle.fm_grammar.specs.declared.MetricType.{MetricType}
 use Rattle.fm_raw.specs.declared.metadata.Unit as unit
 use Rattle.fm_grammar.specs.LabelPairs.{labels_of}
-use Rattle.fm_registry_model.specs.Texts.{Text, Path, Labels}
-use Rattle.fm_registry_model.specs.Registration.{Registration}
-use Rattle.fm_registry_model.specs.History.{History, Register, Subsystem}
-use Rattle.fm_registry_model.specs.Answer.{Refusal, IsReturned, refusal_of, answer, after}
-use Rattle.fm_registry_model.specs.Running.{IsReply}
-use Rattle.fm_registry_model.specs.Tree.{Tree, Reads}
-use Rattle.fm_registry_model.specs.declared.RegistryError.{RegistryError}
+use Rattle.fm_registry_rules.specs.Texts.{Text, Path, Labels}
+use Rattle.fm_registry_rules.specs.Registration.{Registration}
+use Rattle.fm_registry_rules.specs.History.{History, Register, Subsystem}
+use Rattle.fm_registry_rules.specs.Answer.{Refusal, IsReturned, refusal_of, answer, after}
+use Rattle.fm_registry_rules.specs.Running.{IsReply}
+use Rattle.fm_registry_rules.specs.Tree.{Tree, Reads}
+use Rattle.fm_registry_rules.specs.declared.RegistryError.{RegistryError}
 use Rattle.fm_core.specs.Calls.{seen_path, RunsCall}
 use Rattle.fm_core.specs.HasHistory.{Grows}
 use Rattle.fm_core.specs.declared.registry.tree.run.RegistryCall.{RegistryCall}
 use Rattle.fm_core.specs.Named.{named_metric}
-use Rattle.fm_registry_model.specs.LabelNames.{IsOrMemory}
+use Rattle.fm_registry_rules.specs.LabelNames.{IsOrMemory}
 use Rattle.fastmetrics.specs.Roots.{RootState, Adds, AddsClone, AddsKept, MakesNamed, Enters}
 use Rattle.fastmetrics.specs.inside.Requests.{Registering, Asking}
 

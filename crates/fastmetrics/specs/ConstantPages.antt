@@ -5,8 +5,8 @@ use Rattle.std.specs.Option.{option_map}
 use Rattle.fm_grammar.specs.Exposition.{Text, Family, Whole, Fixed}
 use Rattle.fm_grammar.specs.LabelPairs.{labels_of}
 use Rattle.fm_exposition.specs.Rows.{head_rows, sample_rows}
-use Rattle.fm_registry_model.specs.Registration.{printed_unit}
-use Rattle.fm_registry_model.specs.Listing.{Listed, listed_name}
+use Rattle.fm_registry_rules.specs.Registration.{printed_unit}
+use Rattle.fm_registry_rules.specs.Listing.{Listed, listed_name}
 use Rattle.fm_labels.specs.Labels.{emitted_again}
 use Rattle.fm_encoder.specs.Points.{Point, UnknownPoint, GaugePoint, CounterPoint, InfoPoint, Member, members_samples, millis}
 use Rattle.fm_encoder.specs.Offers.{context_at}

@@ -9,13 +9,13 @@ use Rattle.fm_grammar.specs.declared.MetricType.TheVariants as type
 use Rattle.fm_raw.specs.declared.encode_error.EncodeError.{EncodeError}
 use Rattle.fm_raw.specs.declared.metadata.Unit as unit
 use Rattle.fm_raw.specs.Units.{seen_unit}
-use Rattle.fm_registry_model.specs.Texts.{Text, Labels, has_text, printed_name}
-use Rattle.fm_registry_model.specs.Registration.{printed_unit}
-use Rattle.fm_registry_model.specs.Answer.{Refusal, DuplicateLabel, or_then}
-use Rattle.fm_registry_model.specs.LabelNames.{names_refusal}
-use Rattle.fm_registry_model.specs.History.{History}
-use Rattle.fm_registry_model.specs.Tree.{Tree, Shows, subtree_from}
-use Rattle.fm_registry_model.specs.Listing.{Listed, listed_name, order}
+use Rattle.fm_registry_rules.specs.Texts.{Text, Labels, has_text, printed_name}
+use Rattle.fm_registry_rules.specs.Registration.{printed_unit}
+use Rattle.fm_registry_rules.specs.Answer.{Refusal, DuplicateLabel, or_then}
+use Rattle.fm_registry_rules.specs.LabelNames.{names_refusal}
+use Rattle.fm_registry_rules.specs.History.{History}
+use Rattle.fm_registry_rules.specs.Tree.{Tree, Shows, subtree_from}
+use Rattle.fm_registry_rules.specs.Listing.{Listed, listed_name, order}
 use Rattle.fm_encoder.specs.Offers.{MetricHasFault}
 use Rattle.fm_encoder.specs.declared.metric.EncodeMetric.{Ghosts}
 use Rattle.fm_labels.specs.ReservedNames.{reserved_refusal}

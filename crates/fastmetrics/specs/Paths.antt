@@ -2,12 +2,12 @@
 use Rattle.std.specs.Prelude.{◌≡◌, ◌⊎◌, ◌++◌, ◌∷◌, [], List, Option, None, Some, map}
 use Rattle.std.specs.Borrow.{Bor}
 use Rattle.fm_grammar.specs.declared.MetricType.{MetricType}
-use Rattle.fm_registry_model.specs.Texts.{Text, Path}
-use Rattle.fm_registry_model.specs.Registration.{Registration}
-use Rattle.fm_registry_model.specs.History.{History, Call, Register, Subsystem}
-use Rattle.fm_registry_model.specs.Answer.{Refusal, Memory, after}
-use Rattle.fm_registry_model.specs.Running.{IsReply, after_reply}
-use Rattle.fm_registry_model.specs.Tree.{Tree, Reads}
+use Rattle.fm_registry_rules.specs.Texts.{Text, Path}
+use Rattle.fm_registry_rules.specs.Registration.{Registration}
+use Rattle.fm_registry_rules.specs.History.{History, Call, Register, Subsystem}
+use Rattle.fm_registry_rules.specs.Answer.{Refusal, Memory, after}
+use Rattle.fm_registry_rules.specs.Running.{IsReply, after_reply}
+use Rattle.fm_registry_rules.specs.Tree.{Tree, Reads}
 
 -- the names of a path that are borrowed
 abbrev pub shown_path : List (Bor Text) → Path

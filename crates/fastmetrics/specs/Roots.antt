@@ -1,14 +1,14 @@
 -- How contracts see a root: its tree, and the subsystem in which it registers.
 use Rattle.std.specs.Prelude.{◌≡◌, ◌⊎◌, ◌++◌, ◌∷◌, ℕ, [], List, if◌then◌else◌, Option, None, Some, Result, Ok, Err, OnOk, OnErr, MatchResult}
 use Rattle.fm_grammar.specs.declared.MetricType.{MetricType}
-use Rattle.fm_registry_model.specs.Texts.{Text, Path, Labels, has_text}
-use Rattle.fm_registry_model.specs.Registration.{Registration}
-use Rattle.fm_registry_model.specs.declared.RegistryError.{RegistryError}
-use Rattle.fm_registry_model.specs.declared.RegistryError.TheVariants.{Memory}
-use Rattle.fm_registry_model.specs.History.{History, Subsystem}
-use Rattle.fm_registry_model.specs.Answer.{Refusal, DuplicateLabel, seen_error, refusal_of, or_then, after}
-use Rattle.fm_registry_model.specs.Running.{IsReply}
-use Rattle.fm_registry_model.specs.Tree.{Tree, Reads, subtree_from}
+use Rattle.fm_registry_rules.specs.Texts.{Text, Path, Labels, has_text}
+use Rattle.fm_registry_rules.specs.Registration.{Registration}
+use Rattle.fm_registry_rules.specs.declared.RegistryError.{RegistryError}
+use Rattle.fm_registry_rules.specs.declared.RegistryError.TheVariants.{Memory}
+use Rattle.fm_registry_rules.specs.History.{History, Subsystem}
+use Rattle.fm_registry_rules.specs.Answer.{Refusal, DuplicateLabel, seen_error, refusal_of, or_then, after}
+use Rattle.fm_registry_rules.specs.Running.{IsReply}
+use Rattle.fm_registry_rules.specs.Tree.{Tree, Reads, subtree_from}
 use Rattle.fm_labels.specs.ReservedNames.{family_names_refusal}
 use Rattle.fm_core.specs.HasHistory.{Grows}
 use Rattle.fm_core.specs.Registers.{RegistersAt}

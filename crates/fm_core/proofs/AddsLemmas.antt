@@ -4,8 +4,8 @@ use Rattle.std.specs.String.{string_bytes}
 use Rattle.fm_grammar.specs.declared.MetricType.{MetricType}
 use Rattle.fm_grammar.specs.Exposition.{Text}
 use Rattle.fm_raw.specs.declared.metadata.Unit as unit
-use Rattle.fm_registry_model.specs.Tree.{Tree}
-use Rattle.fm_registry_model.specs.declared.RegistryError.{RegistryError}
+use Rattle.fm_registry_rules.specs.Tree.{Tree}
+use Rattle.fm_registry_rules.specs.declared.RegistryError.{RegistryError}
 use Rattle.fm_core.specs.Registers.{Registers}
 use Rattle.fm_core.specs.View.{asked_metric}
 use Rattle.fm_core.specs.Named.{named_metric, Adds}

@@ -6,13 +6,13 @@ use Rattle.fm_grammar.specs.declared.MetricType.{MetricType}
 use Rattle.fm_raw.specs.Units.{seen_unit}
 use Rattle.fm_raw.specs.declared.metadata.Metadata.{Metadata}
 use Rattle.fm_raw.specs.declared.metadata.Unit as unit
-use Rattle.fm_registry_model.specs.Registration.{Registration}
-use Rattle.fm_registry_model.specs.History.{History, Register}
-use Rattle.fm_registry_model.specs.Tree.{Tree, Reads, names_in}
-use Rattle.fm_registry_model.specs.Answer.{Refusal, IsReturned, metric_refusal, answer}
-use Rattle.fm_registry_model.specs.inside.Refusals.{name_refusal, standing_refusal}
-use Rattle.fm_registry_model.proofs.AnswerLemmas.{metric_refusal-named, metric_refusal-refused}
-use Rattle.fm_registry_model.proofs.TreeLemmas.{reads_root}
+use Rattle.fm_registry_rules.specs.Registration.{Registration}
+use Rattle.fm_registry_rules.specs.History.{History, Register}
+use Rattle.fm_registry_rules.specs.Tree.{Tree, Reads, names_in}
+use Rattle.fm_registry_rules.specs.Answer.{Refusal, IsReturned, metric_refusal, answer}
+use Rattle.fm_registry_rules.specs.inside.Refusals.{name_refusal, standing_refusal}
+use Rattle.fm_registry_rules.proofs.AnswerLemmas.{metric_refusal-named, metric_refusal-refused}
+use Rattle.fm_registry_rules.proofs.TreeLemmas.{reads_root}
 use Rattle.fm_core.specs.View.{asked, seen_metric}
 
 module _ {M : Type 0} (t : Tree M) where

@@ -12,11 +12,11 @@ use Rattle.fm_grammar.proofs.Runs.{all_append}
 use Rattle.fm_raw.specs.declared.encode_error.EncodeError.{EncodeError}
 use Rattle.fm_raw.specs.declared.encode_error.EncodeError.TheVariants.{Memory}
 use Rattle.fm_exposition.specs.Written.{IsWritersFault}
-use Rattle.fm_registry_model.specs.History.{History}
-use Rattle.fm_registry_model.specs.Registration.{Registration}
-use Rattle.fm_registry_model.specs.Tree.{Facts, Tree, Reads}
-use Rattle.fm_registry_model.specs.Listing.{Listed, listed_name, listed_with, own_metrics, IsListable, order}
-use Rattle.fm_registry_model.proofs.NameLemmas.{printed_names-different}
+use Rattle.fm_registry_rules.specs.History.{History}
+use Rattle.fm_registry_rules.specs.Registration.{Registration}
+use Rattle.fm_registry_rules.specs.Tree.{Facts, Tree, Reads}
+use Rattle.fm_registry_rules.specs.Listing.{Listed, listed_name, listed_with, own_metrics, IsListable, order}
+use Rattle.fm_registry_rules.proofs.NameLemmas.{printed_names-different}
 use Rattle.fm_encoder.specs.declared.metric.EncodeMetric.{Ghosts}
 use Rattle.fm_labels.specs.Refusals.{result_of}
 use Rattle.fm_encoder.proofs.FaultLemmas.{MetricHasFault-not_writing}

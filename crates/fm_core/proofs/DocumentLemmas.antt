@@ -10,9 +10,9 @@ use Rattle.fm_grammar.specs.WellFormed.{IsFamily}
 use Rattle.fm_grammar.specs.Reading.{IsExposition}
 use Rattle.fm_grammar.proofs.Runs.{all_append}
 use Rattle.fm_raw.specs.Units.{seen_unit}
-use Rattle.fm_registry_model.specs.Texts.{prefixed_name, suffixed_name, printed_name}
-use Rattle.fm_registry_model.specs.Registration.{printed_unit}
-use Rattle.fm_registry_model.specs.Listing.{Listed, listed_name, IsListable}
+use Rattle.fm_registry_rules.specs.Texts.{prefixed_name, suffixed_name, printed_name}
+use Rattle.fm_registry_rules.specs.Registration.{printed_unit}
+use Rattle.fm_registry_rules.specs.Listing.{Listed, listed_name, IsListable}
 use Rattle.fm_exposition.specs.Rows.{sample_rows}
 use Rattle.fm_exposition.specs.inside.DocumentRows.{family_rows, families_rows}
 use Rattle.fm_raw.specs.declared.encode_error.EncodeError.{EncodeError}

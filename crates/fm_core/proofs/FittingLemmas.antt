@@ -4,15 +4,15 @@ use Rattle.std.specs.List.{Any, AllByRecursion}
 use Rattle.fm_grammar.specs.declared.MetricType.{MetricType}
 use Rattle.fm_grammar.proofs.Runs.{all_weaker}
 use Rattle.fm_raw.specs.declared.encode_error.EncodeError.{EncodeError}
-use Rattle.fm_registry_model.specs.Texts.{Path}
-use Rattle.fm_registry_model.specs.Registration.{Registration}
-use Rattle.fm_registry_model.specs.History.{History, Register, labels_at, namespace_at}
-use Rattle.fm_registry_model.specs.Answer.{answer}
-use Rattle.fm_registry_model.specs.Tree.{Tree, Shows, Reads}
-use Rattle.fm_registry_model.specs.Listing.{Listed, IsListable, order}
-use Rattle.fm_registry_model.specs.inside.Fitting.{FitsAt, HasFittingHistory}
-use Rattle.fm_registry_model.specs.declared.RegistryError.{RegistryError}
-use Rattle.fm_registry_model.proofs.FittingTreeLemmas.{fits_there, fitting-accepted, shown_fits, shown_listable}
+use Rattle.fm_registry_rules.specs.Texts.{Path}
+use Rattle.fm_registry_rules.specs.Registration.{Registration}
+use Rattle.fm_registry_rules.specs.History.{History, Register, labels_at, namespace_at}
+use Rattle.fm_registry_rules.specs.Answer.{answer}
+use Rattle.fm_registry_rules.specs.Tree.{Tree, Shows, Reads}
+use Rattle.fm_registry_rules.specs.Listing.{Listed, IsListable, order}
+use Rattle.fm_registry_rules.specs.inside.Fitting.{FitsAt, HasFittingHistory}
+use Rattle.fm_registry_rules.specs.declared.RegistryError.{RegistryError}
+use Rattle.fm_registry_rules.proofs.FittingTreeLemmas.{fits_there, fitting-accepted, shown_fits, shown_listable}
 use Rattle.fm_encoder.specs.Points.{Member}
 use Rattle.fm_core.specs.HasHistory.{HasHistory}
 use Rattle.fm_core.specs.Registers.{RegistersAt}

@@ -4,14 +4,14 @@ use Rattle.std.specs.Option.{option_map}
 use Rattle.std.specs.Vec.{with_item}
 use Rattle.std.proofs.Common.{Vec, Global}
 use Rattle.std.proofs.lemmas.Option.{slice_get-get_or}
-use Rattle.fm_registry_model.specs.Lists.{items_of}
+use Rattle.fm_registry_rules.specs.Lists.{items_of}
 use Rattle.std.specs.List.{position_from}
 use Rattle.std.specs.Str.{bytes_eq}
 use Rattle.std.specs.String.{string_bytes}
-use Rattle.fm_registry_model.specs.Texts.{Text}
-use Rattle.fm_registry_model.specs.Tree.{Child, find_child}
-use Rattle.fm_registry_model.specs.inside.Forests.{nth_in, nth_name, with_nth, index_from, index_in}
-use Rattle.fm_registry_model.proofs.ForestLemmas.{index_in-IsIndex}
+use Rattle.fm_registry_rules.specs.Texts.{Text}
+use Rattle.fm_registry_rules.specs.Tree.{Child, find_child}
+use Rattle.fm_registry_rules.specs.inside.Forests.{nth_in, nth_name, with_nth, index_from, index_in}
+use Rattle.fm_registry_rules.proofs.ForestLemmas.{index_in-IsIndex}
 use Rattle.fm_core.specs.inside.TreeView.{forest_of}
 use Rattle.fm_core.specs.declared.registry.tree.Subsystem.{Subsystem}
 

@@ -1,13 +1,13 @@
 -- The histories of a registry grow with each call.
 use Rattle.std.proofs.Common.{◌≡◌, List, [], ◌∷◌, ◌++◌, map, Option, None, Some, Result, Ok, Err, OnOk, OnErr, refl, sym, ap, subst, append-nil, append_assoc, ◌∙◌}
-use Rattle.fm_registry_model.specs.Texts.{Text, Labels}
-use Rattle.fm_registry_model.specs.History.{Call, History, Subsystem, with_more, in_front, history_below}
-use Rattle.fm_registry_model.specs.Answer.{Refusal, answer, gained, after, after_if}
-use Rattle.fm_registry_model.specs.Tree.{Tree, Reads}
-use Rattle.fm_registry_model.specs.Steps.{with_named, with_child, with_subsystem}
-use Rattle.fm_registry_model.specs.Loan.{LoanReads}
-use Rattle.fm_registry_model.specs.Running.{Runs}
-use Rattle.fm_registry_model.specs.declared.RegistryError.{RegistryError}
+use Rattle.fm_registry_rules.specs.Texts.{Text, Labels}
+use Rattle.fm_registry_rules.specs.History.{Call, History, Subsystem, with_more, in_front, history_below}
+use Rattle.fm_registry_rules.specs.Answer.{Refusal, answer, gained, after, after_if}
+use Rattle.fm_registry_rules.specs.Tree.{Tree, Reads}
+use Rattle.fm_registry_rules.specs.Steps.{with_named, with_child, with_subsystem}
+use Rattle.fm_registry_rules.specs.Loan.{LoanReads}
+use Rattle.fm_registry_rules.specs.Running.{Runs}
+use Rattle.fm_registry_rules.specs.declared.RegistryError.{RegistryError}
 use Rattle.fm_core.specs.HasHistory.{HasHistory, Grows}
 
 module _ {M : Type 0} where

@@ -4,9 +4,9 @@ use Rattle.std.specs.List.{flat_map}
 use Rattle.std.proofs.lemmas.Grind.{flat_map-append}
 use Rattle.fm_grammar.specs.Exposition.{Text}
 use Rattle.fm_grammar.specs.declared.MetricType.{MetricType}
-use Rattle.fm_registry_model.specs.Registration.{printed_unit}
-use Rattle.fm_registry_model.specs.Tree.{Tree}
-use Rattle.fm_registry_model.specs.Listing.{Listed, listed_name, own_metrics}
+use Rattle.fm_registry_rules.specs.Registration.{printed_unit}
+use Rattle.fm_registry_rules.specs.Tree.{Tree}
+use Rattle.fm_registry_rules.specs.Listing.{Listed, listed_name, own_metrics}
 use Rattle.fm_core.specs.Seen.{listed_in}
 use Rattle.fm_core.specs.Lint.{all_advice, warnings_among, warnings_of, warnings_of_all}
 use Rattle.fm_core.specs.declared.lint.Advice.{Advice}

@@ -5,14 +5,14 @@ use Rattle.std.proofs.lemmas.List.{take_more}
 use Rattle.std.proofs.lemmas.Option.{slice_get-map}
 use Rattle.std.proofs.lemmas.Grind.{flat_map-append}
 use Rattle.fm_raw.specs.declared.metadata.Metadata.{Metadata}
-use Rattle.fm_registry_model.specs.Texts.{Text, Labels}
-use Rattle.fm_registry_model.specs.Registration.{Registration}
-use Rattle.fm_registry_model.specs.Tree.{Tree}
-use Rattle.fm_registry_model.specs.Listing.{Listed, listed_with, own_metrics, listed_forest, listed_tree}
+use Rattle.fm_registry_rules.specs.Texts.{Text, Labels}
+use Rattle.fm_registry_rules.specs.Registration.{Registration}
+use Rattle.fm_registry_rules.specs.Tree.{Tree}
+use Rattle.fm_registry_rules.specs.Listing.{Listed, listed_with, own_metrics, listed_forest, listed_tree}
 use Rattle.fm_core.specs.View.{seen_metric}
 use Rattle.fm_core.specs.inside.TreeView.{seen_metrics, forest_of}
 use Rattle.fm_core.specs.Seen.{listed_in}
-use Rattle.fm_registry_model.specs.declared.names.Tailed.{Tailed}
+use Rattle.fm_registry_rules.specs.declared.names.Tailed.{Tailed}
 use Rattle.fm_core.specs.declared.registry.tree.Subsystem.{Subsystem}
 
 module _ {M : Type 0} where

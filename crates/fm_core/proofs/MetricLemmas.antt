@@ -12,11 +12,11 @@ use Rattle.fm_raw.specs.Units.{SeenUnit, seen_unit}
 use Rattle.fm_raw.specs.Metadata.{IsSameMetric}
 use Rattle.fm_raw.specs.declared.metadata.Metadata.{Metadata}
 use Rattle.fm_raw.proofs.MetadataLemmas.{types_decide}
-use Rattle.fm_registry_model.specs.Registration.{is_same_metric, same_type, same_bool, same_unit}
-use Rattle.fm_registry_model.proofs.MetricLemmas as history
+use Rattle.fm_registry_rules.specs.Registration.{is_same_metric, same_type, same_bool, same_unit}
+use Rattle.fm_registry_rules.proofs.MetricLemmas as history
 use Rattle.fm_core.specs.View.{seen_metric}
 use Rattle.fm_core.specs.inside.TreeView.{seen_metrics}
-use Rattle.fm_registry_model.specs.declared.names.Tailed.{Tailed}
+use Rattle.fm_registry_rules.specs.declared.names.Tailed.{Tailed}
 
 -- units
 

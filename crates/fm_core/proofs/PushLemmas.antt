@@ -2,15 +2,15 @@
 use Rattle.std.proofs.Common.{◌≡◌, ℕ, ◌+◌, true, false, List, [], ◌∷◌, ◌++◌, None, Some, Result, Ok, Err, OnOk, IfOk, length, if◌then◌else◌, sym, ap, ◌∙◌, arith}
 use Rattle.std.specs.Str.{bytes_eq}
 use Rattle.std.specs.String.{string_bytes}
-use Rattle.fm_registry_model.specs.Texts.{Text, Labels}
-use Rattle.fm_registry_model.specs.Tree.{Facts, Leaf, Child, Tree, find_child}
-use Rattle.fm_registry_model.specs.Steps.{add_child, new_facts, added_unless, with_subsystem}
-use Rattle.fm_registry_model.specs.inside.Forests.{new_tree, index_from, index_in}
+use Rattle.fm_registry_rules.specs.Texts.{Text, Labels}
+use Rattle.fm_registry_rules.specs.Tree.{Facts, Leaf, Child, Tree, find_child}
+use Rattle.fm_registry_rules.specs.Steps.{add_child, new_facts, added_unless, with_subsystem}
+use Rattle.fm_registry_rules.specs.inside.Forests.{new_tree, index_from, index_in}
 use Rattle.fm_core.specs.inside.TreeView.{forest_of}
 use Rattle.fm_core.specs.declared.registry.tree.Subsystem.{Subsystem}
-use Rattle.fm_registry_model.specs.declared.RegistryError.{RegistryError}
-use Rattle.fm_registry_model.proofs.TextLemmas.{bytes_eq-refl}
-use Rattle.fm_registry_model.proofs.PushLemmas.{find_child-none}
+use Rattle.fm_registry_rules.specs.declared.RegistryError.{RegistryError}
+use Rattle.fm_registry_rules.proofs.TextLemmas.{bytes_eq-refl}
+use Rattle.fm_registry_rules.proofs.PushLemmas.{find_child-none}
 
 module _ {M : Type 0} where
   index_from-pushed : (ss : List (Subsystem M)) (s : Subsystem M) (n : Text) (k : ℕ) → string_bytes s.name ≡ n → index_from k (forest_of ss) n ≡ None → index_from k (forest_of (ss ++ s ∷ [])) n ≡ Some (k + length ss)

@@ -4,16 +4,16 @@ use Rattle.std.specs.Prelude.{reverse}
 use Rattle.std.specs.String.{string_bytes}
 use Rattle.std.proofs.lemmas.List.{map-append}
 use Rattle.fm_grammar.specs.declared.MetricType.{MetricType}
-use Rattle.fm_registry_model.specs.Texts.{Text, Path}
-use Rattle.fm_registry_model.specs.History.{Call, History, in_front}
-use Rattle.fm_registry_model.specs.Tree.{Tree, Reads}
-use Rattle.fm_registry_model.specs.inside.Forests.{index_in}
-use Rattle.fm_registry_model.specs.Answer.{Refusal, NoSuchSubsystem, refusal_of, after}
-use Rattle.fm_registry_model.specs.Running.{Runs, IsReply, after_reply}
-use Rattle.fm_registry_model.specs.inside.Paths.{path_of}
-use Rattle.fm_registry_model.specs.declared.RegistryError.{RegistryError}
-use Rattle.fm_registry_model.proofs.ApplyLemmas.{apply-missing}
-use Rattle.fm_registry_model.proofs.RunLemmas.{Runs-more, path_of-++, path_of-reversed}
+use Rattle.fm_registry_rules.specs.Texts.{Text, Path}
+use Rattle.fm_registry_rules.specs.History.{Call, History, in_front}
+use Rattle.fm_registry_rules.specs.Tree.{Tree, Reads}
+use Rattle.fm_registry_rules.specs.inside.Forests.{index_in}
+use Rattle.fm_registry_rules.specs.Answer.{Refusal, NoSuchSubsystem, refusal_of, after}
+use Rattle.fm_registry_rules.specs.Running.{Runs, IsReply, after_reply}
+use Rattle.fm_registry_rules.specs.inside.Paths.{path_of}
+use Rattle.fm_registry_rules.specs.declared.RegistryError.{RegistryError}
+use Rattle.fm_registry_rules.proofs.ApplyLemmas.{apply-missing}
+use Rattle.fm_registry_rules.proofs.RunLemmas.{Runs-more, path_of-++, path_of-reversed}
 use Rattle.fm_core.specs.HasHistory.{HasHistory, Grows}
 use Rattle.fm_core.specs.inside.Request.{call_at}
 use Rattle.fm_core.specs.Calls.{IsCall, AreCalls, RunsCall, RunsCalls, seen_path}

@@ -3,10 +3,10 @@ use Rattle.std.proofs.Common.{◌≡◌, true, Option, None, Some, IfSome, IsTru
 use Rattle.std.specs.Prelude.{is_none}
 use Rattle.fm_grammar.specs.Names.{IsSnakeCase}
 use Rattle.fm_raw.proofs.NameLemmas.{snake_case_is}
-use Rattle.fm_registry_model.specs.Texts.{Text, Labels}
-use Rattle.fm_registry_model.specs.Answer.{Refusal, root_labels_refusal}
-use Rattle.fm_registry_model.specs.inside.RootLabels.{takes_namespace, takes_labels}
-use Rattle.fm_registry_model.proofs.RootLemmas.{root_labels_valid}
+use Rattle.fm_registry_rules.specs.Texts.{Text, Labels}
+use Rattle.fm_registry_rules.specs.Answer.{Refusal, root_labels_refusal}
+use Rattle.fm_registry_rules.specs.inside.RootLabels.{takes_namespace, takes_labels}
+use Rattle.fm_registry_rules.proofs.RootLemmas.{root_labels_valid}
 use Rattle.fm_core.specs.HasHistory.{IsNewRoot, root_tree}
 use Rattle.fm_core.proofs.SoundLemmas.{new_root}
 

@@ -4,16 +4,16 @@ use Rattle.std.specs.List.{AllByRecursion}
 use Rattle.fm_grammar.specs.Names.{IsSnakeCase}
 use Rattle.fm_grammar.specs.WellFormed.{AreLabels}
 use Rattle.fm_grammar.specs.declared.MetricType.{MetricType}
-use Rattle.fm_registry_model.specs.Texts.{Text, Labels}
-use Rattle.fm_registry_model.specs.Registration.{Registration}
-use Rattle.fm_registry_model.specs.History.{History, root_history, history_below, Register}
-use Rattle.fm_registry_model.specs.Answer.{after}
-use Rattle.fm_registry_model.specs.Tree.{Tree}
-use Rattle.fm_registry_model.specs.Loan.{LoanReads}
-use Rattle.fm_registry_model.specs.Listing.{IsListable, listed_tree}
-use Rattle.fm_registry_model.specs.declared.RegistryError.{RegistryError}
-use Rattle.fm_registry_model.proofs.RootLemmas.{reads-root_history}
-use Rattle.fm_registry_model.proofs.OrderLemmas.{listed_tree-fits}
+use Rattle.fm_registry_rules.specs.Texts.{Text, Labels}
+use Rattle.fm_registry_rules.specs.Registration.{Registration}
+use Rattle.fm_registry_rules.specs.History.{History, root_history, history_below, Register}
+use Rattle.fm_registry_rules.specs.Answer.{after}
+use Rattle.fm_registry_rules.specs.Tree.{Tree}
+use Rattle.fm_registry_rules.specs.Loan.{LoanReads}
+use Rattle.fm_registry_rules.specs.Listing.{IsListable, listed_tree}
+use Rattle.fm_registry_rules.specs.declared.RegistryError.{RegistryError}
+use Rattle.fm_registry_rules.proofs.RootLemmas.{reads-root_history}
+use Rattle.fm_registry_rules.proofs.OrderLemmas.{listed_tree-fits}
 use Rattle.fm_core.specs.HasHistory.{HasHistory, IsNewRoot, root_tree}
 use Rattle.fm_core.specs.Registers.{Registers}
 

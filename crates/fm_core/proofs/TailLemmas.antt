@@ -12,19 +12,19 @@ use Rattle.std.proofs.lemmas.Option.{get_or_from_slice_get}
 use Rattle.std.proofs.lemmas.Slice.Eq.{bytes_eq-Decides}
 use Rattle.fm_grammar.specs.Names.{AllDifferent}
 use Rattle.fm_raw.specs.declared.metadata.Metadata.{Metadata}
-use Rattle.fm_registry_model.specs.Texts.{Text, has_text}
-use Rattle.fm_registry_model.specs.Registration.{Registration, is_same_metric}
-use Rattle.fm_registry_model.specs.Taken.{tail_of, tails_of, is_below}
-use Rattle.fm_registry_model.specs.Tree.{names_in}
-use Rattle.fm_registry_model.specs.Answer.{AlreadyExists, NameTaken, first_of, has_metric}
-use Rattle.fm_registry_model.specs.inside.Refusals.{standing_refusal}
-use Rattle.fm_registry_model.proofs.MetricLemmas.{one_under_tail, absent_under_tail}
-use Rattle.fm_registry_model.specs.inside.Names.{refusal_beside}
+use Rattle.fm_registry_rules.specs.Texts.{Text, has_text}
+use Rattle.fm_registry_rules.specs.Registration.{Registration, is_same_metric}
+use Rattle.fm_registry_rules.specs.Taken.{tail_of, tails_of, is_below}
+use Rattle.fm_registry_rules.specs.Tree.{names_in}
+use Rattle.fm_registry_rules.specs.Answer.{AlreadyExists, NameTaken, first_of, has_metric}
+use Rattle.fm_registry_rules.specs.inside.Refusals.{standing_refusal}
+use Rattle.fm_registry_rules.proofs.MetricLemmas.{one_under_tail, absent_under_tail}
+use Rattle.fm_registry_rules.specs.inside.Names.{refusal_beside}
 use Rattle.fm_core.specs.View.{seen_metric}
 use Rattle.fm_core.specs.inside.TreeView.{seen_metrics, forest_of}
-use Rattle.fm_registry_model.specs.declared.names.Tailed.{Tailed}
+use Rattle.fm_registry_rules.specs.declared.names.Tailed.{Tailed}
 use Rattle.fm_core.specs.declared.registry.tree.Subsystem.{Subsystem}
-use Rattle.fm_registry_model.specs.contracts.names.TailedPartialEq.TheImpl as key
+use Rattle.fm_registry_rules.specs.contracts.names.TailedPartialEq.TheImpl as key
 
 -- keys are equal if their tails are
 tails_decide : (a b : Tailed) → Decides (key.ghosts.eq a b) (string_bytes a.tail ≡ string_bytes b.tail)

@@ -3,7 +3,7 @@ use Rattle.std.specs.Prelude.{◌≡◌, Result}
 use Rattle.std.specs.String.{string_bytes}
 use Rattle.std.specs.Borrow.{Fml, RattleType, MutBor, RestsIfErr}
 use Rattle.fm_grammar.specs.LabelPairs.{labels_of}
-use Rattle.fm_registry_model.specs.Tree.{Tree}
+use Rattle.fm_registry_rules.specs.Tree.{Tree}
 use Rattle.fm_core.specs.Lends.{lends_subsystem}
 use Rattle.fm_core.specs.contracts.registry.tree.Registry.{the_row}
 use Rattle.fm_core.specs.declared.registry.tree.Subsystem.{Subsystem}

@@ -4,13 +4,13 @@ use Rattle.std.specs.declared.alloc.Global.{Global}
 use Rattle.std.specs.String.{string_bytes}
 use Rattle.fm_grammar.specs.declared.MetricType.{MetricType}
 use Rattle.fm_grammar.specs.LabelPairs.{labels_of}
-use Rattle.fm_registry_model.specs.Texts.{Path}
-use Rattle.fm_registry_model.specs.History as history
-use Rattle.fm_registry_model.specs.History.{History, Call}
-use Rattle.fm_registry_model.specs.Answer.{Refusal, refusal_of, after}
-use Rattle.fm_registry_model.specs.Tree.{Tree, Reads}
-use Rattle.fm_registry_model.specs.Running.{Runs, IsReply}
-use Rattle.fm_registry_model.specs.declared.RegistryError.{RegistryError}
+use Rattle.fm_registry_rules.specs.Texts.{Path}
+use Rattle.fm_registry_rules.specs.History as history
+use Rattle.fm_registry_rules.specs.History.{History, Call}
+use Rattle.fm_registry_rules.specs.Answer.{Refusal, refusal_of, after}
+use Rattle.fm_registry_rules.specs.Tree.{Tree, Reads}
+use Rattle.fm_registry_rules.specs.Running.{Runs, IsReply}
+use Rattle.fm_registry_rules.specs.declared.RegistryError.{RegistryError}
 use Rattle.fm_core.specs.View.{asked_metric}
 use Rattle.fm_core.specs.declared.registry.tree.run.RegistryCall as given
 

@@ -4,8 +4,8 @@ use Rattle.fm_grammar.specs.Exposition.{Exposition}
 use Rattle.fm_raw.specs.declared.metadata.Metadata.{Metadata}
 use Rattle.fm_raw.specs.declared.encode_error.EncodeError.{EncodeError}
 use Rattle.fm_raw.specs.declared.encode_error.EncodeError.TheVariants.{Memory}
-use Rattle.fm_registry_model.specs.Texts.{Text, Labels}
-use Rattle.fm_registry_model.specs.Listing.{Listed}
+use Rattle.fm_registry_rules.specs.Texts.{Text, Labels}
+use Rattle.fm_registry_rules.specs.Listing.{Listed}
 use Rattle.fm_encoder.specs.declared.metric.EncodeMetric.{Ghosts}
 use Rattle.fm_core.specs.View.{seen_metric}
 use Rattle.fm_core.specs.Admits.{AdmitsNext, FaultOf}

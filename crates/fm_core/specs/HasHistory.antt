@@ -1,8 +1,8 @@
 -- What holds of every registry that its calls lead to: it reads a history.
 use Rattle.std.specs.Prelude.{◌≡◌, List, [], Option}
-use Rattle.fm_registry_model.specs.Texts.{Text, Labels}
-use Rattle.fm_registry_model.specs.History.{Call, History, root_history, with_more}
-use Rattle.fm_registry_model.specs.Tree.{Tree, Leaf, Reads}
+use Rattle.fm_registry_rules.specs.Texts.{Text, Labels}
+use Rattle.fm_registry_rules.specs.History.{Call, History, root_history, with_more}
+use Rattle.fm_registry_rules.specs.Tree.{Tree, Leaf, Reads}
 
 -- the tree reads some history
 pub record HasHistory {M : Type 0} (t : Tree M) : Type 0 where

@@ -2,9 +2,9 @@
 use Rattle.std.specs.Prelude.{Result}
 use Rattle.std.specs.String.{string_bytes}
 use Rattle.std.specs.Borrow.{Fml, RattleType, MutBor, Lends, LendsIfOk}
-use Rattle.fm_registry_model.specs.Texts.{Text, Labels}
-use Rattle.fm_registry_model.specs.Tree.{Tree}
-use Rattle.fm_registry_model.specs.Steps.{with_named, with_subsystem}
+use Rattle.fm_registry_rules.specs.Texts.{Text, Labels}
+use Rattle.fm_registry_rules.specs.Tree.{Tree}
+use Rattle.fm_registry_rules.specs.Steps.{with_named, with_subsystem}
 use Rattle.fm_core.specs.contracts.registry.tree.Registry.{the_row}
 use Rattle.fm_core.specs.contracts.registry.tree.Subsystem as subsystem
 use Rattle.fm_core.specs.declared.registry.tree.Subsystem.{Subsystem}

@@ -5,9 +5,9 @@ use Rattle.std.specs.String.{string_bytes}
 use Rattle.fm_grammar.specs.Exposition.{Text, Family}
 use Rattle.fm_grammar.specs.declared.MetricType.{MetricType}
 use Rattle.fm_grammar.specs.declared.MetricType.TheVariants as type
-use Rattle.fm_registry_model.specs.Texts.{has_text}
-use Rattle.fm_registry_model.specs.Registration.{printed_unit}
-use Rattle.fm_registry_model.specs.Listing.{Listed, listed_name}
+use Rattle.fm_registry_rules.specs.Texts.{has_text}
+use Rattle.fm_registry_rules.specs.Registration.{printed_unit}
+use Rattle.fm_registry_rules.specs.Listing.{Listed, listed_name}
 use Rattle.fm_core.specs.declared.lint.Advice.{Advice}
 use Rattle.fm_core.specs.declared.lint.Advice.TheVariants.{NoHelp, Suffix, TypeInName, UnitInName, NoUnit, OtherUnit}
 use Rattle.fm_core.specs.declared.lint.Warning.{Warning}

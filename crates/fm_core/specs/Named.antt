@@ -5,10 +5,10 @@ use Rattle.fm_grammar.specs.declared.MetricType.{MetricType}
 use Rattle.fm_grammar.specs.Exposition.{Text}
 use Rattle.fm_raw.specs.declared.metadata.Unit as unit
 use Rattle.fm_raw.specs.Units.{seen_unit}
-use Rattle.fm_registry_model.specs.Registration.{Registration}
-use Rattle.fm_registry_model.specs.declared.RegistryError.{RegistryError}
-use Rattle.fm_registry_model.specs.declared.RegistryError.TheVariants.{Memory}
-use Rattle.fm_registry_model.specs.Tree.{Tree}
+use Rattle.fm_registry_rules.specs.Registration.{Registration}
+use Rattle.fm_registry_rules.specs.declared.RegistryError.{RegistryError}
+use Rattle.fm_registry_rules.specs.declared.RegistryError.TheVariants.{Memory}
+use Rattle.fm_registry_rules.specs.Tree.{Tree}
 use Rattle.fm_core.specs.Registers.{Registers}
 
 -- the request to register a metric by a name and a help, once its type is known

@@ -1,12 +1,12 @@
 -- What the registration of a metric does, with the type that the metric declared.
 use Rattle.std.specs.Prelude.{◌≡◌, [], Result, OnOk, OnErr}
 use Rattle.fm_grammar.specs.declared.MetricType.{MetricType}
-use Rattle.fm_registry_model.specs.Texts.{Path}
-use Rattle.fm_registry_model.specs.Registration.{Registration}
-use Rattle.fm_registry_model.specs.History.{History, Register}
-use Rattle.fm_registry_model.specs.Answer.{IsReturned, refusal_of, answer, after}
-use Rattle.fm_registry_model.specs.Tree.{Tree, Reads}
-use Rattle.fm_registry_model.specs.declared.RegistryError.{RegistryError}
+use Rattle.fm_registry_rules.specs.Texts.{Path}
+use Rattle.fm_registry_rules.specs.Registration.{Registration}
+use Rattle.fm_registry_rules.specs.History.{History, Register}
+use Rattle.fm_registry_rules.specs.Answer.{IsReturned, refusal_of, answer, after}
+use Rattle.fm_registry_rules.specs.Tree.{Tree, Reads}
+use Rattle.fm_registry_rules.specs.declared.RegistryError.{RegistryError}
 
 module _ {M : Type 0} where
   -- The metric declared a type that it may declare. For every history that the registry read, the result is the history's for

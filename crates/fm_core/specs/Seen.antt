@@ -4,8 +4,8 @@ use Rattle.std.specs.Borrow.{Bor}
 use Rattle.std.specs.List.{flat_map}
 use Rattle.std.specs.Option.{option_copied}
 use Rattle.fm_grammar.specs.LabelPairs.{labels_of}
-use Rattle.fm_registry_model.specs.Tree.{Tree}
-use Rattle.fm_registry_model.specs.Listing.{Listed, own_metrics}
+use Rattle.fm_registry_rules.specs.Tree.{Tree}
+use Rattle.fm_registry_rules.specs.Listing.{Listed, own_metrics}
 use Rattle.fm_core.specs.View.{seen_metric}
 use Rattle.fm_core.specs.declared.registry.listed.ListedMetric.{ListedMetric}
 

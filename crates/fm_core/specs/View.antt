@@ -7,7 +7,7 @@ use Rattle.fm_grammar.specs.declared.MetricType.{MetricType}
 use Rattle.fm_raw.specs.declared.metadata.Metadata.{Metadata}
 use Rattle.fm_raw.specs.declared.metadata.Unit as unit
 use Rattle.fm_raw.specs.Units.{seen_unit}
-use Rattle.fm_registry_model.specs.Registration.{Registration}
+use Rattle.fm_registry_rules.specs.Registration.{Registration}
 
 -- a metric with its metadata
 abbrev pub seen_metric : {M : Type 0} → Metadata → M → Registration M

@@ -6,10 +6,10 @@ ghost use Rattle.std.specs.Prelude.{◌≡◌, ◌&&◌, ◌++◌, map, is_none,
 ghost use Rattle.std.specs.Option.{option_copied, option_map};
 ghost use Rattle.std.specs.List.{flat_map};
 ghost use Rattle.fm_grammar.specs.declared.MetricType.{MetricType};
-ghost use Rattle.fm_registry_model.specs.Listing.{listed_tree, own_metrics};
+ghost use Rattle.fm_registry_rules.specs.Listing.{listed_tree, own_metrics};
 ghost use Rattle.fm_raw.specs.Units.{seen_unit};
-ghost use Rattle.fm_registry_model.specs.Registration.{printed_unit};
-ghost use Rattle.fm_registry_model.specs.Texts.{has_text};
+ghost use Rattle.fm_registry_rules.specs.Registration.{printed_unit};
+ghost use Rattle.fm_registry_rules.specs.Texts.{has_text};
 ghost use Rattle.fm_core.specs.Seen.{seen_listed};
 ghost use Rattle.fm_core.specs.Lint.{all_advice, is_advised, last_word, counts_by_size, warnings_among, warnings_of, warnings_of_all, warnings_of_family, seen_warning};
 

@@ -11,7 +11,7 @@ mod tree;
 
 pub use adding::{add, add_with_unit};
 pub use fm_raw::{MetricType, Unit};
-pub use fm_registry_model::RegistryError;
+pub use fm_registry_rules::RegistryError;
 pub use global::{
     GlobalRegistry, SetRegistryError, set_global_registry, with_global_registry,
     with_global_registry_mut,

@@ -14,7 +14,7 @@ use Rattle.fm_grammar.specs.declared.MetricType.{MetricType}
 use Rattle.fm_grammar.specs.Exposition.{Text, Label}
 use Rattle.fm_grammar.specs.LabelPairs.{labels_with}
 use Rattle.fm_grammar.specs.Names.{IsLabelName, AllDifferent}
-use Rattle.fm_registry_model.specs.LabelNames.{AreLabelNames}
+use Rattle.fm_registry_rules.specs.LabelNames.{AreLabelNames}
 use Rattle.fm_labels.specs.Labels.{EmittedLabel, NamePiece, ValuePiece, IsReserved, label_names, LabelsValid, LabelsFault, NameFault, emitted_again, all_written}
 use Rattle.fm_labels.specs.inside.TakenNames.{NamesAreFree, IsTakenName}
 

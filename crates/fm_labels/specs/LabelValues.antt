@@ -8,7 +8,7 @@ use Rattle.std.specs.Cmp.{first_so, second_so}
 use Rattle.std.specs.Cmp.Lexicographic.{pointwise, bytes_decides}
 use Rattle.std.proofs.Common.{true, true≢false, sym, refl}
 use Rattle.fm_grammar.specs.Exposition.{Text}
-pub use Rattle.fm_registry_model.specs.LabelNames.{shown_texts}
+pub use Rattle.fm_registry_rules.specs.LabelNames.{shown_texts}
 
 -- a value with the byte 255 after it, which no text has
 abbrev pub ended : Text → Text

@@ -3,9 +3,9 @@ use Rattle.std.specs.Prelude.{List, Option, None, Some, codes}
 use Rattle.std.specs.Prelude.{if◌then◌else◌}
 use Rattle.fm_grammar.specs.declared.MetricType.{MetricType}
 use Rattle.fm_grammar.specs.declared.MetricType.TheVariants.{Histogram, GaugeHistogram, Summary}
-use Rattle.fm_registry_model.specs.Texts.{Text, has_text}
-use Rattle.fm_registry_model.specs.Answer.{Refusal, ReservedLabel, or_then}
-use Rattle.fm_registry_model.specs.LabelNames.{names_refusal}
+use Rattle.fm_registry_rules.specs.Texts.{Text, has_text}
+use Rattle.fm_registry_rules.specs.Answer.{Refusal, ReservedLabel, or_then}
+use Rattle.fm_registry_rules.specs.LabelNames.{names_refusal}
 
 -- refused if it is among the names
 abbrev pub refused_if_among : List Text → Text → Option Refusal

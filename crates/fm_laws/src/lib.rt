@@ -17,11 +17,11 @@ ghost use Rattle.fm_raw.specs.contracts.fixed.FixedSumOrd.TheImpl.{ghosts as sum
 ghost use Rattle.fm_raw.specs.contracts.metadata.MetadataHash.TheImpl.{ghosts as hashes};
 ghost use Rattle.fm_raw.specs.declared.encode_error.EncodeError.{EncodeError};
 ghost use Rattle.fm_encoder.specs.Points.{Context, Member, MembersValid, MembersFault, EmittedExemplar, Setting, values_in, bucket_samples};
-ghost use Rattle.fm_registry_model.specs.Texts.{Path};
-ghost use Rattle.fm_registry_model.specs.Taken.{AreSeparate, tails_of};
-ghost use Rattle.fm_registry_model.specs.History.{History, metrics_at, children_at};
-ghost use Rattle.fm_registry_model.specs.Accepted.{IsHistory};
-ghost use Rattle.fm_registry_model.specs.Listing.{listed_name, order};
+ghost use Rattle.fm_registry_rules.specs.Texts.{Path};
+ghost use Rattle.fm_registry_rules.specs.Taken.{AreSeparate, tails_of};
+ghost use Rattle.fm_registry_rules.specs.History.{History, metrics_at, children_at};
+ghost use Rattle.fm_registry_rules.specs.Accepted.{IsHistory};
+ghost use Rattle.fm_registry_rules.specs.Listing.{listed_name, order};
 ghost use Rattle.fm_histogram.specs.Histogram.{Histogram, histogram_of, merged, upper_bounds};
 ghost use Rattle.fm_laws.specs.Ranges.{NumbersFit};
 

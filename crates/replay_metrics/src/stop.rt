@@ -2,7 +2,7 @@
 use fm_raw::bucket::BucketError;
 use fm_raw::{EncodeError, MetricError};
 use fm_reader::ReadError;
-use fm_registry_model::RegistryError;
+use fm_registry_rules::RegistryError;
 use std::alloc::{AllocError, AllocFailed, Global};
 
 /// What stopped a line.

@@ -8,12 +8,12 @@ use Rattle.std.specs.Option.{option_map}
 use Rattle.fm_raw.specs.declared.encode_error.EncodeError.{EncodeError}
 use Rattle.fm_raw.specs.declared.metadata.Unit as unit
 use Rattle.fm_raw.specs.Units.{seen_unit}
-use Rattle.fm_registry_model.specs.Registration.{printed_unit}
+use Rattle.fm_registry_rules.specs.Registration.{printed_unit}
 use Rattle.fm_labels.specs.Labels.{label_names}
 use Rattle.fm_labels.specs.inside.FittingNames.{NamesFit}
-use Rattle.fm_registry_model.specs.Texts.{Text, Labels, Path, printed_name}
-use Rattle.fm_registry_model.specs.Tree.{Tree, subtree_from}
-use Rattle.fm_registry_model.specs.Listing.{Listed, listed_name}
+use Rattle.fm_registry_rules.specs.Texts.{Text, Labels, Path, printed_name}
+use Rattle.fm_registry_rules.specs.Tree.{Tree, subtree_from}
+use Rattle.fm_registry_rules.specs.Listing.{Listed, listed_name}
 use Rattle.fm_encoder.specs.Points.{Member, values_in}
 use Rattle.fm_encoder.specs.Offers.{MetricHasFault}
 use Rattle.fm_metrics.specs.Constants.{label_set_of}

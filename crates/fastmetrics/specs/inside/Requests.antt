@@ -4,7 +4,7 @@ use Rattle.std.specs.declared.alloc.Global.{Global}
 use Rattle.std.specs.String.{string_bytes}
 use Rattle.fm_grammar.specs.LabelPairs.{labels_of}
 use Rattle.fm_raw.specs.declared.metadata.Unit as unit
-use Rattle.fm_registry_model.specs.Texts.{Text, Path, Labels}
+use Rattle.fm_registry_rules.specs.Texts.{Text, Path, Labels}
 use Rattle.fm_core.specs.Calls.{seen_path}
 use Rattle.fm_core.specs.declared.registry.tree.run.RegistryCall as given
 

@@ -1,9 +1,9 @@
 -- How a root is stored.
 use Rattle.std.specs.Prelude.{ℕ, refl}
 use Rattle.std.specs.Coded.{Coded, code_by, coded×, coded_ℕ, coded_list}
-use Rattle.fm_registry_model.specs.Texts.{Path}
-use Rattle.fm_registry_model.specs.Tree.{Tree}
-use Rattle.fm_registry_model.specs.inside.TreeCode.{tree_code}
+use Rattle.fm_registry_rules.specs.Texts.{Path}
+use Rattle.fm_registry_rules.specs.Tree.{Tree}
+use Rattle.fm_registry_rules.specs.inside.TreeCode.{tree_code}
 use Rattle.fastmetrics.specs.Roots.{RootState, SeenRoot}
 
 -- the code of its tree, and that of its path

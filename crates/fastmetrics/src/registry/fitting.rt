@@ -3,10 +3,10 @@ ghost use Rattle.std.specs.Prelude.{◌≡◌, ◌<◌, ◌^◌, None, Option, I
 ghost use Rattle.std.specs.Option.{option_map};
 ghost use Rattle.fm_grammar.specs.LabelPairs.{labels_of};
 ghost use Rattle.fm_raw.specs.Units.{seen_unit};
-ghost use Rattle.fm_registry_model.specs.Answer.{refusal_of};
-ghost use Rattle.fm_registry_model.specs.LabelNames.{shown_texts, AreLabelNames, names_refusal, IsOrMemory};
-ghost use Rattle.fm_registry_model.specs.Registration.{printed_unit};
-ghost use Rattle.fm_registry_model.specs.Texts.{has_text, printed_name};
+ghost use Rattle.fm_registry_rules.specs.Answer.{refusal_of};
+ghost use Rattle.fm_registry_rules.specs.LabelNames.{shown_texts, AreLabelNames, names_refusal, IsOrMemory};
+ghost use Rattle.fm_registry_rules.specs.Registration.{printed_unit};
+ghost use Rattle.fm_registry_rules.specs.Texts.{has_text, printed_name};
 ghost use Rattle.fm_labels.specs.ReservedNames.{reserved_refusal};
 ghost use Rattle.fm_labels.specs.inside.FittingNames.{NamesFit};
 ghost use Rattle.fastmetrics.specs.Roots.{constants_refusal};
@@ -17,7 +17,7 @@ use crate::registry::kinds::{Constant, Metric, NamedFamily};
 use fm_core::registry::RegistryError;
 use fm_family::vec::names::test_reserved;
 use fm_raw::{MetricType, Unit};
-use fm_registry_model::label_names::LabelNames;
+use fm_registry_rules::label_names::LabelNames;
 use std::alloc::{AllocError, Global};
 use std::sync::Wait;
 

@@ -1,10 +1,10 @@
 //! Calls at a path of subsystems of a registry with boxes, which are made where they are missing.
 ghost use Rattle.std.specs.Prelude.{◌≡◌, ◌⊎◌, ◌++◌, ◌∷◌, [], None, Err, IfOk, map};
 ghost use Rattle.fm_grammar.specs.LabelPairs.{shown_label};
-ghost use Rattle.fm_registry_model.specs.declared.RegistryError.TheVariants.{Memory};
-ghost use Rattle.fm_registry_model.specs.Answer.{refusal_of};
-ghost use Rattle.fm_registry_model.specs.History.{Subsystem};
-ghost use Rattle.fm_registry_model.specs.Tree.{Reads};
+ghost use Rattle.fm_registry_rules.specs.declared.RegistryError.TheVariants.{Memory};
+ghost use Rattle.fm_registry_rules.specs.Answer.{refusal_of};
+ghost use Rattle.fm_registry_rules.specs.History.{Subsystem};
+ghost use Rattle.fm_registry_rules.specs.Tree.{Reads};
 ghost use Rattle.fm_core.specs.HasHistory.{HasHistory, Grows};
 ghost use Rattle.fm_core.specs.Calls.{seen_path, IsCall};
 ghost use Rattle.fm_core.specs.Named.{named_metric};

@@ -10,8 +10,8 @@ use Rattle.fm_grammar.specs.LabelPairs.{labels_of}
 use Rattle.fm_exposition.specs.inside.DocumentRows.{family_rows, families_rows}
 use Rattle.fm_raw.specs.declared.metadata.Metadata.{Metadata}
 use Rattle.fm_raw.specs.Units.{seen_unit}
-use Rattle.fm_registry_model.specs.Registration.{printed_unit}
-use Rattle.fm_registry_model.specs.Listing.{Listed, listed_name}
+use Rattle.fm_registry_rules.specs.Registration.{printed_unit}
+use Rattle.fm_registry_rules.specs.Listing.{Listed, listed_name}
 use Rattle.fm_writer.specs.Output.{Output, OutputSamples, OutputText}
 use Rattle.fm_encoder.specs.Gathered.{GatheredMembers}
 use Rattle.fm_encoder.specs.declared.metric.EncodeMetric.{Ghosts}

@@ -2,8 +2,8 @@
 use Rattle.std.specs.Prelude.{ℕ, ◌+◌, ◌≤◌, List, [], ◌∷◌, Option, None, Some, Vec}
 use Rattle.std.specs.declared.alloc.Global.{Global}
 use Rattle.std.proofs.Common.{arith}
-use Rattle.fm_registry_model.specs.Lists.{items_of}
-use Rattle.fm_registry_model.specs.inside.Forests.{forest_size, tree_size}
+use Rattle.fm_registry_rules.specs.Lists.{items_of}
+use Rattle.fm_registry_rules.specs.inside.Forests.{forest_size, tree_size}
 use Rattle.fm_core.specs.inside.TreeView.{tree_of, forest_of}
 use Rattle.fm_core.specs.declared.registry.tree.Registry.TheInside.{Inside}
 use Rattle.fm_core.specs.declared.registry.tree.Registry.TheDeep.{deep-Registry, deep-Subsystem}

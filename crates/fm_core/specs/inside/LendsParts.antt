@@ -7,9 +7,9 @@ use Rattle.std.specs.contracts.alloc.Global as global
 use Rattle.std.specs.contracts.impls.GlobalAllocator.TheImpl.{ghosts}
 use Rattle.std.specs.String.{string_bytes}
 use Rattle.std.specs.Borrow.{Fml, RattleType, MutBor, Lends}
-use Rattle.fm_registry_model.specs.Tree.{Tree}
-use Rattle.fm_registry_model.specs.inside.Forests.{with_nth}
-use Rattle.fm_registry_model.specs.Lists.{items_of}
+use Rattle.fm_registry_rules.specs.Tree.{Tree}
+use Rattle.fm_registry_rules.specs.inside.Forests.{with_nth}
+use Rattle.fm_registry_rules.specs.Lists.{items_of}
 use Rattle.fm_core.specs.inside.TreeView.{forest_of}
 use Rattle.fm_core.specs.contracts.registry.tree.Registry.{the_row}
 use Rattle.fm_core.specs.contracts.registry.tree.Subsystem as subsystem

@@ -1,9 +1,9 @@
 -- A call at one registry, as a call of the history.
 use Rattle.std.specs.String.{string_bytes}
 use Rattle.fm_grammar.specs.LabelPairs.{labels_of}
-use Rattle.fm_registry_model.specs.Texts.{Path}
-use Rattle.fm_registry_model.specs.History as history
-use Rattle.fm_registry_model.specs.History.{Call}
+use Rattle.fm_registry_rules.specs.Texts.{Path}
+use Rattle.fm_registry_rules.specs.History as history
+use Rattle.fm_registry_rules.specs.History.{Call}
 use Rattle.fm_core.specs.View.{asked_metric}
 use Rattle.fm_core.specs.declared.registry.tree.run.Request as request
 

@@ -3,10 +3,10 @@ use Rattle.std.specs.Prelude.{List, [], ◌∷◌, map, Option, None, Some}
 use Rattle.std.specs.Option.{option_map}
 use Rattle.std.specs.String.{string_bytes}
 use Rattle.indexmap.specs.IndexMap.{IndexMap}
-use Rattle.fm_registry_model.specs.Registration.{Registration}
-use Rattle.fm_registry_model.specs.Tree.{Facts, Forest, Leaf, Child, Tree}
-use Rattle.fm_registry_model.specs.Lists.{items_of, seen_labels}
-use Rattle.fm_registry_model.specs.declared.names.Tailed.{Tailed}
+use Rattle.fm_registry_rules.specs.Registration.{Registration}
+use Rattle.fm_registry_rules.specs.Tree.{Facts, Forest, Leaf, Child, Tree}
+use Rattle.fm_registry_rules.specs.Lists.{items_of, seen_labels}
+use Rattle.fm_registry_rules.specs.declared.names.Tailed.{Tailed}
 use Rattle.fm_core.specs.declared.registry.tree.Registry.TheInside.{Inside}
 use Rattle.fm_core.specs.declared.registry.tree.Subsystem.{Subsystem}
 use Rattle.fm_core.specs.View.{seen_metric}

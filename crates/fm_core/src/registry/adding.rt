@@ -1,13 +1,13 @@
 //! Registering metrics by texts.
 ghost use Rattle.std.specs.Prelude.{◌≡◌, None, Some, IfOk, IfErr, string_bytes};
-ghost use Rattle.fm_registry_model.specs.declared.RegistryError.TheVariants.{Memory};
+ghost use Rattle.fm_registry_rules.specs.declared.RegistryError.TheVariants.{Memory};
 ghost use Rattle.fm_core.specs.HasHistory.{HasHistory, Grows};
 ghost use Rattle.fm_core.specs.Named.{named_metric, Adds};
 
 use crate::registry::Registry;
 use fm_encoder::EncodeMetric;
 use fm_raw::Unit;
-use fm_registry_model::RegistryError;
+use fm_registry_rules::RegistryError;
 use std::alloc::Global;
 
 // Owned copies of both texts.

@@ -25,8 +25,8 @@ pub(crate) struct Protected<M> {
 }
 
 impl<M> Model for Protected<M> {
-    ghost use Rattle.fm_registry_model.specs.Tree.{Tree};
-    ghost use Rattle.fm_registry_model.specs.inside.TreeCode.{tree_code};
+    ghost use Rattle.fm_registry_rules.specs.Tree.{Tree};
+    ghost use Rattle.fm_registry_rules.specs.inside.TreeCode.{tree_code};
 
     ghost Value = { Tree M };
 

@@ -1,6 +1,6 @@
 //! A metric as a collector receives it.
 ghost use Rattle.std.specs.Prelude.{◌≡◌};
-ghost use Rattle.fm_registry_model.specs.inside.Names.{metadata_tail};
+ghost use Rattle.fm_registry_rules.specs.inside.Names.{metadata_tail};
 
 use fm_encoder::EncodeMetric;
 use fm_raw::Metadata;

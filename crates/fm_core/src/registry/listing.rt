@@ -2,12 +2,12 @@
 ghost use Rattle.std.specs.Prelude.{◌≡◌, slice_get};
 ghost use Rattle.std.specs.Option.{option_copied, option_map};
 ghost use Rattle.fm_grammar.specs.LabelPairs.{labels_of};
-ghost use Rattle.fm_registry_model.specs.Listing.{listed_with};
+ghost use Rattle.fm_registry_rules.specs.Listing.{listed_with};
 ghost use Rattle.fm_core.specs.inside.TreeView.{seen_metrics};
 ghost use Rattle.fm_core.specs.Seen.{seen_listed};
 
 use crate::registry::listed::ListedMetric;
-use fm_registry_model::names::Tailed;
+use fm_registry_rules::names::Tailed;
 use indexmap::IndexMap;
 
 // The metric at an index in a registry with this namespace and these labels.

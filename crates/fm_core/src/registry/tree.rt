@@ -11,9 +11,9 @@ use crate::registry::listed::ListedMetric;
 use crate::registry::listing::metric_in;
 pub use builder::RegistryBuilder;
 use fm_encoder::EncodeMetric;
-use fm_registry_model::RegistryError;
-use fm_registry_model::labels::labels_of_option;
-use fm_registry_model::names::Tailed;
+use fm_registry_rules::RegistryError;
+use fm_registry_rules::labels::labels_of_option;
+use fm_registry_rules::names::Tailed;
 use indexmap::IndexMap;
 pub use run::RegistryCall;
 use std::alloc::{AllocError, Global};
@@ -60,15 +60,15 @@ pub struct Subsystem<M = Box<dyn EncodeMetric>> {
 }
 
 impl<M> Model for Registry<M> {
-    ghost use Rattle.fm_registry_model.specs.Tree.{Tree};
-    ghost use Rattle.fm_registry_model.specs.inside.TreeCode.{tree_code};
+    ghost use Rattle.fm_registry_rules.specs.Tree.{Tree};
+    ghost use Rattle.fm_registry_rules.specs.inside.TreeCode.{tree_code};
 
     ghost Value = { Tree M };
 
     ghost coded = { tree_code M.code };
 
     ghost use Rattle.fm_core.specs.inside.TreeView.{tree_of};
-    ghost use Rattle.fm_registry_model.specs.inside.Forests.{tree_size};
+    ghost use Rattle.fm_registry_rules.specs.inside.Forests.{tree_size};
 
     ghost view = { tree_of };
 
@@ -113,10 +113,10 @@ impl<M> Registry<M> {
     ghost use Rattle.std.specs.Prelude.{◌≡◌, ◌++◌, [], length, slice_get, OnOk, IfOk, IfErr};
     ghost use Rattle.std.specs.Option.{option_map};
     ghost use Rattle.fm_grammar.specs.LabelPairs.{labels_of};
-    ghost use Rattle.fm_registry_model.specs.History.{namespace_at, labels_at};
-    ghost use Rattle.fm_registry_model.specs.Tree.{Shows};
-    ghost use Rattle.fm_registry_model.specs.Listing.{own_metrics, listed_tree, order};
-    ghost use Rattle.fm_registry_model.specs.declared.RegistryError.{RegistryError};
+    ghost use Rattle.fm_registry_rules.specs.History.{namespace_at, labels_at};
+    ghost use Rattle.fm_registry_rules.specs.Tree.{Shows};
+    ghost use Rattle.fm_registry_rules.specs.Listing.{own_metrics, listed_tree, order};
+    ghost use Rattle.fm_registry_rules.specs.declared.RegistryError.{RegistryError};
     ghost use Rattle.fm_core.specs.HasHistory.{HasHistory};
     ghost use Rattle.fm_core.specs.Seen.{seen_listed, listed_in};
 

@@ -1,8 +1,8 @@
 //! Which family of a registry is refused.
 ghost use Rattle.std.specs.Prelude.{◌≡◌, None, IfSome, IfOk, string_bytes};
 ghost use Rattle.fm_grammar.specs.Exposition.{Exposition};
-ghost use Rattle.fm_registry_model.specs.Listing.{listed_name, order};
-ghost use Rattle.fm_registry_model.specs.Tree.{Shows};
+ghost use Rattle.fm_registry_rules.specs.Listing.{listed_name, order};
+ghost use Rattle.fm_registry_rules.specs.Tree.{Shows};
 ghost use Rattle.fm_core.specs.Seen.{seen_listed};
 ghost use Rattle.fm_core.specs.HasHistory.{HasHistory};
 ghost use Rattle.fm_core.specs.Admits.{AdmittedBy, HasFaultNamed};

@@ -2,8 +2,8 @@
 ghost use Rattle.std.specs.Prelude.{◌≡◌, ◌⊎◌, Err, IfOk, ⊤, length};
 ghost use Rattle.std.specs.Arc.{arc_value};
 ghost use Rattle.fm_raw.specs.declared.error.MetricError.TheVariants.{WrongValueCount};
-ghost use Rattle.fm_registry_model.specs.Answer.{refusal_of};
-ghost use Rattle.fm_registry_model.specs.LabelNames.{shown_texts, IsOrMemory};
+ghost use Rattle.fm_registry_rules.specs.Answer.{refusal_of};
+ghost use Rattle.fm_registry_rules.specs.LabelNames.{shown_texts, IsOrMemory};
 ghost use Rattle.fm_labels.specs.ReservedNames.{family_names_refusal};
 ghost use Rattle.fm_family.specs.VecMembers.{OffersNamed, HasOtherCount, AddsNew};
 
@@ -12,8 +12,8 @@ use crate::vec::members::VecMembers;
 use crate::vec::names::tested_label_names;
 use fm_encoder::{EncodeMetric, EncodePoint, MetricEncoder};
 use fm_raw::{EncodeError, MetricError, MetricType, TypedMetric};
-use fm_registry_model::RegistryError;
-use fm_registry_model::label_names::LabelNames;
+use fm_registry_rules::RegistryError;
+use fm_registry_rules::label_names::LabelNames;
 use std::alloc::Global;
 use std::marker::PhantomData;
 use std::sync::Arc;

@@ -12,7 +12,7 @@ use fm_encoder::{EncodeLabelSet, EncodePoint, MetricEncoder, collector};
 use fm_labels::label::LabelSetEncoder;
 use fm_labels::label_values::LabelValues;
 use fm_raw::EncodeError;
-use fm_registry_model::label_names::LabelNames;
+use fm_registry_rules::label_names::LabelNames;
 
 // The labels of a member: the family's names with its values.
 #[derive(Drop)]

@@ -1,12 +1,12 @@
 //! The label names that a family of some type may have.
 ghost use Rattle.std.specs.Prelude.{IfOk, ◌≡◌, None};
-ghost use Rattle.fm_registry_model.specs.Answer.{refusal_of};
-ghost use Rattle.fm_registry_model.specs.LabelNames.{shown_texts, IsOrMemory};
+ghost use Rattle.fm_registry_rules.specs.Answer.{refusal_of};
+ghost use Rattle.fm_registry_rules.specs.LabelNames.{shown_texts, IsOrMemory};
 ghost use Rattle.fm_labels.specs.ReservedNames.{reserved_refusal, family_names_refusal};
 
 use fm_raw::MetricType;
-use fm_registry_model::RegistryError;
-use fm_registry_model::label_names::LabelNames;
+use fm_registry_rules::RegistryError;
+use fm_registry_rules::label_names::LabelNames;
 use std::alloc::Global;
 
 /// Fails if one of the names is one that the type keeps for itself.

@@ -3,7 +3,7 @@ ghost use Rattle.std.specs.Prelude.{◌≡◌, ◌++◌, ◌⊎◌, [], length, 
 ghost use Rattle.fm_raw.specs.declared.encode_error.EncodeError.{EncodeError};
 ghost use Rattle.std.specs.String.{string_bytes};
 ghost use Rattle.fm_grammar.specs.LabelPairs.{labels_with};
-ghost use Rattle.fm_registry_model.specs.LabelNames.{AreLabelNames};
+ghost use Rattle.fm_registry_rules.specs.LabelNames.{AreLabelNames};
 ghost use Rattle.fm_labels.specs.Labels.{emitted_again};
 ghost use Rattle.fm_labels.specs.inside.TakenNames.{NamesAreFree, IsTakenName};
 ghost use Rattle.fm_labels.specs.LabelEncoders.{TakesLabels};
@@ -14,7 +14,7 @@ use crate::label::{LabelEncoder, LabelSetEncoder};
 use crate::label_values::{LabelValues, split_value};
 use crate::names::is_reserved;
 use fm_raw::EncodeError;
-use fm_registry_model::label_names::LabelNames;
+use fm_registry_rules::label_names::LabelNames;
 use fm_text::LabelText;
 use std::alloc::AllocError;
 

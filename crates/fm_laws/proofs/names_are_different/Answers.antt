@@ -1,4 +1,4 @@
-use Rattle.fm_registry_model.proofs.NameLemmas.{names_separate, printed_names-different}
+use Rattle.fm_registry_rules.proofs.NameLemmas.{names_separate, printed_names-different}
 use Rattle.fm_laws.proofs.names_are_different.Goals as goal
 
 pub returns-clause-rules : goal.returns-clause-rules

@@ -2,7 +2,7 @@
 ghost use Rattle.fm_grammar.specs.Exposition.{Text};
 ghost use Rattle.fm_grammar.specs.declared.MetricType.{MetricType};
 ghost use Rattle.fm_raw.specs.declared.encode_error.EncodeError.{EncodeError};
-ghost use Rattle.fm_registry_model.specs.inside.Fitting.{HasFittingHistory};
+ghost use Rattle.fm_registry_rules.specs.inside.Fitting.{HasFittingHistory};
 ghost use Rattle.fm_core.specs.Admits.{HasFault, HasFaultNamed};
 ghost use Rattle.fastmetrics.specs.inside.FittingMetrics.{HasType, Fits};
 ghost use Rattle.fastmetrics.specs.Fits.{HasOwnFault, HasOwnFaultNamed};

@@ -2,8 +2,8 @@
 ghost use Rattle.std.specs.Prelude.{◌≡◌, IfOk};
 ghost use Rattle.std.specs.Option.{option_map};
 ghost use Rattle.fm_raw.specs.Units.{seen_unit};
-ghost use Rattle.fm_registry_model.specs.Answer.{refusal_of};
-ghost use Rattle.fm_registry_model.specs.LabelNames.{shown_texts, IsOrMemory};
+ghost use Rattle.fm_registry_rules.specs.Answer.{refusal_of};
+ghost use Rattle.fm_registry_rules.specs.LabelNames.{shown_texts, IsOrMemory};
 ghost use Rattle.fastmetrics.specs.Roots.{names_refusal_here};
 ghost use Rattle.fastmetrics.specs.Collectors.{AddsFamily, AddsFamilies};
 

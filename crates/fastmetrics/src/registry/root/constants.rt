@@ -2,15 +2,15 @@
 ghost use Rattle.std.specs.Prelude.{◌≡◌, ◌⊎◌, ℕ, List, Err, None, map, String, Vec};
 ghost use Rattle.std.specs.List.{AllByRecursion};
 ghost use Rattle.fm_grammar.specs.LabelPairs.{labels_of, shown_label};
-ghost use Rattle.fm_registry_model.specs.declared.RegistryError.TheVariants.{Memory};
+ghost use Rattle.fm_registry_rules.specs.declared.RegistryError.TheVariants.{Memory};
 ghost use Rattle.fm_core.specs.Named.{named_metric};
 ghost use Rattle.std.specs.declared.alloc.Global.{Global};
 ghost use Rattle.fm_metrics.specs.declared.info.Info.{Info};
 ghost use Rattle.fm_metrics.specs.Constants.{label_set_of};
 ghost use Rattle.fastmetrics.specs.declared.registry.kinds.constant.Constant.TheVariants as constant;
 ghost use Rattle.fastmetrics.specs.declared.registry.kinds.Metric.TheVariants.{Constant};
-ghost use Rattle.fm_registry_model.specs.Tree.{Shows};
-ghost use Rattle.fm_registry_model.specs.Listing.{order};
+ghost use Rattle.fm_registry_rules.specs.Tree.{Shows};
+ghost use Rattle.fm_registry_rules.specs.Listing.{order};
 ghost use Rattle.fastmetrics.specs.ConstantPages.{IsConstant, constants_page};
 ghost use Rattle.fastmetrics.specs.Roots.{AddsOrNot, AddsKept};
 ghost use Rattle.fastmetrics.specs.Fits.{fit_refusal_here};

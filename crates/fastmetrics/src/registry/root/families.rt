@@ -2,8 +2,8 @@
 ghost use Rattle.std.specs.Prelude.{◌≡◌, IfOk, None, Some};
 ghost use Rattle.fm_family.specs.VecNames.{vec_names};
 ghost use Rattle.fm_core.specs.Named.{named_metric};
-ghost use Rattle.fm_registry_model.specs.Answer.{refusal_of};
-ghost use Rattle.fm_registry_model.specs.LabelNames.{shown_texts, IsOrMemory};
+ghost use Rattle.fm_registry_rules.specs.Answer.{refusal_of};
+ghost use Rattle.fm_registry_rules.specs.LabelNames.{shown_texts, IsOrMemory};
 ghost use Rattle.fastmetrics.specs.Roots.{MakesNamed, names_refusal_here};
 ghost use Rattle.fastmetrics.specs.Fits.{fit_refusal_here};
 ghost use Rattle.fastmetrics.specs.declared.registry.kinds.named_family.NamedFamily.TheVariants.{Counters, FixedCounters, Gauges, FixedGauges, Histograms, GaugeHistograms};

@@ -1,5 +1,5 @@
 use Rattle.std.proofs.Common.{◌≤◌, length, map, arith, sym}
-use Rattle.fm_registry_model.specs.Listing.{own_metrics}
+use Rattle.fm_registry_rules.specs.Listing.{own_metrics}
 use Rattle.fm_core.specs.Seen.{seen_listed}
 use Rattle.fm_core.specs.Lint.{warnings_of, seen_warning}
 use Rattle.fm_core.proofs.CollectLemmas.{none_past}

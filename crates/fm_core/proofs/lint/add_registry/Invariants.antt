@@ -1,5 +1,5 @@
 use Rattle.std.proofs.Common.{◌≡◌, ◌++◌, map, take}
-use Rattle.fm_registry_model.specs.Listing.{own_metrics}
+use Rattle.fm_registry_rules.specs.Listing.{own_metrics}
 use Rattle.fm_core.specs.Lint.{warnings_of_all, seen_warning}
 use Rattle.fm_core.proofs.lint.add_registry.Given as goal
 

@@ -1,5 +1,5 @@
 use Rattle.std.proofs.Common.{◌≡◌, drop, map}
-use Rattle.fm_registry_model.specs.Texts.{has_text}
+use Rattle.fm_registry_rules.specs.Texts.{has_text}
 use Rattle.fm_core.proofs.lint.is_one_of.Given as goal
 
 abbrev pub invariant-loop-other : goal.invariant-loop-other

@@ -1,7 +1,7 @@
 use Rattle.std.proofs.Common.{◌≡◌, List, ◌⊎◌, inl, inr, subst, ap, sym, ◌∙◌}
 use Rattle.std.specs.List.{AllByRecursion}
-use Rattle.fm_registry_model.specs.Listing.{Listed, listed_name, IsListable}
-use Rattle.fm_registry_model.proofs.OrderLemmas.{listed_tree-fits}
+use Rattle.fm_registry_rules.specs.Listing.{Listed, listed_name, IsListable}
+use Rattle.fm_registry_rules.proofs.OrderLemmas.{listed_tree-fits}
 use Rattle.fm_core.specs.Seen.{seen_listed, listed_in}
 use Rattle.fm_core.specs.Admits.{Admits, FaultOf, Fault}
 use Rattle.fm_core.proofs.CollectLemmas.{one-weaker, names_differ, on_ok, refusal-not_writing, if_ended}

@@ -1,5 +1,5 @@
 use Rattle.std.proofs.Common.{◌≤◌, length, arith, inl, inr, refl, sym}
-use Rattle.fm_registry_model.specs.Listing.{own_metrics, IsListable}
+use Rattle.fm_registry_rules.specs.Listing.{own_metrics, IsListable}
 use Rattle.fm_core.specs.Seen.{seen_listed}
 use Rattle.fm_core.proofs.CollectLemmas.{all_at, next_new, none_past, AddsFamilies-next, one-at, on_ok}
 use Rattle.fm_core.proofs.scrape.encode_registry.Goals.{in-Some+in_default-encode_listed, in_default}

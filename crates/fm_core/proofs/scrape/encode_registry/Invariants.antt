@@ -1,5 +1,5 @@
 use Rattle.std.proofs.Common.{◌≡◌, None, take}
-use Rattle.fm_registry_model.specs.Listing.{own_metrics}
+use Rattle.fm_registry_rules.specs.Listing.{own_metrics}
 use Rattle.fm_core.specs.inside.Documents.{AddsFamilies}
 use Rattle.fm_core.proofs.scrape.encode_registry.Given as goal
 

@@ -1,7 +1,7 @@
 use Rattle.std.proofs.Common.{◌≡◌, ◌<◌, ◌+◌, ◌++◌, List, length, take, arith, inl, inr, subst, sym}
 use Rattle.std.proofs.lemmas.Result.{err_from_is_err_and}
 use Rattle.fm_grammar.specs.Exposition.{Exposition}
-use Rattle.fm_registry_model.specs.Listing.{Listed, listed_name, own_metrics, IsListable}
+use Rattle.fm_registry_rules.specs.Listing.{Listed, listed_name, own_metrics, IsListable}
 use Rattle.fm_core.specs.Seen.{seen_listed, listed_in}
 use Rattle.fm_core.specs.Admits.{Admits, FaultOf}
 use Rattle.fm_core.proofs.CollectLemmas.{Admits-++, next_names, one-in, IsListable-in, listed_in-next}

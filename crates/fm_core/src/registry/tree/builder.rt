@@ -3,15 +3,15 @@ ghost use Rattle.std.specs.Prelude.{◌≡◌, Some, None, IfOk, IsTrue, []};
 ghost use Rattle.std.specs.Option.{option_map};
 ghost use Rattle.std.specs.String.{string_bytes};
 ghost use Rattle.fm_grammar.specs.LabelPairs.{labels_of};
-ghost use Rattle.fm_registry_model.specs.Answer.{refusal_of, namespace_refusal, root_labels_refusal};
-ghost use Rattle.fm_registry_model.specs.Lists.{seen_labels};
-ghost use Rattle.fm_registry_model.specs.inside.RootLabels.{takes_namespace, takes_labels};
+ghost use Rattle.fm_registry_rules.specs.Answer.{refusal_of, namespace_refusal, root_labels_refusal};
+ghost use Rattle.fm_registry_rules.specs.Lists.{seen_labels};
+ghost use Rattle.fm_registry_rules.specs.inside.RootLabels.{takes_namespace, takes_labels};
 ghost use Rattle.fm_core.specs.HasHistory.{IsNewRoot};
 
 use super::{Facts, Registry};
 use fm_raw::is_snake_case;
-use fm_registry_model::RegistryError;
-use fm_registry_model::labels::tested_root_labels;
+use fm_registry_rules::RegistryError;
+use fm_registry_rules::labels::tested_root_labels;
 
 /// Sets up a root. The namespace and the labels are both optional.
 pub struct RegistryBuilder {

@@ -2,7 +2,7 @@
 ghost use Rattle.std.specs.Prelude.{◌≡◌, Some, map};
 ghost use Rattle.std.specs.Option.{option_copied};
 ghost use Rattle.std.specs.String.{string_bytes};
-ghost use Rattle.fm_registry_model.specs.Tree.{find_child, subtree_from};
+ghost use Rattle.fm_registry_rules.specs.Tree.{find_child, subtree_from};
 
 use super::Registry;
 

@@ -2,13 +2,13 @@
 ghost use Rattle.std.specs.Prelude.{◌≡◌, OnOk, OnErr, IfOk, None, true, [], map};
 ghost use Rattle.std.specs.String.{string_bytes};
 ghost use Rattle.fm_grammar.specs.LabelPairs.{labels_of};
-ghost use Rattle.fm_registry_model.specs.Answer.{refusal_of, asking_refusal, subsystem_refusal, after, IsReturned};
-ghost use Rattle.fm_registry_model.specs.History.{Subsystem as AskSubsystem};
-ghost use Rattle.fm_registry_model.specs.Texts.{has_text};
-ghost use Rattle.fm_registry_model.specs.Tree.{Reads, names_in};
-ghost use Rattle.fm_registry_model.specs.Steps.{with_subsystem};
-ghost use Rattle.fm_registry_model.specs.Running.{IsReply};
-ghost use Rattle.fm_registry_model.specs.inside.Paths.{path_of};
+ghost use Rattle.fm_registry_rules.specs.Answer.{refusal_of, asking_refusal, subsystem_refusal, after, IsReturned};
+ghost use Rattle.fm_registry_rules.specs.History.{Subsystem as AskSubsystem};
+ghost use Rattle.fm_registry_rules.specs.Texts.{has_text};
+ghost use Rattle.fm_registry_rules.specs.Tree.{Reads, names_in};
+ghost use Rattle.fm_registry_rules.specs.Steps.{with_subsystem};
+ghost use Rattle.fm_registry_rules.specs.Running.{IsReply};
+ghost use Rattle.fm_registry_rules.specs.inside.Paths.{path_of};
 ghost use Rattle.fm_core.specs.inside.Request.{call_at};
 ghost use Rattle.fm_core.specs.Calls.{RunsCall, RunsCalls};
 ghost use Rattle.fm_core.specs.HasHistory.{HasHistory, Grows};
@@ -16,7 +16,7 @@ ghost use Rattle.fm_core.specs.HasHistory.{HasHistory, Grows};
 use super::Registry;
 use fm_encoder::EncodeMetric;
 use fm_raw::{MetricType, Unit};
-use fm_registry_model::RegistryError;
+use fm_registry_rules::RegistryError;
 
 /// A call at the registry that a path of subsystem names leads to, starting from the registry that runs the call.
 #[derive(Drop)]

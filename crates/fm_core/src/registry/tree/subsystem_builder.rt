@@ -3,12 +3,12 @@ ghost use Rattle.std.specs.Prelude.{◌≡◌, true, IfOk, []};
 ghost use Rattle.std.specs.Borrow.{sem};
 ghost use Rattle.std.specs.String.{string_bytes};
 ghost use Rattle.fm_grammar.specs.LabelPairs.{labels_of};
-ghost use Rattle.fm_registry_model.specs.Answer.{refusal_of, name_or_depth_refusal, asking_refusal, subsystem_refusal, first_bad_label, after, IsReturned};
-ghost use Rattle.fm_registry_model.specs.History.{Subsystem as AskSubsystem};
-ghost use Rattle.fm_registry_model.specs.Texts.{has_text};
-ghost use Rattle.fm_registry_model.specs.Tree.{Reads, names_in};
-ghost use Rattle.fm_registry_model.specs.Steps.{with_subsystem};
-ghost use Rattle.fm_registry_model.specs.Loan.{LoanReads};
+ghost use Rattle.fm_registry_rules.specs.Answer.{refusal_of, name_or_depth_refusal, asking_refusal, subsystem_refusal, first_bad_label, after, IsReturned};
+ghost use Rattle.fm_registry_rules.specs.History.{Subsystem as AskSubsystem};
+ghost use Rattle.fm_registry_rules.specs.Texts.{has_text};
+ghost use Rattle.fm_registry_rules.specs.Tree.{Reads, names_in};
+ghost use Rattle.fm_registry_rules.specs.Steps.{with_subsystem};
+ghost use Rattle.fm_registry_rules.specs.Loan.{LoanReads};
 ghost use Rattle.fm_core.specs.Building.{rests_if_refused, builder_rests, lends_built};
 ghost use Rattle.fm_core.specs.HasHistory.{HasHistory};
 
@@ -16,8 +16,8 @@ use super::subsystems::DEPTH_LIMIT;
 use super::{Registry, Subsystem};
 use fm_encoder::EncodeMetric;
 use fm_raw::is_snake_case;
-use fm_registry_model::RegistryError;
-use fm_registry_model::labels::tested_labels;
+use fm_registry_rules::RegistryError;
+use fm_registry_rules::labels::tested_labels;
 
 /// Sets up a subsystem of a registry. It borrows the registry until the subsystem is built.
 #[derive(Drop)]

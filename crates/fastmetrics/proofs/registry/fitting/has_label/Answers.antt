@@ -2,7 +2,7 @@ use Rattle.std.proofs.Common.{◌≡◌, ℕ, ◌+◌, suc, true, false, map, ta
 use Rattle.std.specs.Str.{bytes_eq}
 use Rattle.std.specs.String.{string_bytes}
 use Rattle.fm_grammar.specs.LabelPairs.{labels_of}
-use Rattle.fm_registry_model.specs.Texts.{Text, has_text}
+use Rattle.fm_registry_rules.specs.Texts.{Text, has_text}
 use Rattle.fastmetrics.proofs.ConstantsLemmas.{label_there, no_label_there}
 use Rattle.fastmetrics.proofs.registry.fitting.has_label.Goals as goal
 

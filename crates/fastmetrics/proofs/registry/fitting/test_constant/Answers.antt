@@ -1,7 +1,7 @@
 use Rattle.std.proofs.Common.{◌≡◌, ◌<◌, ◌^◌, ℕ, List, String, Global, map, ap, subst, ◌∙◌, codes}
 use Rattle.fm_grammar.specs.LabelPairs.{labels_of}
-use Rattle.fm_registry_model.specs.Answer.{refusal_of}
-use Rattle.fm_registry_model.specs.LabelNames.{IsOrMemory}
+use Rattle.fm_registry_rules.specs.Answer.{refusal_of}
+use Rattle.fm_registry_rules.specs.LabelNames.{IsOrMemory}
 use Rattle.fm_encoder.specs.Points.{values_in}
 use Rattle.fm_metrics.specs.Constants.{label_set_of}
 use Rattle.fastmetrics.specs.Fits.{facts_refusal, taken_refusal}

@@ -1,7 +1,7 @@
 use Rattle.std.proofs.Common.{◌≡◌, ℕ, suc, ◌+◌, take, None, Some, true, false, refl, sym, ap, ◌∙◌, subst, arith, inr}
 use Rattle.std.specs.String.{string_bytes}
-use Rattle.fm_registry_model.specs.Texts.{Text, has_text}
-use Rattle.fm_registry_model.specs.Answer.{DuplicateLabel}
+use Rattle.fm_registry_rules.specs.Texts.{Text, has_text}
+use Rattle.fm_registry_rules.specs.Answer.{DuplicateLabel}
 use Rattle.fm_grammar.specs.LabelPairs.{labels_of}
 use Rattle.fastmetrics.specs.Roots.{constants_refusal}
 use Rattle.fastmetrics.proofs.ConstantsLemmas.{refused_there, none_there}

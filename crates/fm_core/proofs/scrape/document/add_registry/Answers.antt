@@ -1,6 +1,6 @@
 use Rattle.std.proofs.Common.{◌≤◌, length, arith, inl, inr, sym, ◌∙◌}
 use Rattle.std.proofs.lemmas.Result.{err_from_is_err_and}
-use Rattle.fm_registry_model.specs.Listing.{own_metrics, IsListable}
+use Rattle.fm_registry_rules.specs.Listing.{own_metrics, IsListable}
 use Rattle.fm_core.specs.Seen.{seen_listed}
 use Rattle.fm_core.specs.inside.Documents.{text_so_far}
 use Rattle.fm_core.proofs.CollectLemmas.{all_at, labels_at, none_past, one-at}

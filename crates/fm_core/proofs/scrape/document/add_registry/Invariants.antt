@@ -1,5 +1,5 @@
 use Rattle.std.proofs.Common.{◌≡◌, take}
-use Rattle.fm_registry_model.specs.Listing.{own_metrics}
+use Rattle.fm_registry_rules.specs.Listing.{own_metrics}
 use Rattle.fm_core.specs.inside.Documents.{text_so_far, HasLines, AddsRowsOf}
 use Rattle.fm_core.proofs.scrape.document.add_registry.Given as goal
 

@@ -2,8 +2,8 @@ use Rattle.std.proofs.Common.{◌<◌, ◌++◌, codes, List, [], length, take, 
 use Rattle.std.specs.List.{AllByRecursion}
 use Rattle.std.proofs.lemmas.List.{take_all}
 use Rattle.std.proofs.lemmas.Result.{err_from_is_err_and}
-use Rattle.fm_registry_model.specs.Listing.{Listed, own_metrics, IsListable}
-use Rattle.fm_registry_model.proofs.OrderLemmas.{listed_tree-fits}
+use Rattle.fm_registry_rules.specs.Listing.{Listed, own_metrics, IsListable}
+use Rattle.fm_registry_rules.proofs.OrderLemmas.{listed_tree-fits}
 use Rattle.fm_core.specs.Seen.{listed_in}
 use Rattle.fm_grammar.specs.Exposition.{Text}
 use Rattle.fm_writer.specs.Output.{OutputText}

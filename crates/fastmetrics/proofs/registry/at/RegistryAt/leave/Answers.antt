@@ -1,7 +1,7 @@
 use Rattle.std.proofs.Common.{◌≡◌, sym, ap}
 use Rattle.std.proofs.lemmas.List.{take-map}
 use Rattle.std.specs.String.{string_bytes}
-use Rattle.fm_registry_model.specs.Texts.{Path}
+use Rattle.fm_registry_rules.specs.Texts.{Path}
 use Rattle.fastmetrics.proofs.registry.at.RegistryAt.leave.Goals as goal
 
 pub returns : goal.returns

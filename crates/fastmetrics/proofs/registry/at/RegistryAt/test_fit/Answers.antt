@@ -1,7 +1,7 @@
 use Rattle.std.proofs.Common.{◌≡◌, Some, map, ap, sym, ◌∙◌}
 use Rattle.std.specs.Option.{option_copied}
 use Rattle.std.specs.String.{string_bytes}
-use Rattle.fm_registry_model.specs.Tree.{subtree_from}
+use Rattle.fm_registry_rules.specs.Tree.{subtree_from}
 use Rattle.fastmetrics.proofs.FitLemmas.{ok_more}
 use Rattle.fastmetrics.proofs.registry.at.RegistryAt.test_fit.Goals as goal
 

@@ -2,8 +2,8 @@ use Rattle.std.proofs.Common.{◌≡◌, inl, inr, codes}
 use Rattle.std.specs.Option.{option_map}
 use Rattle.fm_grammar.specs.LabelPairs.{labels_of}
 use Rattle.fm_raw.specs.Units.{seen_unit}
-use Rattle.fm_registry_model.specs.Texts.{printed_name}
-use Rattle.fm_registry_model.specs.Registration.{printed_unit}
+use Rattle.fm_registry_rules.specs.Texts.{printed_name}
+use Rattle.fm_registry_rules.specs.Registration.{printed_unit}
 use Rattle.fastmetrics.specs.Fits.{taken_refusal, family_refusal, family_type, family_names}
 use Rattle.fastmetrics.proofs.FitLemmas.{ok_fits, not_taken, family_fits}
 use Rattle.fastmetrics.proofs.registry.fitting.Place.test.Goals as goal

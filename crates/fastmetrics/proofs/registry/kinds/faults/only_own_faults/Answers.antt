@@ -8,7 +8,7 @@ use Rattle.fm_raw.specs.declared.encode_error.EncodeError.{EncodeError}
 use Rattle.fm_labels.proofs.NameLemmas.{AreFree-named}
 use Rattle.fm_labels.proofs.FittingLemmas.{all_free}
 use Rattle.fm_encoder.specs.Points.{millis}
-use Rattle.fm_registry_model.specs.Listing.{listed_name}
+use Rattle.fm_registry_rules.specs.Listing.{listed_name}
 use Rattle.fm_metrics.specs.Counters.{counter_created}
 use Rattle.fm_encoder.specs.Offers.{MetricHasFault}
 use Rattle.fm_encoder.specs.declared.metric.EncodeMetric.{Ghosts}

@@ -1,6 +1,6 @@
 use Rattle.std.proofs.Common.{◌⊎◌, inl, inr, subst}
 use Rattle.std.proofs.lemmas.Result.{IfErr-weaker}
-use Rattle.fm_registry_model.specs.Tree.{Tree}
+use Rattle.fm_registry_rules.specs.Tree.{Tree}
 use Rattle.fastmetrics.specs.Fits.{HasOwnFault}
 use Rattle.fastmetrics.proofs.registry.root.Root.collect.Goals as goal
 

@@ -1,7 +1,7 @@
 use Rattle.std.proofs.Common.{subst, string_bytes}
 use Rattle.std.proofs.lemmas.Option.{IfSome_then}
 use Rattle.std.proofs.lemmas.Result.{IfOk-weaker}
-use Rattle.fm_registry_model.specs.Tree.{Tree}
+use Rattle.fm_registry_rules.specs.Tree.{Tree}
 use Rattle.fastmetrics.specs.Fits.{HasOwnFaultNamed}
 use Rattle.fastmetrics.proofs.registry.root.Root.fault.Goals as goal
 

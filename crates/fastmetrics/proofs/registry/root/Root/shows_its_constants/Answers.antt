@@ -1,5 +1,5 @@
 use Rattle.fm_encoder.specs.declared.metric.EncodeMetric.{Ghosts}
-use Rattle.fm_registry_model.specs.Listing.{order}
+use Rattle.fm_registry_rules.specs.Listing.{order}
 use Rattle.fastmetrics.specs.declared.registry.kinds.Metric.{Metric}
 use Rattle.fastmetrics.specs.contracts.registry.kinds.MetricEncodeMetric.TheImpl.{ghosts}
 use Rattle.fastmetrics.proofs.ConstantPageLemmas.{constant_there, constant_time, constant_only, page_is}

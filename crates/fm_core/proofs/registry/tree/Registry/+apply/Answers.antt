@@ -1,11 +1,11 @@
 use Rattle.std.proofs.Common.{sym, ap, ◌∙◌, rules}
 use Rattle.std.specs.String.{string_bytes}
-use Rattle.fm_registry_model.specs.inside.Forests.{index_in}
-use Rattle.fm_registry_model.specs.Answer.{refusal_of}
-use Rattle.fm_registry_model.specs.inside.Paths.{path_of}
+use Rattle.fm_registry_rules.specs.inside.Forests.{index_in}
+use Rattle.fm_registry_rules.specs.Answer.{refusal_of}
+use Rattle.fm_registry_rules.specs.inside.Paths.{path_of}
 use Rattle.fm_core.specs.inside.Request.{call_at}
-use Rattle.fm_registry_model.proofs.ForestLemmas.{index_in-IsIndex}
-use Rattle.fm_registry_model.proofs.ApplyLemmas.{apply-reply, apply-ok, apply-err}
+use Rattle.fm_registry_rules.proofs.ForestLemmas.{index_in-IsIndex}
+use Rattle.fm_registry_rules.proofs.ApplyLemmas.{apply-reply, apply-ok, apply-err}
 use Rattle.fm_core.proofs.RequestLemmas.{call_at-pop, request-missing}
 use Rattle.fm_core.proofs.registry.tree.Registry.+apply.Goals as goal
 

@@ -1,6 +1,6 @@
 use Rattle.std.proofs.Common.{◌<◌, length, arith, ◌++◌}
 use Rattle.fm_core.specs.Seen.{listed_in}
-use Rattle.fm_registry_model.specs.Listing.{own_metrics}
+use Rattle.fm_registry_rules.specs.Listing.{own_metrics}
 use Rattle.fm_core.proofs.ListingLemmas.{listed-subsystem}
 use Rattle.fm_core.proofs.registry.tree.Registry.+list_into.Goals as goal
 

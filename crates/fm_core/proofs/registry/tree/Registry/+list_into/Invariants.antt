@@ -1,7 +1,7 @@
 use Rattle.std.proofs.Common.{◌≡◌, ◌++◌, take}
 use Rattle.fm_core.specs.inside.TreeView.{forest_of}
 use Rattle.fm_core.specs.Seen.{listed_in}
-use Rattle.fm_registry_model.specs.Listing.{own_metrics, listed_forest}
+use Rattle.fm_registry_rules.specs.Listing.{own_metrics, listed_forest}
 use Rattle.fm_core.proofs.registry.tree.Registry.+list_into.Given as goal
 
 abbrev pub invariant-loop-subsystem : goal.invariant-loop-subsystem

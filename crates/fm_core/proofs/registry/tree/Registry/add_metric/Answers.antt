@@ -1,10 +1,10 @@
 use Rattle.std.proofs.Common.{[], Some, refl, subst}
 use Rattle.std.specs.Prelude.{◌≡◌, OnOk}
 use Rattle.std.proofs.lemmas.Result.{err_from_is_err_and}
-use Rattle.fm_registry_model.specs.Answer.{refusal_of, seen_error}
-use Rattle.fm_registry_model.specs.History.{Register}
-use Rattle.fm_registry_model.specs.inside.Forests.{with_metric}
-use Rattle.fm_registry_model.proofs.CallLemmas.{register-reads}
+use Rattle.fm_registry_rules.specs.Answer.{refusal_of, seen_error}
+use Rattle.fm_registry_rules.specs.History.{Register}
+use Rattle.fm_registry_rules.specs.inside.Forests.{with_metric}
+use Rattle.fm_registry_rules.proofs.CallLemmas.{register-reads}
 use Rattle.fm_core.specs.View.{asked_metric, seen_metric}
 use Rattle.fm_core.proofs.AskedLemmas.{asked-named, asked-refused, asked-returned}
 use Rattle.fm_core.proofs.GrowthLemmas.{Grows-returned, Grows-same, Grows-sound}

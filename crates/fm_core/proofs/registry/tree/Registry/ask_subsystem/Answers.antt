@@ -1,7 +1,7 @@
 use Rattle.std.specs.String.{string_bytes}
 use Rattle.fm_grammar.specs.LabelPairs.{labels_of}
-use Rattle.fm_registry_model.specs.Answer.{refusal_of}
-use Rattle.fm_registry_model.proofs.CallLemmas.{subsystem-reply, subsystem-reads}
+use Rattle.fm_registry_rules.specs.Answer.{refusal_of}
+use Rattle.fm_registry_rules.proofs.CallLemmas.{subsystem-reply, subsystem-reads}
 use Rattle.fm_core.proofs.registry.tree.Registry.ask_subsystem.Goals as goal
 
 pub returns-clause-reply : goal.returns-clause-reply

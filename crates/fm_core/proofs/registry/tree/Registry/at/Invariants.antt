@@ -1,6 +1,6 @@
 use Rattle.std.proofs.Common.{◌≡◌, Some, map, drop}
 use Rattle.std.specs.String.{string_bytes}
-use Rattle.fm_registry_model.specs.Tree.{subtree_from}
+use Rattle.fm_registry_rules.specs.Tree.{subtree_from}
 use Rattle.fm_core.proofs.registry.tree.Registry.at.Given as goal
 
 -- the names that are left lead to the same registry

@@ -1,6 +1,6 @@
 use Rattle.std.proofs.Common.{option_copied, ap, sym, ◌∙◌, arith}
-use Rattle.fm_registry_model.proofs.ForestLemmas.{index_in-IsIndex}
-use Rattle.fm_registry_model.proofs.PushLemmas.{find_child-none}
+use Rattle.fm_registry_rules.proofs.ForestLemmas.{index_in-IsIndex}
+use Rattle.fm_registry_rules.proofs.PushLemmas.{find_child-none}
 use Rattle.fm_core.proofs.ForestLemmas.{within-nth_in, child-forest_of}
 use Rattle.fm_core.proofs.registry.tree.Registry.child.Goals as goal
 

@@ -1,12 +1,12 @@
 use Rattle.std.proofs.Common.{sym, ap, ◌∙◌, subst, inr, true≢false}
 use Rattle.fm_grammar.specs.LabelPairs.{labels_of}
 use Rattle.std.specs.String.{string_bytes}
-use Rattle.fm_registry_model.specs.Tree.{names_in}
-use Rattle.fm_registry_model.specs.inside.Forests.{index_in}
-use Rattle.fm_registry_model.specs.Answer.{IsReturned, refusal_of}
-use Rattle.fm_registry_model.proofs.AnswerLemmas.{child_refusal-there, child_refusal-new}
-use Rattle.fm_registry_model.proofs.ApplyLemmas.{there_from_index, absent_from_index}
-use Rattle.fm_registry_model.proofs.PushLemmas.{with_subsystem-there}
+use Rattle.fm_registry_rules.specs.Tree.{names_in}
+use Rattle.fm_registry_rules.specs.inside.Forests.{index_in}
+use Rattle.fm_registry_rules.specs.Answer.{IsReturned, refusal_of}
+use Rattle.fm_registry_rules.proofs.AnswerLemmas.{child_refusal-there, child_refusal-new}
+use Rattle.fm_registry_rules.proofs.ApplyLemmas.{there_from_index, absent_from_index}
+use Rattle.fm_registry_rules.proofs.PushLemmas.{with_subsystem-there}
 use Rattle.fm_core.proofs.registry.tree.Registry.index_or_new.Goals as goal
 
 pub returns-in-Some-clause-ok : goal.returns-in-Some-clause-ok

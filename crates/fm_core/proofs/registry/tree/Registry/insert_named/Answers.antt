@@ -1,8 +1,8 @@
 use Rattle.std.proofs.Common.{◌∙◌, ap, refl, subst, inl}
-use Rattle.fm_registry_model.specs.Tree.{names_in}
-use Rattle.fm_registry_model.specs.Answer.{IsReturned, refusal_of}
-use Rattle.fm_registry_model.proofs.AnswerLemmas.{standing_may}
-use Rattle.fm_registry_model.specs.inside.Names.{refusal_beside}
+use Rattle.fm_registry_rules.specs.Tree.{names_in}
+use Rattle.fm_registry_rules.specs.Answer.{IsReturned, refusal_of}
+use Rattle.fm_registry_rules.proofs.AnswerLemmas.{standing_may}
+use Rattle.fm_registry_rules.specs.inside.Names.{refusal_beside}
 use Rattle.fm_core.specs.View.{seen_metric}
 use Rattle.fm_core.proofs.TailLemmas.{beside_standing}
 use Rattle.fm_core.proofs.registry.tree.Registry.insert_named.Goals as goal

@@ -1,5 +1,5 @@
 use Rattle.std.proofs.Common.{◌||◌}
-use Rattle.fm_registry_model.specs.Taken.{is_below}
+use Rattle.fm_registry_rules.specs.Taken.{is_below}
 use Rattle.fm_core.proofs.TailLemmas.{any_child}
 use Rattle.fm_core.proofs.registry.tree.Registry.is_beside_child.Goals as goal
 

@@ -1,10 +1,10 @@
 use Rattle.std.proofs.Common.{◌≡◌, ℕ, List, Some, sym, ap, ◌∙◌, inl}
 use Rattle.fm_grammar.specs.LabelPairs.{labels_of}
-use Rattle.fm_registry_model.specs.Tree.{find_child}
-use Rattle.fm_registry_model.proofs.CallLemmas.{subsystem-loan}
+use Rattle.fm_registry_rules.specs.Tree.{find_child}
+use Rattle.fm_registry_rules.proofs.CallLemmas.{subsystem-loan}
 use Rattle.std.specs.String.{string_bytes}
-use Rattle.fm_registry_model.specs.Steps.{with_named}
-use Rattle.fm_registry_model.proofs.ForestLemmas.{index_in-IsIndex}
+use Rattle.fm_registry_rules.specs.Steps.{with_named}
+use Rattle.fm_registry_rules.proofs.ForestLemmas.{index_in-IsIndex}
 use Rattle.fm_core.proofs.SoundLemmas.{LoanReads-sound}
 use Rattle.fm_core.proofs.registry.tree.Registry.labelled_subsystem.Goals as goal
 

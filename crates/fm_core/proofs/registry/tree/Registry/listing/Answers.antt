@@ -1,7 +1,7 @@
 use Rattle.std.proofs.Common.{◌∙◌, ◌++◌, ap}
 use Rattle.fm_core.specs.Seen.{listed_in}
-use Rattle.fm_registry_model.specs.Listing.{listed_tree}
-use Rattle.fm_registry_model.proofs.OrderLemmas.{shown-order}
+use Rattle.fm_registry_rules.specs.Listing.{listed_tree}
+use Rattle.fm_registry_rules.proofs.OrderLemmas.{shown-order}
 use Rattle.fm_core.proofs.registry.tree.Registry.listing.Goals as goal
 
 pub returns-clause-history : goal.returns-clause-history

@@ -2,9 +2,9 @@ use Rattle.std.proofs.Common.{◌≡◌, refl, ap, subst, ◌∙◌, sym, OnOk}
 use Rattle.fm_grammar.specs.LabelPairs.{labels_of}
 use Rattle.std.specs.String.{string_bytes}
 use Rattle.fm_core.specs.inside.TreeView.{forest_of, facts_of, tree_of}
-use Rattle.fm_registry_model.specs.Steps.{with_subsystem}
-use Rattle.fm_registry_model.specs.inside.Forests.{index_in, new_tree}
-use Rattle.fm_registry_model.specs.Lists.{items_of}
+use Rattle.fm_registry_rules.specs.Steps.{with_subsystem}
+use Rattle.fm_registry_rules.specs.inside.Forests.{index_in, new_tree}
+use Rattle.fm_registry_rules.specs.Lists.{items_of}
 use Rattle.fm_core.proofs.PushLemmas.{pushed-index, pushed-tree}
 use Rattle.fm_core.proofs.registry.tree.Registry.new_index.Goals as goal
 

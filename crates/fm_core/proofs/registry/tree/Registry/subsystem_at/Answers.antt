@@ -1,8 +1,8 @@
 use Rattle.std.proofs.Common.{refl, ap, sym, ◌∙◌}
 use Rattle.std.specs.String.{string_bytes}
 use Rattle.std.specs.Option.{option_map}
-use Rattle.fm_registry_model.specs.Lists.{items_of}
-use Rattle.fm_registry_model.specs.inside.Forests.{nth_in, nth_name, with_nth}
+use Rattle.fm_registry_rules.specs.Lists.{items_of}
+use Rattle.fm_registry_rules.specs.inside.Forests.{nth_in, nth_name, with_nth}
 use Rattle.fm_core.proofs.ForestLemmas.{within-nth_in, nth_in-forest_of, nth_name-forest_of, forest_of-with_item}
 use Rattle.fm_core.proofs.registry.tree.Registry.subsystem_at.Goals as goal
 

@@ -1,8 +1,8 @@
 use Rattle.std.proofs.Common.{true, false, [], ◌∷◌, Some, string_bytes, ap, sym, ◌∙◌, inr}
 use Rattle.indexmap.proofs.CallerLemmas.{insert_entry-new}
-use Rattle.fm_registry_model.specs.Answer.{AlreadyExists, NameTaken, first_of}
+use Rattle.fm_registry_rules.specs.Answer.{AlreadyExists, NameTaken, first_of}
 use Rattle.fm_core.specs.inside.TreeView.{seen_metrics}
-use Rattle.fm_registry_model.specs.contracts.names.TailedPartialEq.TheImpl as key
+use Rattle.fm_registry_rules.specs.contracts.names.TailedPartialEq.TheImpl as key
 use Rattle.fm_core.proofs.MetricLemmas.{same_metric-test, seen_metrics-push}
 use Rattle.fm_core.proofs.TailLemmas.{beside_none, beside_one}
 use Rattle.fm_core.proofs.registry.tree.metrics.insert_new.Goals as goal

@@ -1,5 +1,5 @@
 use Rattle.std.proofs.Common.{sym, ap, ◌∙◌}
-use Rattle.fm_registry_model.specs.Registration.{is_same_metric}
+use Rattle.fm_registry_rules.specs.Registration.{is_same_metric}
 use Rattle.fm_core.specs.View.{seen_metric}
 use Rattle.fm_core.proofs.TailLemmas.{under_tail}
 use Rattle.fm_core.proofs.registry.tree.metrics.standing_under.Goals as goal

@@ -2,8 +2,8 @@ use Rattle.std.proofs.Common.{string_bytes, ◌∙◌, rules, tests}
 use Rattle.std.specs.Map.{keys_of}
 use Rattle.std.proofs.lemmas.Iterator.Consumers.{YieldsList-from_rest}
 use Rattle.std.proofs.lemmas.Iterator.Search.{any_from_yields_List}
-use Rattle.fm_registry_model.specs.Taken.{is_below}
-use Rattle.fm_registry_model.specs.declared.names.Tailed.{Tailed}
+use Rattle.fm_registry_rules.specs.Taken.{is_below}
+use Rattle.fm_registry_rules.specs.declared.names.Tailed.{Tailed}
 use Rattle.fm_core.proofs.TailLemmas.{any_tail}
 use Rattle.fm_core.proofs.registry.tree.subsystems.is_above_any.Goals as goal
 

@@ -2,7 +2,7 @@ use Rattle.std.proofs.Common.{sym, subst, rules}
 use Rattle.fm_grammar.specs.Exposition.{Text}
 use Rattle.fm_grammar.specs.Reading.{IsExposition, IsNewName}
 use Rattle.fm_grammar.proofs.States.{exposition_push}
-use Rattle.fm_registry_model.specs.Listing.{listed_name}
+use Rattle.fm_registry_rules.specs.Listing.{listed_name}
 use Rattle.fm_core.specs.Families.{next_listed}
 use Rattle.fm_core.specs.inside.Documents.{listed_within}
 use Rattle.fm_core.proofs.scrape.family.MetricFamilyEncoder.encode.Goals as goal

@@ -1,6 +1,6 @@
 use Rattle.std.specs.Option.{option_map}
 use Rattle.std.specs.String.{string_bytes}
-use Rattle.fm_registry_model.specs.Lists.{seen_labels}
+use Rattle.fm_registry_rules.specs.Lists.{seen_labels}
 use Rattle.fm_core.proofs.RootLemmas.{built_root}
 use Rattle.fm_core.proofs.registry.tree.builder.RegistryBuilder.build_root.Goals as goal
 

@@ -1,6 +1,6 @@
 use Rattle.std.proofs.Common.{◌≡◌, ◌≤◌, length, map}
 use Rattle.std.specs.Vec.{vec_capacity}
-use Rattle.fm_registry_model.specs.Answer.{refusal_of}
+use Rattle.fm_registry_rules.specs.Answer.{refusal_of}
 use Rattle.fm_core.specs.Calls.{RunsCalls}
 use Rattle.fm_core.proofs.registry.tree.run.Registry.run.Given as goal
 
