@@ -1,7 +1,7 @@
 -- The families of a collector, one by one.
 use Rattle.std.proofs.Common.{◌≡◌, ◌<◌, ◌≤◌, ◌+◌, ℕ, zero, suc, List, [], ◌∷◌, Result, Ok, Err, drop, length, get_or, inl, inr, refl, subst, arith}
 use Rattle.fm_grammar.specs.declared.MetricType.{MetricType}
-use Rattle.fm_registry_rules.specs.declared.RegistryError.{RegistryError}
+use Rattle.fm_registry_rules.specs.declared.error.RegistryError.{RegistryError}
 use Rattle.fm_family.specs.declared.vec.collected.Collected.{Collected}
 use Rattle.fastmetrics.specs.Roots.{RootState}
 use Rattle.fastmetrics.specs.Collectors.{AddsFamily, AddsFamilies}

@@ -8,7 +8,7 @@ use Rattle.fm_grammar.specs.declared.MetricType.TheVariants as type
 use Rattle.fm_grammar.specs.Names.{IsLabelName}
 use Rattle.fm_registry_rules.specs.Texts.{Text, Labels, has_text}
 use Rattle.fm_registry_rules.specs.Answer.{Refusal, DuplicateLabel, Memory, refusal_of, or_then}
-use Rattle.fm_registry_rules.specs.declared.RegistryError.{RegistryError}
+use Rattle.fm_registry_rules.specs.declared.error.RegistryError.{RegistryError}
 use Rattle.fm_registry_rules.specs.LabelNames.{AreLabelNames, names_refusal, IsOrMemory}
 use Rattle.fm_registry_rules.proofs.NameListLemmas.{names_valid}
 use Rattle.fm_labels.specs.Labels.{IsReserved, NameFits, label_names}

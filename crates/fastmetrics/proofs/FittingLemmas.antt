@@ -9,7 +9,7 @@ use Rattle.fm_registry_rules.specs.Registration.{Registration, printed_unit}
 use Rattle.fm_registry_rules.specs.Tree.{Tree, subtree_from}
 use Rattle.fm_registry_rules.specs.Listing.{Listed}
 use Rattle.fm_registry_rules.specs.inside.Fitting.{FitsAt, HasFittingHistory}
-use Rattle.fm_registry_rules.specs.declared.RegistryError.{RegistryError}
+use Rattle.fm_registry_rules.specs.declared.error.RegistryError.{RegistryError}
 use Rattle.fm_registry_rules.proofs.FittingTreeLemmas.{fitting-root, fitting-subsystem}
 use Rattle.fm_core.specs.HasHistory.{IsNewRoot}
 use Rattle.fm_core.specs.Named.{named_metric}

@@ -9,7 +9,7 @@ use Rattle.fm_registry_rules.specs.Texts.{Text, Path, Labels}
 use Rattle.fm_registry_rules.specs.History.{History, Call, Register, Subsystem}
 use Rattle.fm_registry_rules.specs.Answer.{Refusal, Memory, refusal_of, seen_error, after}
 use Rattle.fm_registry_rules.specs.Tree.{Tree, Reads}
-use Rattle.fm_registry_rules.specs.declared.RegistryError.{RegistryError}
+use Rattle.fm_registry_rules.specs.declared.error.RegistryError.{RegistryError}
 use Rattle.fm_core.specs.Calls.{RunsCall, IsCall, seen_path}
 use Rattle.fm_core.specs.declared.registry.tree.run.RegistryCall.{RegistryCall}
 use Rattle.fm_core.specs.Named.{named_metric}

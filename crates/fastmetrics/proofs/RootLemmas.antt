@@ -11,7 +11,7 @@ use Rattle.fm_registry_rules.specs.History.{History, Register, Subsystem}
 use Rattle.fm_registry_rules.specs.Answer.{Refusal, IsReturned, refusal_of, answer, after}
 use Rattle.fm_registry_rules.specs.Running.{IsReply}
 use Rattle.fm_registry_rules.specs.Tree.{Tree, Reads}
-use Rattle.fm_registry_rules.specs.declared.RegistryError.{RegistryError}
+use Rattle.fm_registry_rules.specs.declared.error.RegistryError.{RegistryError}
 use Rattle.fm_core.specs.Calls.{seen_path, RunsCall}
 use Rattle.fm_core.specs.HasHistory.{Grows}
 use Rattle.fm_core.specs.declared.registry.tree.run.RegistryCall.{RegistryCall}

@@ -5,8 +5,8 @@ use Rattle.fm_grammar.specs.declared.MetricType.{MetricType}
 use Rattle.fm_raw.specs.declared.metadata.Unit as unit
 use Rattle.fm_raw.specs.Units.{seen_unit}
 use Rattle.fm_registry_rules.specs.LabelNames.{shown_texts}
-use Rattle.fm_registry_rules.specs.declared.RegistryError.{RegistryError}
-use Rattle.fm_registry_rules.specs.declared.RegistryError.TheVariants.{Memory}
+use Rattle.fm_registry_rules.specs.declared.error.RegistryError.{RegistryError}
+use Rattle.fm_registry_rules.specs.declared.error.RegistryError.TheVariants.{Memory}
 use Rattle.fm_core.specs.Named.{named_metric}
 use Rattle.fm_family.specs.declared.vec.collected.Collected.{Collected}
 use Rattle.fastmetrics.specs.Roots.{RootState, IsRefused, AddsOrNot, names_refusal_here}

@@ -3,8 +3,8 @@ use Rattle.std.specs.Prelude.{◌≡◌, ◌⊎◌, ◌++◌, ◌∷◌, ℕ, []
 use Rattle.fm_grammar.specs.declared.MetricType.{MetricType}
 use Rattle.fm_registry_rules.specs.Texts.{Text, Path, Labels, has_text}
 use Rattle.fm_registry_rules.specs.Registration.{Registration}
-use Rattle.fm_registry_rules.specs.declared.RegistryError.{RegistryError}
-use Rattle.fm_registry_rules.specs.declared.RegistryError.TheVariants.{Memory}
+use Rattle.fm_registry_rules.specs.declared.error.RegistryError.{RegistryError}
+use Rattle.fm_registry_rules.specs.declared.error.RegistryError.TheVariants.{Memory}
 use Rattle.fm_registry_rules.specs.History.{History, Subsystem}
 use Rattle.fm_registry_rules.specs.Answer.{Refusal, DuplicateLabel, seen_error, refusal_of, or_then, after}
 use Rattle.fm_registry_rules.specs.Running.{IsReply}

@@ -5,7 +5,7 @@ use Rattle.fm_grammar.specs.declared.MetricType.{MetricType}
 use Rattle.fm_grammar.specs.Exposition.{Text}
 use Rattle.fm_raw.specs.declared.metadata.Unit as unit
 use Rattle.fm_registry_rules.specs.Tree.{Tree}
-use Rattle.fm_registry_rules.specs.declared.RegistryError.{RegistryError}
+use Rattle.fm_registry_rules.specs.declared.error.RegistryError.{RegistryError}
 use Rattle.fm_core.specs.Registers.{Registers}
 use Rattle.fm_core.specs.View.{asked_metric}
 use Rattle.fm_core.specs.Named.{named_metric, Adds}

@@ -11,7 +11,7 @@ use Rattle.fm_registry_rules.specs.Answer.{answer}
 use Rattle.fm_registry_rules.specs.Tree.{Tree, Shows, Reads}
 use Rattle.fm_registry_rules.specs.Listing.{Listed, IsListable, order}
 use Rattle.fm_registry_rules.specs.inside.Fitting.{FitsAt, HasFittingHistory}
-use Rattle.fm_registry_rules.specs.declared.RegistryError.{RegistryError}
+use Rattle.fm_registry_rules.specs.declared.error.RegistryError.{RegistryError}
 use Rattle.fm_registry_rules.proofs.FittingTreeLemmas.{fits_there, fitting-accepted, shown_fits, shown_listable}
 use Rattle.fm_encoder.specs.Points.{Member}
 use Rattle.fm_core.specs.HasHistory.{HasHistory}

@@ -7,7 +7,7 @@ use Rattle.fm_registry_rules.specs.Tree.{Tree, Reads}
 use Rattle.fm_registry_rules.specs.Steps.{with_named, with_child, with_subsystem}
 use Rattle.fm_registry_rules.specs.Loan.{LoanReads}
 use Rattle.fm_registry_rules.specs.Running.{Runs}
-use Rattle.fm_registry_rules.specs.declared.RegistryError.{RegistryError}
+use Rattle.fm_registry_rules.specs.declared.error.RegistryError.{RegistryError}
 use Rattle.fm_core.specs.HasHistory.{HasHistory, Grows}
 
 module _ {M : Type 0} where

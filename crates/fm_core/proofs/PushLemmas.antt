@@ -8,7 +8,7 @@ use Rattle.fm_registry_rules.specs.Steps.{add_child, new_facts, added_unless, wi
 use Rattle.fm_registry_rules.specs.inside.Forests.{new_tree, index_from, index_in}
 use Rattle.fm_core.specs.inside.TreeView.{forest_of}
 use Rattle.fm_core.specs.declared.registry.tree.Subsystem.{Subsystem}
-use Rattle.fm_registry_rules.specs.declared.RegistryError.{RegistryError}
+use Rattle.fm_registry_rules.specs.declared.error.RegistryError.{RegistryError}
 use Rattle.fm_registry_rules.proofs.TextLemmas.{bytes_eq-refl}
 use Rattle.fm_registry_rules.proofs.PushLemmas.{find_child-none}
 

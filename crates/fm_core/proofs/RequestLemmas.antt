@@ -11,7 +11,7 @@ use Rattle.fm_registry_rules.specs.inside.Forests.{index_in}
 use Rattle.fm_registry_rules.specs.Answer.{Refusal, NoSuchSubsystem, refusal_of, after}
 use Rattle.fm_registry_rules.specs.Running.{Runs, IsReply, after_reply}
 use Rattle.fm_registry_rules.specs.inside.Paths.{path_of}
-use Rattle.fm_registry_rules.specs.declared.RegistryError.{RegistryError}
+use Rattle.fm_registry_rules.specs.declared.error.RegistryError.{RegistryError}
 use Rattle.fm_registry_rules.proofs.ApplyLemmas.{apply-missing}
 use Rattle.fm_registry_rules.proofs.RunLemmas.{Runs-more, path_of-++, path_of-reversed}
 use Rattle.fm_core.specs.HasHistory.{HasHistory, Grows}

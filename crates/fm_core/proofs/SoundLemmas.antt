@@ -11,7 +11,7 @@ use Rattle.fm_registry_rules.specs.Answer.{after}
 use Rattle.fm_registry_rules.specs.Tree.{Tree}
 use Rattle.fm_registry_rules.specs.Loan.{LoanReads}
 use Rattle.fm_registry_rules.specs.Listing.{IsListable, listed_tree}
-use Rattle.fm_registry_rules.specs.declared.RegistryError.{RegistryError}
+use Rattle.fm_registry_rules.specs.declared.error.RegistryError.{RegistryError}
 use Rattle.fm_registry_rules.proofs.RootLemmas.{reads-root_history}
 use Rattle.fm_registry_rules.proofs.OrderLemmas.{listed_tree-fits}
 use Rattle.fm_core.specs.HasHistory.{HasHistory, IsNewRoot, root_tree}

@@ -10,7 +10,7 @@ use Rattle.fm_registry_rules.specs.History.{History, Call}
 use Rattle.fm_registry_rules.specs.Answer.{Refusal, refusal_of, after}
 use Rattle.fm_registry_rules.specs.Tree.{Tree, Reads}
 use Rattle.fm_registry_rules.specs.Running.{Runs, IsReply}
-use Rattle.fm_registry_rules.specs.declared.RegistryError.{RegistryError}
+use Rattle.fm_registry_rules.specs.declared.error.RegistryError.{RegistryError}
 use Rattle.fm_core.specs.View.{asked_metric}
 use Rattle.fm_core.specs.declared.registry.tree.run.RegistryCall as given
 

@@ -1,7 +1,7 @@
 -- What a registration does to a registry that is known only while its lock is held.
 use Rattle.std.specs.Prelude.{Result}
 use Rattle.fm_registry_rules.specs.Tree.{Tree}
-use Rattle.fm_registry_rules.specs.declared.RegistryError.{RegistryError}
+use Rattle.fm_registry_rules.specs.declared.error.RegistryError.{RegistryError}
 use Rattle.fm_core.specs.HasHistory.{HasHistory}
 
 -- the lock protected a registry that reads some history, and this was done there, with this result

@@ -6,8 +6,8 @@ use Rattle.fm_grammar.specs.Exposition.{Text}
 use Rattle.fm_raw.specs.declared.metadata.Unit as unit
 use Rattle.fm_raw.specs.Units.{seen_unit}
 use Rattle.fm_registry_rules.specs.Registration.{Registration}
-use Rattle.fm_registry_rules.specs.declared.RegistryError.{RegistryError}
-use Rattle.fm_registry_rules.specs.declared.RegistryError.TheVariants.{Memory}
+use Rattle.fm_registry_rules.specs.declared.error.RegistryError.{RegistryError}
+use Rattle.fm_registry_rules.specs.declared.error.RegistryError.TheVariants.{Memory}
 use Rattle.fm_registry_rules.specs.Tree.{Tree}
 use Rattle.fm_core.specs.Registers.{Registers}
 

@@ -6,7 +6,7 @@ use Rattle.fm_registry_rules.specs.Registration.{Registration}
 use Rattle.fm_registry_rules.specs.History.{History, Register}
 use Rattle.fm_registry_rules.specs.Answer.{IsReturned, refusal_of, answer, after}
 use Rattle.fm_registry_rules.specs.Tree.{Tree, Reads}
-use Rattle.fm_registry_rules.specs.declared.RegistryError.{RegistryError}
+use Rattle.fm_registry_rules.specs.declared.error.RegistryError.{RegistryError}
 
 module _ {M : Type 0} where
   -- The metric declared a type that it may declare. For every history that the registry read, the result is the history's for

@@ -8,7 +8,7 @@ use Rattle.fm_registry_rules.specs.Steps.{with_named, with_child}
 use Rattle.fm_registry_rules.specs.inside.Forests.{nth_in, nth_name, with_nth, index_from, index_in}
 use Rattle.fm_registry_rules.specs.Answer.{Refusal, NoSuchSubsystem, after, refusal_of}
 use Rattle.fm_registry_rules.specs.Running.{IsReply}
-use Rattle.fm_registry_rules.specs.declared.RegistryError.{RegistryError}
+use Rattle.fm_registry_rules.specs.declared.error.RegistryError.{RegistryError}
 use Rattle.fm_registry_rules.proofs.TreeLemmas.{reads_root, with_named-itself}
 use Rattle.fm_registry_rules.proofs.ForestLemmas.{index_in-IsIndex}
 use Rattle.fm_registry_rules.proofs.AnswerLemmas.{missing-answer}

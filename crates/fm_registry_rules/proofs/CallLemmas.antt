@@ -9,7 +9,7 @@ use Rattle.fm_registry_rules.specs.inside.Forests.{with_metric}
 use Rattle.fm_registry_rules.specs.Loan.{LoanReads}
 use Rattle.fm_registry_rules.specs.Answer.{Refusal, IsReturned, refusal_of, metric_refusal, asking_refusal, subsystem_refusal, answer, after, after_if, gained}
 use Rattle.fm_registry_rules.specs.Running.{IsReply}
-use Rattle.fm_registry_rules.specs.declared.RegistryError.{RegistryError}
+use Rattle.fm_registry_rules.specs.declared.error.RegistryError.{RegistryError}
 use Rattle.fm_registry_rules.proofs.TreeLemmas.{reads-with_metric, reads-add_child, reads-with_child, ReadsRoot, reads_root, reads_below, has_found, absent_from_find}
 use Rattle.fm_registry_rules.proofs.AnswerLemmas.{accepted, answer-in_front, gained-in_front, gained_below-empty, registered-gained, there_where_empty, subsystem_refusal-there}
 

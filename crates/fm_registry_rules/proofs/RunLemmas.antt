@@ -9,7 +9,7 @@ use Rattle.fm_registry_rules.specs.Running.{Runs, IsReply, after_reply}
 use Rattle.fm_registry_rules.specs.inside.Paths.{path_onto, path_of}
 use Rattle.std.specs.Prelude.{reverse}
 use Rattle.std.proofs.lemmas.List.{reverse-append, length_push}
-use Rattle.fm_registry_rules.specs.declared.RegistryError.{RegistryError}
+use Rattle.fm_registry_rules.specs.declared.error.RegistryError.{RegistryError}
 
 module _ {M : Type 0} where
   -- one call more, with its reply

@@ -7,7 +7,7 @@ use Rattle.fm_registry_rules.specs.Texts.{Text, Labels, has_text}
 use Rattle.fm_registry_rules.specs.Registration.{Registration, SeenUnit, is_same_metric, text_of_unit}
 use Rattle.fm_registry_rules.specs.Taken.{tail_of, tails_of, is_tail_taken, is_child_taken}
 use Rattle.fm_registry_rules.specs.History.{Call, Subsystem, Register, History, metrics_at, children_at, missing_along, with_more}
-use Rattle.fm_registry_rules.specs.declared.RegistryError as errors
+use Rattle.fm_registry_rules.specs.declared.error.RegistryError as errors
 
 -- why a call is refused, with the text that caused it
 pub data Refusal : Type 0 where

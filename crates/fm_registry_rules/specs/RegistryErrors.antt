@@ -2,8 +2,8 @@
 use Rattle.std.specs.Prelude.{ℕ, Option, Some, None}
 use Rattle.std.specs.String.{string_bytes}
 use Rattle.fm_grammar.specs.Exposition.{Text}
-use Rattle.fm_registry_rules.specs.declared.RegistryError.{RegistryError}
-use Rattle.fm_registry_rules.specs.declared.RegistryError.TheVariants.{InvalidNameFormat, MustHaveAnEmptyUnitString, OtherUnitFormatMustBeLowercase, AlreadyExists, Memory, InvalidNamespace, InvalidSubsystemName, InvalidLabelName, DuplicateLabel, NoSuchSubsystem, TooDeep, NameTaken, ReservedLabel, NoRandomKeys}
+use Rattle.fm_registry_rules.specs.declared.error.RegistryError.{RegistryError}
+use Rattle.fm_registry_rules.specs.declared.error.RegistryError.TheVariants.{InvalidNameFormat, MustHaveAnEmptyUnitString, OtherUnitFormatMustBeLowercase, AlreadyExists, Memory, InvalidNamespace, InvalidSubsystemName, InvalidLabelName, DuplicateLabel, NoSuchSubsystem, TooDeep, NameTaken, ReservedLabel, NoRandomKeys}
 
 -- the number of an error
 abbrev pub error_number : RegistryError → ℕ

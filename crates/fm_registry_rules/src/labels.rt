@@ -1,12 +1,10 @@
-//! Namespaces and constant labels.
+//! The constant labels of a registry.
 ghost use Rattle.std.specs.Prelude.{◌≡◌, Some, None, IfOk, OnOk, MatchBool, MatchOption, map, not};
 ghost use Rattle.std.specs.List.{position_from};
-ghost use Rattle.std.specs.Option.{option_map};
 ghost use Rattle.std.specs.Str.{bytes_eq};
-ghost use Rattle.std.specs.String.{string_bytes};
 ghost use Rattle.fm_grammar.specs.NameTests.{is_label_name as label_name_test};
 ghost use Rattle.fm_grammar.specs.LabelPairs.{label_of, labels_of};
-ghost use Rattle.fm_registry_rules.specs.Texts.{has_text, join_name, merge_labels, set_label as label_set};
+ghost use Rattle.fm_registry_rules.specs.Texts.{has_text, merge_labels, set_label as label_set};
 ghost use Rattle.fm_registry_rules.specs.Answer.{refusal_of, first_bad_label, label_refusal_after, root_labels_refusal};
 ghost use Rattle.fm_registry_rules.specs.inside.RootLabels.{IsRefusedAt, label_fault};
 ghost use Rattle.fm_registry_rules.specs.Lists.{seen_labels};
@@ -14,28 +12,6 @@ ghost use Rattle.fm_registry_rules.specs.Lists.{seen_labels};
 use crate::RegistryError;
 use fm_raw::is_label_name;
 use std::alloc::{AllocError, Global};
-
-/// The namespace of a subsystem with this name: the namespace above it and the name, joined by an underscore. Fails if memory
-/// runs out.
-pub fn subsystem_namespace(
-    alloc: Global,
-    namespace: &Option<String>,
-    name: &str,
-) -> Result<String, AllocError>
-    ensures { IfOk result
-        (λ text. Some (string_bytes text)
-        ≡ join_name (option_map string_bytes namespace.now) name.now) }
-{
-    match namespace {
-        None => String::from_str(alloc, name),
-        Some(namespace) => {
-            let mut text = String::from_str(alloc, namespace.as_str())?;
-            text.push_str("_")?;
-            text.push_str(name)?;
-            Ok(text)
-        }
-    }
-}
 
 /// The labels that a registry keeps; a registry without a list has none.
 pub fn labels_of_option<'a>(labels: &'a Option<Vec<(String, String)>>) -> &'a [(String, String)]

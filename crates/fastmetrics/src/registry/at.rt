@@ -4,7 +4,7 @@ ghost use Rattle.std.specs.Option.{option_map};
 ghost use Rattle.fm_grammar.specs.LabelPairs.{labels_of, shown_label};
 ghost use Rattle.fm_registry_rules.specs.Answer.{refusal_of};
 ghost use Rattle.fm_registry_rules.specs.LabelNames.{IsOrMemory};
-ghost use Rattle.fm_registry_rules.specs.declared.RegistryError.TheVariants.{Memory};
+ghost use Rattle.fm_registry_rules.specs.declared.error.RegistryError.TheVariants.{Memory};
 ghost use Rattle.fm_core.specs.HasHistory.{IsNewRoot};
 ghost use Rattle.fm_registry_rules.specs.inside.Fitting.{HasFittingHistory};
 ghost use Rattle.fm_registry_rules.specs.Lists.{seen_labels};

@@ -1,7 +1,7 @@
 //! Calls at a path of subsystems of a registry with boxes, which are made where they are missing.
 ghost use Rattle.std.specs.Prelude.{◌≡◌, ◌⊎◌, ◌++◌, ◌∷◌, [], None, Err, IfOk, map};
 ghost use Rattle.fm_grammar.specs.LabelPairs.{shown_label};
-ghost use Rattle.fm_registry_rules.specs.declared.RegistryError.TheVariants.{Memory};
+ghost use Rattle.fm_registry_rules.specs.declared.error.RegistryError.TheVariants.{Memory};
 ghost use Rattle.fm_registry_rules.specs.Answer.{refusal_of};
 ghost use Rattle.fm_registry_rules.specs.History.{Subsystem};
 ghost use Rattle.fm_registry_rules.specs.Tree.{Reads};

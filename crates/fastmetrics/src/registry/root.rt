@@ -6,7 +6,7 @@ ghost use Rattle.fm_grammar.specs.Exposition.{Text, Exposition};
 ghost use Rattle.fm_grammar.specs.LabelPairs.{shown_label};
 ghost use Rattle.fm_exposition.specs.Written.{IsWritersFault};
 ghost use Rattle.fm_raw.specs.declared.encode_error.EncodeError.{EncodeError};
-ghost use Rattle.fm_registry_rules.specs.declared.RegistryError.TheVariants.{Memory, NoRandomKeys};
+ghost use Rattle.fm_registry_rules.specs.declared.error.RegistryError.TheVariants.{Memory, NoRandomKeys};
 ghost use Rattle.fm_core.specs.HasHistory.{IsNewRoot};
 ghost use Rattle.fm_registry_rules.specs.Lists.{seen_labels};
 ghost use Rattle.fm_registry_rules.specs.inside.Fitting.{HasFittingHistory};

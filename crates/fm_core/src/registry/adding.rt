@@ -1,6 +1,6 @@
 //! Registering metrics by texts.
 ghost use Rattle.std.specs.Prelude.{◌≡◌, None, Some, IfOk, IfErr, string_bytes};
-ghost use Rattle.fm_registry_rules.specs.declared.RegistryError.TheVariants.{Memory};
+ghost use Rattle.fm_registry_rules.specs.declared.error.RegistryError.TheVariants.{Memory};
 ghost use Rattle.fm_core.specs.HasHistory.{HasHistory, Grows};
 ghost use Rattle.fm_core.specs.Named.{named_metric, Adds};
 

@@ -1,7 +1,7 @@
 //! Values that register their metrics themselves.
 ghost use Rattle.std.specs.Prelude.{Result, ⊤};
 ghost use Rattle.fm_registry_rules.specs.Tree.{Tree};
-ghost use Rattle.fm_registry_rules.specs.declared.RegistryError.{RegistryError as Refusal};
+ghost use Rattle.fm_registry_rules.specs.declared.error.RegistryError.{RegistryError as Refusal};
 ghost use Rattle.fm_core.specs.Locked.{RegistersLocked};
 
 use super::global::GlobalRegistry;

@@ -116,7 +116,7 @@ impl<M> Registry<M> {
     ghost use Rattle.fm_registry_rules.specs.History.{namespace_at, labels_at};
     ghost use Rattle.fm_registry_rules.specs.Tree.{Shows};
     ghost use Rattle.fm_registry_rules.specs.Listing.{own_metrics, listed_tree, order};
-    ghost use Rattle.fm_registry_rules.specs.declared.RegistryError.{RegistryError};
+    ghost use Rattle.fm_registry_rules.specs.declared.error.RegistryError.{RegistryError};
     ghost use Rattle.fm_core.specs.HasHistory.{HasHistory};
     ghost use Rattle.fm_core.specs.Seen.{seen_listed, listed_in};
 

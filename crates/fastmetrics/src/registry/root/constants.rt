@@ -2,7 +2,7 @@
 ghost use Rattle.std.specs.Prelude.{◌≡◌, ◌⊎◌, ℕ, List, Err, None, map, String, Vec};
 ghost use Rattle.std.specs.List.{AllByRecursion};
 ghost use Rattle.fm_grammar.specs.LabelPairs.{labels_of, shown_label};
-ghost use Rattle.fm_registry_rules.specs.declared.RegistryError.TheVariants.{Memory};
+ghost use Rattle.fm_registry_rules.specs.declared.error.RegistryError.TheVariants.{Memory};
 ghost use Rattle.fm_core.specs.Named.{named_metric};
 ghost use Rattle.std.specs.declared.alloc.Global.{Global};
 ghost use Rattle.fm_metrics.specs.declared.info.Info.{Info};

@@ -1,5 +1,5 @@
 use Rattle.std.proofs.Common.{Result, drop}
-use Rattle.fm_registry_rules.specs.declared.RegistryError.{RegistryError}
+use Rattle.fm_registry_rules.specs.declared.error.RegistryError.{RegistryError}
 use Rattle.fastmetrics.specs.Roots.{RootState}
 use Rattle.fastmetrics.specs.Collectors.{AddsFamilies}
 use Rattle.fastmetrics.specs.contracts.registry.kinds.MetricEncodeMetric.TheImpl as metric
