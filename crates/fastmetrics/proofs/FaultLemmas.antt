@@ -22,13 +22,13 @@ use Rattle.fm_family.specs.VecMembers.{OffersNamed, named_labels}
 use Rattle.fm_histogram.specs.Histogram.{Histogram, CountsTaken}
 use Rattle.fm_histogram.specs.Shown.{point_of, gauge_point_of}
 use Rattle.fm_histogram.proofs.PlainLemmas.{few_counted, plain_point, plain_gauge_point}
-use Rattle.fastmetrics.specs.declared.registry.kinds.number.Number.{Number}
-use Rattle.fastmetrics.specs.declared.registry.kinds.number.Number.TheVariants as number
-use Rattle.fastmetrics.specs.contracts.registry.kinds.number.NumberEncodeMetric.TheImpl.{ghosts as numbers}
+use Rattle.fastmetrics.specs.declared.registry.kinds.scalar.Scalar.{Scalar}
+use Rattle.fastmetrics.specs.declared.registry.kinds.scalar.Scalar.TheVariants as scalar
+use Rattle.fastmetrics.specs.contracts.registry.kinds.scalar.ScalarEncodeMetric.TheImpl.{ghosts as scalars}
 use Rattle.fastmetrics.specs.declared.registry.kinds.constant.Constant.{Constant}
 use Rattle.fastmetrics.specs.declared.registry.kinds.constant.Constant.TheVariants as constant
 use Rattle.fastmetrics.specs.contracts.registry.kinds.constant.ConstantEncodeMetric.TheImpl.{ghosts as constants}
-use Rattle.fastmetrics.specs.inside.FittingMetrics.{number_type, constant_type, NoBoundLabel, SnapshotFits, ConstantFits}
+use Rattle.fastmetrics.specs.inside.FittingMetrics.{scalar_type, constant_type, NoBoundLabel, SnapshotFits, ConstantFits}
 
 -- labels in a family of a type that reserves no name, and labels without the name that histograms reserve
 free_in : (own t : MetricType) (labels : List Label) → t ≡ own → ((name : Text) → ¬ (IsReserved own name)) → AreFree t labels
@@ -52,11 +52,11 @@ module _ (k : EncodeError) (name : Text) (labels : List Label) (are : AreLabels 
       one_faultless k V In (λ v. GaugePoint (value v ∷ [])) Stamps MayFault name t labels are
       (free_in type.Gauge t labels same (λ _ never. never)) never (λ v. sym same) (λ v within. (value v, refl))
 
-  pub number_fits : (x : Number) → t ≡ number_type x → ¬ (MetricHasFault k (numbers.offers x) (numbers.stamps x) (numbers.may_fault x) name t labels)
-  number_fits (number.Counter x) same = counter_fits _ _ (λ total. Whole (pos total)) (option_map millis (counter_created x)) _ _ (λ own. own.2) same
-  number_fits (number.FixedCounter x) same = counter_fits _ _ Fixed (option_map millis (counter_created x)) _ _ (λ own. own.2) same
-  number_fits (number.Gauge x) same = gauge_fits _ _ Whole _ _ (λ own. own.2) same
-  number_fits (number.FixedGauge x) same = gauge_fits _ _ Fixed _ _ (λ own. own.2) same
+  pub scalar_fits : (x : Scalar) → t ≡ scalar_type x → ¬ (MetricHasFault k (scalars.offers x) (scalars.stamps x) (scalars.may_fault x) name t labels)
+  scalar_fits (scalar.Counter x) same = counter_fits _ _ (λ total. Whole (pos total)) (option_map millis (counter_created x)) _ _ (λ own. own.2) same
+  scalar_fits (scalar.FixedCounter x) same = counter_fits _ _ Fixed (option_map millis (counter_created x)) _ _ (λ own. own.2) same
+  scalar_fits (scalar.Gauge x) same = gauge_fits _ _ Whole _ _ (λ own. own.2) same
+  scalar_fits (scalar.FixedGauge x) same = gauge_fits _ _ Fixed _ _ (λ own. own.2) same
 
   unknown_fits : (value : Value) (Stamps : Option ℕ → Type 0) (MayFault : Type 0) → ¬ MayFault → t ≡ type.Unknown → ¬ (MetricHasFault k (λ stamp ms. ms ≡ bare (UnknownPoint (value ∷ [])) ∷ []) Stamps MayFault name t labels)
   unknown_fits value Stamps MayFault never same =
@@ -115,11 +115,11 @@ module _ (k : EncodeError) (name : Text) (labels : List Label) (are : AreLabels 
   constant_fits (constant.GaugeHistogram s) same fit = gauge_snapshot_fits s _ _ (λ own. own) same fit
 
 -- the type that a number or a constant declares is its own
-pub number_declares : (x : Number) (t : MetricType) → numbers.types x t → t ≡ number_type x
-number_declares (number.Counter x) t is = is
-number_declares (number.FixedCounter x) t is = is
-number_declares (number.Gauge x) t is = is
-number_declares (number.FixedGauge x) t is = is
+pub scalar_declares : (x : Scalar) (t : MetricType) → scalars.types x t → t ≡ scalar_type x
+scalar_declares (scalar.Counter x) t is = is
+scalar_declares (scalar.FixedCounter x) t is = is
+scalar_declares (scalar.Gauge x) t is = is
+scalar_declares (scalar.FixedGauge x) t is = is
 
 pub constant_declares : (x : Constant) (t : MetricType) → constants.types x t → t ≡ constant_type x
 constant_declares (constant.Info x) t is = is

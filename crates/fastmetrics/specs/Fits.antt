@@ -75,7 +75,7 @@ family_refusal labels type names = or_then (type_refusal type labels) (or_then (
 module _ {H X : Type 0} where
   -- a metric that would be printed under this name, under these constant labels
   abbrev pub fit_refusal : Text → Labels → Metric H X → Option Refusal
-  fit_refusal name labels (metric.Number x) = None
+  fit_refusal name labels (metric.Scalar x) = None
   fit_refusal name labels (metric.Histogram x) = taken_refusal labels (codes "le")
   fit_refusal name labels (metric.GaugeHistogram x) = taken_refusal labels (codes "le")
   fit_refusal name labels (metric.Family f) = family_refusal labels (family_type f) (family_names f)

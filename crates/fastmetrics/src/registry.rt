@@ -18,7 +18,7 @@ pub use fm_core::registry::{
 };
 pub use kinds::{
     Constant, CounterVec, FixedCounterVec, FixedGaugeVec, GaugeHistogramVec, GaugeVec, Here,
-    HistogramVec, Holds, In, Itself, Metric, NamedFamily, NoOwn, Number, OneOf, VecOf,
+    HistogramVec, Holds, In, Itself, Metric, NamedFamily, NoOwn, OneOf, Scalar, VecOf,
 };
 pub use maker::{Made, Maker};
 pub use paths::{add_at, add_subsystem_at};

@@ -16,5 +16,5 @@ abbrev pub named_metric : {M : Type 0} → Text → Text → Option unit.Unit �
 named_metric name help u metric metric_type = record { name = name; help = help; metric_type = metric_type; unit = option_map seen_unit u; metric = metric }
 
 -- there was no memory for the name and the help, or the registration is as that of a metric by texts of one's own
-abbrev pub Adds : {M : Type 0} → (MetricType → Type 0) → (MetricType → Registration M) → Tree M → Tree M → Result (Unit {0}) RegistryError → Type 0
-Adds Types asked old new result = ((result ≡ Err Memory) × (new ≡ old)) ⊎ Registers Types asked old new result
+abbrev pub AddsNamed : {M : Type 0} → (MetricType → Type 0) → (MetricType → Registration M) → Tree M → Tree M → Result (Unit {0}) RegistryError → Type 0
+AddsNamed Types asked old new result = ((result ≡ Err Memory) × (new ≡ old)) ⊎ Registers Types asked old new result

@@ -2,7 +2,7 @@
 ghost use Rattle.std.specs.Prelude.{◌≡◌, ◌^◌, ◌⊎◌, List, [], ◌∷◌, MatchResult, Option, IfSome, None, Some, Err};
 ghost use Rattle.std.specs.Option.{option_map};
 ghost use Rattle.fm_grammar.specs.declared.MetricType.TheVariants.{Unknown};
-ghost use Rattle.fm_grammar.specs.WellFormed.{IsBetween, IsExemplar, AreMillis};
+ghost use Rattle.fm_grammar.specs.WellFormed.{IsBetween, IsExemplar};
 ghost use Rattle.fm_grammar.specs.LabelPairs.{labels_of};
 ghost use Rattle.fm_exposition.specs.Samples.{exemplar_of};
 ghost use Rattle.fm_labels.specs.Labels.{LabelsValid, LabelsFault, all_written};
@@ -11,11 +11,12 @@ ghost use Rattle.fm_labels.specs.Refusals.{OwnRefusal};
 ghost use Rattle.fm_encoder.specs.Emits.{EmitsExemplars};
 ghost use Rattle.fm_encoder.specs.Takes.{TakesExemplars};
 
+use crate::time::whole_millis;
 use fm_exposition::code_points::are_short;
 use fm_exposition::{Exemplar, make};
 use fm_grammar::MetricType;
-use fm_labels::first_refusal::FirstRefusal;
-use fm_labels::gathering;
+use fm_labels::collecting::first_refusal::FirstRefusal;
+use fm_labels::collecting::gathering;
 use fm_labels::label_set::EncodeLabelSet;
 use fm_raw::EncodeError;
 use fm_raw::fixed::Fixed;
@@ -139,17 +140,6 @@ fn in_range(value: Fixed) -> Fixed
     ensures fits { IsBetween (2 ^ 63) (2 ^ 63) value }
 {
     Fixed::from_millionths(value.millionths())
-}
-
-/// The whole milliseconds of a time, if there is one.
-pub fn whole_millis(time: Option<Duration>) -> Option<u128>
-    ensures value { result ≡ option_map millis time }
-    ensures range { IfSome result AreMillis }
-{
-    match time {
-        Some(time) => Some(time.as_millis()),
-        None => None,
-    }
 }
 
 // The labels that a label set emits, for an exemplar.

@@ -6,8 +6,8 @@
 
 pub mod exemplar;
 pub mod metric;
-pub mod metric_type;
 pub mod point;
+mod time;
 pub mod value;
 
 pub mod collector {
@@ -19,9 +19,7 @@ pub mod collector {
     pub use fm_labels::WrittenLabels;
 }
 
-pub use exemplar::{
-    EncodeExemplar, ExemplarEncoder, ExemplarLabels, LabeledExemplar, whole_millis,
-};
+pub use exemplar::{EncodeExemplar, ExemplarEncoder, ExemplarLabels, LabeledExemplar};
 pub use fm_labels::{
     EncodeLabel, EncodeLabelName, EncodeLabelSet, EncodeLabelValue, FirstRefusal, LabelEncoder,
     LabelSetEncoder, LabelSlice, LabelStr, LabelValue, StaticStr, encode_labels, label, label_set,
@@ -31,6 +29,7 @@ pub use fm_raw::EncodeError;
 pub use metric::{EncodeMetric, MetricEncoder};
 pub use point::histogram::bare::{encode_bare_gauge_histogram, encode_bare_histogram};
 pub use point::{EncodePoint, PointEncoder};
+pub use time::whole_millis;
 pub use value::{
     CounterValueEncoder, EncodeCounterValue, EncodeGaugeValue, EncodeUnknownValue,
     GaugeValueEncoder, UnknownValueEncoder,

@@ -13,7 +13,7 @@ use crate::exemplar::EncodeExemplar;
 use crate::point::{EncodePoint, PointEncoder};
 use crate::value::{EncodeCounterValue, EncodeGaugeValue, EncodeUnknownValue};
 use fm_grammar::MetricType;
-use fm_labels::constants::ConstantLabels;
+use fm_labels::collecting::constants::ConstantLabels;
 use fm_labels::label_set::EncodeLabelSet;
 use fm_raw::EncodeError;
 use fm_raw::bucket::Bucket;
@@ -267,4 +267,11 @@ impl MetricEncoder {
     {
         self.points.time()
     }
+}
+
+/// The type that a boxed metric declares.
+pub fn type_of(metric: &Box<dyn EncodeMetric>) -> MetricType
+    ensures { types metric.now result }
+{
+    metric.metric_type()
 }

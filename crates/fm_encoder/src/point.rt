@@ -21,11 +21,11 @@ ghost use Rattle.fm_encoder.specs.inside.Steps.{FitsType, BeginsPoint, BeginsMem
 use crate::point::bound_label::BoundLabel;
 use fm_exposition::{Exemplar, SampleStore, Value};
 use fm_grammar::{MetricType, SampleKind};
-use fm_labels::constants::ConstantLabels;
-use fm_labels::first_refusal::{FirstRefusal, own_refusal};
+use fm_labels::collecting::constants::ConstantLabels;
+use fm_labels::collecting::first_refusal::{FirstRefusal, own_refusal};
+use fm_labels::collecting::written::WrittenLabels;
 use fm_labels::label::LabelSetEncoder;
 use fm_labels::label_set::EncodeLabelSet;
-use fm_labels::written_labels::WrittenLabels;
 use fm_labels::{gathering, keep};
 use fm_raw::EncodeError;
 use fm_text::{GrowingText, LabelText};

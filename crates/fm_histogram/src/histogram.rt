@@ -12,7 +12,7 @@ ghost use Rattle.fm_histogram.specs.Shown.{alone};
 ghost use Rattle.fm_histogram.specs.Shared.{histogram_created};
 ghost use Rattle.fm_histogram.specs.Observing.{ObservesLocked, seconds_of};
 
-use crate::sign::{Any, NotNegative, Sign};
+use crate::sign::{NotNegative, Sign, Signed};
 use crate::snapshot::{GaugeHistogramSnapshot, HistogramSnapshot, SnapshotOf};
 use fm_encoder::{EncodeMetric, EncodePoint, MetricEncoder, PointEncoder};
 use fm_raw::{EncodeError, Fixed, MetricError, MetricType, TryDefault, TypedMetric};
@@ -56,7 +56,7 @@ pub type Histogram<H> = HistogramOf<NotNegative, H>;
 ///
 /// A call that observes, reads or encodes waits while another thread has the lock. Making one, cloning and encoding take
 /// memory.
-pub type GaugeHistogram<H> = HistogramOf<Any, H>;
+pub type GaugeHistogram<H> = HistogramOf<Signed, H>;
 
 // A duration in seconds. One that is too long is as long as a number can say.
 fn seconds_of(duration: Duration) -> Fixed

@@ -48,7 +48,7 @@ pub struct NotNegative;
 
 /// Of gauge histograms: all values and bounds are taken.
 #[derive(Drop)]
-pub struct Any;
+pub struct Signed;
 
 impl Sign for NotNegative {
     ghost NEGATIVE = { false };
@@ -71,7 +71,7 @@ impl Sign for NotNegative {
     }
 }
 
-impl Sign for Any {
+impl Sign for Signed {
     ghost NEGATIVE = { true };
 
     ghost TYPE = { GaugeHistogramType };

@@ -11,7 +11,7 @@ ghost use Rattle.fm_labels.specs.Refusals.{NoFault};
 
 use crate::counts::Counts;
 use crate::rising::rising_bounds;
-use crate::sign::{Any, NotNegative, Sign};
+use crate::sign::{NotNegative, Sign, Signed};
 use fm_encoder::PointEncoder;
 use fm_raw::bucket::Bucket;
 use fm_raw::{EncodeError, Fixed, FixedSum, MetricError};
@@ -38,7 +38,7 @@ pub type HistogramSnapshot = SnapshotOf<NotNegative>;
 
 /// How many observed values lie in each bucket, how many there are, and their sum.
 /// Negative values and bounds are taken too. Cloning takes memory.
-pub type GaugeHistogramSnapshot = SnapshotOf<Any>;
+pub type GaugeHistogramSnapshot = SnapshotOf<Signed>;
 
 impl<S: Sign> Model for SnapshotOf<S> {
     ghost use Rattle.fm_histogram.specs.Histogram.{Histogram, CountsTaken, takes};

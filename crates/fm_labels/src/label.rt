@@ -6,7 +6,7 @@ ghost use Rattle.fm_labels.specs.LabelEncoders.{GatheredPieces, GatheredLabels, 
 ghost use Rattle.fm_labels.specs.Refusals.{result_of, Takes, NoFault};
 ghost use Rattle.fm_labels.specs.inside.Steps.{EndsLabel};
 
-use crate::first_refusal::{FirstRefusal, own_refusal};
+use crate::collecting::first_refusal::{FirstRefusal, own_refusal};
 use crate::keep;
 use crate::names::is_reserved;
 use fm_grammar::MetricType;

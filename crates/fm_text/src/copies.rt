@@ -23,7 +23,7 @@ pub fn owned_labels(
 }
 
 // Copies of borrowed labels, without a test.
-fn lent_labels(alloc: Global, labels: &[(&str, &str)]) -> Result<LabelText, AllocError>
+fn copied_labels(alloc: Global, labels: &[(&str, &str)]) -> Result<LabelText, AllocError>
     ensures { IfOk result (λ text. text.labels ≡ map shown_label labels.now) }
 {
     let mut text = LabelText::new(alloc);
@@ -64,7 +64,7 @@ impl LabelText {
         ensures { IfOk result (λ text. text.labels ≡ drop from self.now.labels) }
     {
         let pairs = self.pairs(alloc, from)?;
-        lent_labels(alloc, &pairs)
+        copied_labels(alloc, &pairs)
     }
 
     /// Owned copies of the labels. Fails if memory runs out.

@@ -19,8 +19,8 @@ use Rattle.fm_encoder.specs.Offers.{MetricHasFault}
 use Rattle.fm_metrics.specs.Constants.{label_set_of}
 use Rattle.fm_histogram.specs.Histogram.{Histogram}
 use Rattle.fastmetrics.specs.Fits.{family_type, family_names}
-use Rattle.fastmetrics.specs.declared.registry.kinds.number.Number.{Number}
-use Rattle.fastmetrics.specs.declared.registry.kinds.number.Number.TheVariants as number
+use Rattle.fastmetrics.specs.declared.registry.kinds.scalar.Scalar.{Scalar}
+use Rattle.fastmetrics.specs.declared.registry.kinds.scalar.Scalar.TheVariants as scalar
 use Rattle.fastmetrics.specs.declared.registry.kinds.named_family.NamedFamily.{NamedFamily}
 use Rattle.fastmetrics.specs.declared.registry.kinds.named_family.NamedFamily.TheVariants as family
 use Rattle.fastmetrics.specs.declared.registry.kinds.constant.Constant.{Constant}
@@ -29,11 +29,11 @@ use Rattle.fastmetrics.specs.declared.registry.kinds.Metric.{Metric}
 use Rattle.fastmetrics.specs.declared.registry.kinds.Metric.TheVariants as metric
 
 -- the type of a metric
-abbrev pub number_type : Number → MetricType
-number_type (number.Counter x) = type.Counter
-number_type (number.FixedCounter x) = type.Counter
-number_type (number.Gauge x) = type.Gauge
-number_type (number.FixedGauge x) = type.Gauge
+abbrev pub scalar_type : Scalar → MetricType
+scalar_type (scalar.Counter x) = type.Counter
+scalar_type (scalar.FixedCounter x) = type.Counter
+scalar_type (scalar.Gauge x) = type.Gauge
+scalar_type (scalar.FixedGauge x) = type.Gauge
 
 abbrev pub constant_type : Constant → MetricType
 constant_type (constant.Info x) = type.Info
@@ -75,7 +75,7 @@ module _ {H : Type 0} where
 module _ {H X : Type 0} where
   -- a metric that is printed under this name, under these constant labels
   abbrev pub FitsUnder : Text → Labels → Metric H X → Type 0
-  FitsUnder name labels (metric.Number x) = Unit {0}
+  FitsUnder name labels (metric.Scalar x) = Unit {0}
   FitsUnder name labels (metric.Histogram x) = NoBoundLabel labels
   FitsUnder name labels (metric.GaugeHistogram x) = NoBoundLabel labels
   FitsUnder name labels (metric.Family x) = FamilyFits labels x
@@ -85,7 +85,7 @@ module _ {H X : Type 0} where
 
   -- the type is the metric's, whatever that of a metric of the program's own is
   abbrev pub HasType : Metric H X → MetricType → Type 0
-  HasType (metric.Number x) t = t ≡ number_type x
+  HasType (metric.Scalar x) t = t ≡ scalar_type x
   HasType (metric.Histogram x) t = t ≡ type.Histogram
   HasType (metric.GaugeHistogram x) t = t ≡ type.GaugeHistogram
   HasType (metric.Family x) t = t ≡ family_type x

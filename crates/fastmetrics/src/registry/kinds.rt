@@ -1,17 +1,17 @@
 //! A metric of any of the library's usual kinds, or of a kind of the program's own.
 ghost use Rattle.std.specs.Prelude.{◌≡◌};
-ghost use Rattle.fastmetrics.specs.declared.registry.kinds.number.Number.TheVariants.{Counter, FixedCounter, Gauge, FixedGauge};
+ghost use Rattle.fastmetrics.specs.declared.registry.kinds.scalar.Scalar.TheVariants.{Counter, FixedCounter, Gauge, FixedGauge};
 ghost use Rattle.fastmetrics.specs.declared.registry.kinds.named_family.NamedFamily.TheVariants.{Counters, FixedCounters, Gauges, FixedGauges, Histograms, GaugeHistograms};
 ghost use Rattle.fastmetrics.specs.declared.registry.kinds.constant.Constant.TheVariants as constant;
-ghost use Rattle.fastmetrics.specs.declared.registry.kinds.Metric.TheVariants.{Number, Histogram, GaugeHistogram, Family, States, Constant, Own};
+ghost use Rattle.fastmetrics.specs.declared.registry.kinds.Metric.TheVariants.{Scalar, Histogram, GaugeHistogram, Family, States, Constant, Own};
 
 mod constant;
 pub(crate) mod faults;
 mod holds;
 mod named_family;
 mod no_own;
-mod number;
 mod one_of;
+mod scalar;
 
 use crate::registry::waiter::Waiter;
 pub use constant::Constant;
@@ -29,8 +29,8 @@ pub use named_family::{
     NamedFamily, VecOf,
 };
 pub use no_own::NoOwn;
-pub use number::Number;
 pub use one_of::OneOf;
+pub use scalar::Scalar;
 use std::sync::Wait;
 use std::time::Duration;
 
@@ -40,7 +40,7 @@ use std::time::Duration;
 /// It declares and offers what the metric in it does.
 pub enum Metric<H: Wait, X = NoOwn> {
     /// A counter or a gauge.
-    Number(Number),
+    Scalar(Scalar),
     /// A histogram.
     Histogram(Histogram<H>),
     /// A gauge histogram.
@@ -58,7 +58,7 @@ pub enum Metric<H: Wait, X = NoOwn> {
 impl<H: Wait + Drop, X: Drop> Drop for Metric<H, X> {
     fn drop(self) {
         match self {
-            Metric::Number(_) => (),
+            Metric::Scalar(_) => (),
             Metric::Histogram(_) => (),
             Metric::GaugeHistogram(_) => (),
             Metric::Family(_) => (),
@@ -71,7 +71,7 @@ impl<H: Wait + Drop, X: Drop> Drop for Metric<H, X> {
 
 impl<H: Waiter, X: EncodeMetric> EncodeMetric for Metric<H, X> {
     ghost types = { λ m t. elim m [
-      | Number x ↦ ⟦<Number as EncodeMetric>⟧.types x t
+      | Scalar x ↦ ⟦<Scalar as EncodeMetric>⟧.types x t
       | Histogram x ↦ ⟦<Histogram<H> as EncodeMetric>⟧.types x t
       | GaugeHistogram x ↦ ⟦<GaugeHistogram<H> as EncodeMetric>⟧.types x t
       | Family x ↦ ⟦<NamedFamily<H> as EncodeMetric>⟧.types x t
@@ -81,7 +81,7 @@ impl<H: Waiter, X: EncodeMetric> EncodeMetric for Metric<H, X> {
     ] };
 
     ghost may_be_empty = { λ m. elim m [
-      | Number x ↦ ⟦<Number as EncodeMetric>⟧.may_be_empty x
+      | Scalar x ↦ ⟦<Scalar as EncodeMetric>⟧.may_be_empty x
       | Histogram x ↦ ⟦<Histogram<H> as EncodeMetric>⟧.may_be_empty x
       | GaugeHistogram x ↦ ⟦<GaugeHistogram<H> as EncodeMetric>⟧.may_be_empty x
       | Family x ↦ ⟦<NamedFamily<H> as EncodeMetric>⟧.may_be_empty x
@@ -91,7 +91,7 @@ impl<H: Waiter, X: EncodeMetric> EncodeMetric for Metric<H, X> {
     ] };
 
     ghost stamps = { λ m s. elim m [
-      | Number x ↦ ⟦<Number as EncodeMetric>⟧.stamps x s
+      | Scalar x ↦ ⟦<Scalar as EncodeMetric>⟧.stamps x s
       | Histogram x ↦ ⟦<Histogram<H> as EncodeMetric>⟧.stamps x s
       | GaugeHistogram x ↦ ⟦<GaugeHistogram<H> as EncodeMetric>⟧.stamps x s
       | Family x ↦ ⟦<NamedFamily<H> as EncodeMetric>⟧.stamps x s
@@ -101,7 +101,7 @@ impl<H: Waiter, X: EncodeMetric> EncodeMetric for Metric<H, X> {
     ] };
 
     ghost offers = { λ m s ms. elim m [
-      | Number x ↦ ⟦<Number as EncodeMetric>⟧.offers x s ms
+      | Scalar x ↦ ⟦<Scalar as EncodeMetric>⟧.offers x s ms
       | Histogram x ↦ ⟦<Histogram<H> as EncodeMetric>⟧.offers x s ms
       | GaugeHistogram x ↦ ⟦<GaugeHistogram<H> as EncodeMetric>⟧.offers x s ms
       | Family x ↦ ⟦<NamedFamily<H> as EncodeMetric>⟧.offers x s ms
@@ -111,7 +111,7 @@ impl<H: Waiter, X: EncodeMetric> EncodeMetric for Metric<H, X> {
     ] };
 
     ghost may_fault = { λ m. elim m [
-      | Number x ↦ ⟦<Number as EncodeMetric>⟧.may_fault x
+      | Scalar x ↦ ⟦<Scalar as EncodeMetric>⟧.may_fault x
       | Histogram x ↦ ⟦<Histogram<H> as EncodeMetric>⟧.may_fault x
       | GaugeHistogram x ↦ ⟦<GaugeHistogram<H> as EncodeMetric>⟧.may_fault x
       | Family x ↦ ⟦<NamedFamily<H> as EncodeMetric>⟧.may_fault x
@@ -122,7 +122,7 @@ impl<H: Waiter, X: EncodeMetric> EncodeMetric for Metric<H, X> {
 
     fn encode(&self, encoder: &mut MetricEncoder) -> Result<(), EncodeError> {
         match self {
-            Metric::Number(metric) => metric.encode(encoder),
+            Metric::Scalar(metric) => metric.encode(encoder),
             Metric::Histogram(metric) => metric.encode(encoder),
             Metric::GaugeHistogram(metric) => metric.encode(encoder),
             Metric::Family(metric) => metric.encode(encoder),
@@ -134,7 +134,7 @@ impl<H: Waiter, X: EncodeMetric> EncodeMetric for Metric<H, X> {
 
     fn metric_type(&self) -> MetricType {
         match self {
-            Metric::Number(metric) => metric.metric_type(),
+            Metric::Scalar(metric) => metric.metric_type(),
             Metric::Histogram(metric) => metric.metric_type(),
             Metric::GaugeHistogram(metric) => metric.metric_type(),
             Metric::Family(metric) => metric.metric_type(),
@@ -146,7 +146,7 @@ impl<H: Waiter, X: EncodeMetric> EncodeMetric for Metric<H, X> {
 
     fn timestamp(&self) -> Option<Duration> {
         match self {
-            Metric::Number(metric) => metric.timestamp(),
+            Metric::Scalar(metric) => metric.timestamp(),
             Metric::Histogram(metric) => metric.timestamp(),
             Metric::GaugeHistogram(metric) => metric.timestamp(),
             Metric::Family(metric) => metric.timestamp(),
@@ -158,7 +158,7 @@ impl<H: Waiter, X: EncodeMetric> EncodeMetric for Metric<H, X> {
 
     fn is_empty(&self) -> bool {
         match self {
-            Metric::Number(metric) => metric.is_empty(),
+            Metric::Scalar(metric) => metric.is_empty(),
             Metric::Histogram(metric) => metric.is_empty(),
             Metric::GaugeHistogram(metric) => metric.is_empty(),
             Metric::Family(metric) => metric.is_empty(),
@@ -170,34 +170,34 @@ impl<H: Waiter, X: EncodeMetric> EncodeMetric for Metric<H, X> {
 }
 
 impl<H: Wait, X> From<Counter<u64>> for Metric<H, X> {
-    ghost from_gives = { λ x metric. metric ≡ Number (Counter x) };
+    ghost from_gives = { λ x metric. metric ≡ Scalar (Counter x) };
 
     fn from(value: Counter<u64>) -> Metric<H, X> {
-        Metric::Number(Number::Counter(value))
+        Metric::Scalar(Scalar::Counter(value))
     }
 }
 
 impl<H: Wait, X> From<Counter<Fixed>> for Metric<H, X> {
-    ghost from_gives = { λ x metric. metric ≡ Number (FixedCounter x) };
+    ghost from_gives = { λ x metric. metric ≡ Scalar (FixedCounter x) };
 
     fn from(value: Counter<Fixed>) -> Metric<H, X> {
-        Metric::Number(Number::FixedCounter(value))
+        Metric::Scalar(Scalar::FixedCounter(value))
     }
 }
 
 impl<H: Wait, X> From<Gauge<i64>> for Metric<H, X> {
-    ghost from_gives = { λ x metric. metric ≡ Number (Gauge x) };
+    ghost from_gives = { λ x metric. metric ≡ Scalar (Gauge x) };
 
     fn from(value: Gauge<i64>) -> Metric<H, X> {
-        Metric::Number(Number::Gauge(value))
+        Metric::Scalar(Scalar::Gauge(value))
     }
 }
 
 impl<H: Wait, X> From<Gauge<Fixed>> for Metric<H, X> {
-    ghost from_gives = { λ x metric. metric ≡ Number (FixedGauge x) };
+    ghost from_gives = { λ x metric. metric ≡ Scalar (FixedGauge x) };
 
     fn from(value: Gauge<Fixed>) -> Metric<H, X> {
-        Metric::Number(Number::FixedGauge(value))
+        Metric::Scalar(Scalar::FixedGauge(value))
     }
 }
 

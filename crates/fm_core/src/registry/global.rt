@@ -1,11 +1,17 @@
-//! A registry that the whole program shares, protected by a lock.
-
-ghost use Rattle.std.specs.Prelude.{◌≡◌};
+//! The registry that a whole program shares, protected by a lock: reading and changing it, and registering in it.
+ghost use Rattle.std.specs.Prelude.{◌≡◌, Result, ⊤, Some, None};
 ghost use Rattle.std.specs.Fn.{FnOnceTakesAt, FnOnceTakesAtMut, FnOnceReturnsAt, FnOnceReturnsAtMut};
+ghost use Rattle.fm_registry_rules.specs.Tree.{Tree};
+ghost use Rattle.fm_registry_rules.specs.declared.error.RegistryError.{RegistryError as Refusal};
+ghost use Rattle.fm_core.specs.View.{asked_metric};
 ghost use Rattle.fm_core.specs.HasHistory.{HasHistory};
+ghost use Rattle.fm_core.specs.Registers.{Registers};
+ghost use Rattle.fm_core.specs.Locked.{RegistersLocked};
 
-use crate::registry::Registry;
+use crate::registry::{MetricType, Registry, RegistryError, Unit};
 use fm_encoder::EncodeMetric;
+use fm_encoder::metric::type_of;
+use std::alloc::Global;
 use std::marker::Model;
 use std::sync::atomic::AtomicBool;
 use std::sync::atomic::Ordering::SeqCst;
@@ -123,4 +129,102 @@ pub fn with_global_registry_mut<R: Wait, M: Drop, T, F: FnOnce(&mut Registry<M>)
     let mut protected = global.protected.write(rt);
     protected.is_initialized.store(true, SeqCst);
     f(&mut protected.registry)
+}
+
+impl<M: Drop> Protected<M> {
+    // Registers a metric of this type in the registry. From then on none can be set.
+    fn add_metric(
+        &mut self,
+        name: String,
+        help: String,
+        metric_type: MetricType,
+        unit: Option<Unit>,
+        metric: M,
+    ) -> Result<(), RegistryError>
+        ensures registers { Registers (λ t. t ≡ metric_type) (asked_metric name help unit metric)
+            self.old self.new result }
+        ensures sound { HasHistory self.old }
+    {
+        self.is_initialized.store(true, SeqCst);
+        self.registry
+            .add_metric(name, help, metric_type, unit, metric)
+    }
+}
+
+/// Registers a metric in the global registry, as `Registry::register_metric` does. The metric's type is read before the
+/// lock is taken. It waits for the lock.
+pub fn register_metric<R: Wait>(
+    rt: &R,
+    global: &GlobalRegistry,
+    name: String,
+    help: String,
+    unit: Option<Unit>,
+    metric: Box<dyn EncodeMetric>,
+) -> Result<(), RegistryError>
+    ensures { RegistersLocked (Registers (λ t. types metric t)
+        (asked_metric name help unit metric)) result }
+{
+    let metric_type = type_of(&metric);
+    let mut protected = global.protected.write(rt);
+    protected.add_metric(name, help, metric_type, unit, metric)
+}
+
+/// Like `register_metric`, with a unit.
+pub fn register_with_unit<R: Wait>(
+    rt: &R,
+    global: &GlobalRegistry,
+    name: String,
+    help: String,
+    unit: Unit,
+    metric: Box<dyn EncodeMetric>,
+) -> Result<(), RegistryError>
+    ensures { RegistersLocked (Registers (λ t. types metric t)
+        (asked_metric name help (Some unit) metric)) result }
+{
+    register_metric(rt, global, name, help, Some(unit), metric)
+}
+
+/// Like `register_metric`, without a unit.
+pub fn register<R: Wait>(
+    rt: &R,
+    global: &GlobalRegistry,
+    name: String,
+    help: String,
+    metric: Box<dyn EncodeMetric>,
+) -> Result<(), RegistryError>
+    ensures { RegistersLocked (Registers (λ t. types metric t)
+        (asked_metric name help None metric)) result }
+{
+    register_metric(rt, global, name, help, None, metric)
+}
+
+/// A value that registers its metrics itself, in a registry of metrics of the type `M`, which is `Box<dyn
+/// EncodeMetric>` where a program boxes them.
+///
+/// Implement it for each `M`, as `impl<M: Drop> Register<M> for MyMetrics<M>`, with metrics that `main` boxed: a method
+/// that boxes them itself, or a type with boxes, can't be proved.
+pub trait Register<M> {
+    ghost use Rattle.fm_core.specs.HasHistory.{HasHistory};
+
+    /// Holds of the registry before and after a call, and of its result. By default it holds of all.
+    ghost registers: { Self → Tree M → Tree M → Result (Unit {0}) Refusal → Type 0 } = { λ _ _ _ _. ⊤ };
+
+    /// Registers the metrics. The implementation says which of them are registered after an error.
+    fn register(&self, alloc: Global, registry: &mut Registry<M>) -> Result<(), RegistryError>
+        ensures sound { HasHistory registry.old → HasHistory registry.new }
+        ensures registers { registers self.now registry.old registry.new result };
+}
+
+/// Registers the metrics of `metrics` in the global registry. It waits for the lock.
+pub fn register_global<R: Wait, M: Drop, T: Register<M>>(
+    rt: &R,
+    alloc: Global,
+    global: &GlobalRegistry<M>,
+    metrics: &T,
+) -> Result<(), RegistryError>
+    ensures { RegistersLocked (T.registers metrics.now) result }
+{
+    let mut protected = global.protected.write(rt);
+    protected.is_initialized.store(true, SeqCst);
+    metrics.register(alloc, &mut protected.registry)
 }

@@ -12,8 +12,8 @@ ghost use Rattle.fm_encoder.specs.inside.Steps.{PushesSample, PushesSamples, Tes
 use crate::point::PointEncoder;
 use fm_exposition::Value;
 use fm_grammar::{MetricType, SampleKind};
-use fm_labels::gathered::read_labels_after;
-use fm_labels::gathering;
+use fm_labels::collecting::after::gather_labels_after;
+use fm_labels::collecting::gathering;
 use fm_labels::label_set::EncodeLabelSet;
 use fm_raw::EncodeError;
 use fm_text::LabelText;
@@ -97,7 +97,7 @@ impl PointEncoder {
             (LS.may_fault labels.now) self.old self.new result }
     {
         self.begin_point(MetricType::Info)?;
-        match read_labels_after(
+        match gather_labels_after(
             self.alloc,
             gathering::metric_type(&self.labels),
             gathering::text(&self.labels),

@@ -8,7 +8,7 @@ ghost use Rattle.fm_encoder.specs.Takes.{TakesNumbers};
 ghost use Rattle.fm_encoder.specs.inside.Steps.{IsNumber};
 
 use fm_exposition::Value;
-use fm_labels::first_refusal::{FirstRefusal, own_refusal};
+use fm_labels::collecting::first_refusal::{FirstRefusal, own_refusal};
 use fm_raw::EncodeError;
 use fm_raw::fixed::{Fixed, FixedSum};
 use std::marker::{Model, PhantomData};

@@ -2,7 +2,7 @@
 ghost use Rattle.std.specs.Prelude.{◌≡◌, [], ◌++◌, None, OnOk};
 ghost use Rattle.fm_labels.specs.Refusals.{IsOutcome};
 
-use crate::first_refusal::FirstRefusal;
+use crate::collecting::first_refusal::FirstRefusal;
 use crate::label::{LabelEncoder, LabelSetEncoder};
 use fm_grammar::MetricType;
 use fm_raw::EncodeError;

@@ -3,8 +3,8 @@ ghost use Rattle.std.specs.Prelude.{◌≡◌, None, Some};
 ghost use Rattle.fm_core.specs.Named.{named_metric};
 ghost use Rattle.fastmetrics.specs.Roots.{Makes};
 ghost use Rattle.fastmetrics.specs.Fits.{fit_refusal_here};
-ghost use Rattle.fastmetrics.specs.declared.registry.kinds.number.Number.TheVariants as number;
-ghost use Rattle.fastmetrics.specs.declared.registry.kinds.Metric.TheVariants.{Number, Histogram, GaugeHistogram};
+ghost use Rattle.fastmetrics.specs.declared.registry.kinds.scalar.Scalar.TheVariants as scalar;
+ghost use Rattle.fastmetrics.specs.declared.registry.kinds.Metric.TheVariants.{Scalar, Histogram, GaugeHistogram};
 
 use super::Root;
 use crate::registry::description::Description;
@@ -52,7 +52,7 @@ impl<H: Waiter, X: EncodeMetric> Root<H, X> {
     /// Makes a counter of whole numbers, registers a clone of it in the current subsystem, and returns it. It has the errors of `register`.
     pub fn counter(&mut self, name: &str, help: &str) -> Result<Counter<u64>, RegistryError>
         ensures { Makes (⟦<Counter<u64> as Made<H>>⟧.is_made None) ⟦<Counter<u64> as Clone>⟧.is_clone
-            (λ x metric. metric ≡ Number (number.Counter x))
+            (λ x metric. metric ≡ Scalar (scalar.Counter x))
             (fit_refusal_here self.old.at name.now None)
             ⟦<Metric<H, X> as EncodeMetric>⟧.types
             (named_metric name.now help.now None) self.old.at
@@ -68,7 +68,7 @@ impl<H: Waiter, X: EncodeMetric> Root<H, X> {
         description: Description<'_>,
     ) -> Result<Counter<u64>, RegistryError>
         ensures { Makes (⟦<Counter<u64> as Made<H>>⟧.is_made description.entry.created) ⟦<Counter<u64> as Clone>⟧.is_clone
-            (λ x metric. metric ≡ Number (number.Counter x))
+            (λ x metric. metric ≡ Scalar (scalar.Counter x))
             (fit_refusal_here self.old.at description.entry.name.now description.entry.unit)
             ⟦<Metric<H, X> as EncodeMetric>⟧.types
             (named_metric description.entry.name.now description.entry.help.now description.entry.unit) self.old.at
@@ -81,7 +81,7 @@ impl<H: Waiter, X: EncodeMetric> Root<H, X> {
     /// Makes a counter of millionths, registers a clone of it in the current subsystem, and returns it. It has the errors of `register`.
     pub fn fixed_counter(&mut self, name: &str, help: &str) -> Result<Counter<Fixed>, RegistryError>
         ensures { Makes (⟦<Counter<Fixed> as Made<H>>⟧.is_made None) ⟦<Counter<Fixed> as Clone>⟧.is_clone
-            (λ x metric. metric ≡ Number (number.FixedCounter x))
+            (λ x metric. metric ≡ Scalar (scalar.FixedCounter x))
             (fit_refusal_here self.old.at name.now None)
             ⟦<Metric<H, X> as EncodeMetric>⟧.types
             (named_metric name.now help.now None) self.old.at
@@ -97,7 +97,7 @@ impl<H: Waiter, X: EncodeMetric> Root<H, X> {
         description: Description<'_>,
     ) -> Result<Counter<Fixed>, RegistryError>
         ensures { Makes (⟦<Counter<Fixed> as Made<H>>⟧.is_made description.entry.created) ⟦<Counter<Fixed> as Clone>⟧.is_clone
-            (λ x metric. metric ≡ Number (number.FixedCounter x))
+            (λ x metric. metric ≡ Scalar (scalar.FixedCounter x))
             (fit_refusal_here self.old.at description.entry.name.now description.entry.unit)
             ⟦<Metric<H, X> as EncodeMetric>⟧.types
             (named_metric description.entry.name.now description.entry.help.now description.entry.unit) self.old.at
@@ -110,7 +110,7 @@ impl<H: Waiter, X: EncodeMetric> Root<H, X> {
     /// Makes a gauge of whole numbers, registers a clone of it in the current subsystem, and returns it. It has the errors of `register`.
     pub fn gauge(&mut self, name: &str, help: &str) -> Result<Gauge<i64>, RegistryError>
         ensures { Makes (⟦<Gauge<i64> as Made<H>>⟧.is_made None) ⟦<Gauge<i64> as Clone>⟧.is_clone
-            (λ x metric. metric ≡ Number (number.Gauge x))
+            (λ x metric. metric ≡ Scalar (scalar.Gauge x))
             (fit_refusal_here self.old.at name.now None)
             ⟦<Metric<H, X> as EncodeMetric>⟧.types
             (named_metric name.now help.now None) self.old.at
@@ -123,7 +123,7 @@ impl<H: Waiter, X: EncodeMetric> Root<H, X> {
     /// Like `gauge`, by its description.
     pub fn gauge_with(&mut self, description: Description<'_>) -> Result<Gauge<i64>, RegistryError>
         ensures { Makes (⟦<Gauge<i64> as Made<H>>⟧.is_made description.entry.created) ⟦<Gauge<i64> as Clone>⟧.is_clone
-            (λ x metric. metric ≡ Number (number.Gauge x))
+            (λ x metric. metric ≡ Scalar (scalar.Gauge x))
             (fit_refusal_here self.old.at description.entry.name.now description.entry.unit)
             ⟦<Metric<H, X> as EncodeMetric>⟧.types
             (named_metric description.entry.name.now description.entry.help.now description.entry.unit) self.old.at
@@ -136,7 +136,7 @@ impl<H: Waiter, X: EncodeMetric> Root<H, X> {
     /// Makes a gauge of millionths, registers a clone of it in the current subsystem, and returns it. It has the errors of `register`.
     pub fn fixed_gauge(&mut self, name: &str, help: &str) -> Result<Gauge<Fixed>, RegistryError>
         ensures { Makes (⟦<Gauge<Fixed> as Made<H>>⟧.is_made None) ⟦<Gauge<Fixed> as Clone>⟧.is_clone
-            (λ x metric. metric ≡ Number (number.FixedGauge x))
+            (λ x metric. metric ≡ Scalar (scalar.FixedGauge x))
             (fit_refusal_here self.old.at name.now None)
             ⟦<Metric<H, X> as EncodeMetric>⟧.types
             (named_metric name.now help.now None) self.old.at
@@ -152,7 +152,7 @@ impl<H: Waiter, X: EncodeMetric> Root<H, X> {
         description: Description<'_>,
     ) -> Result<Gauge<Fixed>, RegistryError>
         ensures { Makes (⟦<Gauge<Fixed> as Made<H>>⟧.is_made description.entry.created) ⟦<Gauge<Fixed> as Clone>⟧.is_clone
-            (λ x metric. metric ≡ Number (number.FixedGauge x))
+            (λ x metric. metric ≡ Scalar (scalar.FixedGauge x))
             (fit_refusal_here self.old.at description.entry.name.now description.entry.unit)
             ⟦<Metric<H, X> as EncodeMetric>⟧.types
             (named_metric description.entry.name.now description.entry.help.now description.entry.unit) self.old.at

@@ -20,7 +20,7 @@ use Rattle.fastmetrics.specs.declared.registry.kinds.named_family.NamedFamily.Th
 use Rattle.fastmetrics.specs.contracts.registry.kinds.MetricEncodeMetric.TheImpl.{ghosts}
 use Rattle.fastmetrics.specs.inside.FittingMetrics.{FitsUnder, HasType, Fits}
 use Rattle.fastmetrics.specs.Fits.{OwnFault}
-use Rattle.fastmetrics.proofs.FaultLemmas.{vec_fits, counter_points, gauge_points, histogram_points, gauge_histogram_points, number_fits, histogram_fits, gauge_histogram_fits, states_fits, constant_fits, number_declares, constant_declares}
+use Rattle.fastmetrics.proofs.FaultLemmas.{vec_fits, counter_points, gauge_points, histogram_points, gauge_histogram_points, scalar_fits, histogram_fits, gauge_histogram_fits, states_fits, constant_fits, scalar_declares, constant_declares}
 use Rattle.fastmetrics.proofs.registry.kinds.faults.only_own_faults.Given.{Over}
 use Rattle.fastmetrics.proofs.registry.kinds.faults.only_own_faults.Goals as goal
 
@@ -30,7 +30,7 @@ module _ (g : Over) where
   declared = ghosts g.row.H g.row.X g.H.Waiter g.H.Waiter-dict g.H.Wait g.H.Wait-dict g.H.Clone g.H.Clone-dict g.X.EncodeMetric g.X.EncodeMetric-dict g.X.Destruct-dict
 
   own_type : (m : Metric g.row.H.Denot g.row.X.Denot) (t : MetricType) → declared.types m t → HasType m t
-  own_type (metric.Number x) t is = number_declares x t is
+  own_type (metric.Scalar x) t is = scalar_declares x t is
   own_type (metric.Histogram x) t is = is
   own_type (metric.GaugeHistogram x) t is = is
   own_type (metric.Family (family.Counters v)) t is = is
@@ -46,7 +46,7 @@ module _ (g : Over) where
   -- a metric that fits has a fault only if it is the program's own
   by_kind : (k : EncodeError) (name : Text) (labels : List Label) (are : AreLabels labels) (t : MetricType) (m : Metric g.row.H.Denot g.row.X.Denot) → HasType m t → FitsUnder name labels m → MetricHasFault k (declared.offers m) (declared.stamps m) (declared.may_fault m) name t labels
       → (x : g.row.X.Denot) × (m ≡ metric.Own x) × MetricHasFault k (g.X.EncodeMetric.offers x) (g.X.EncodeMetric.stamps x) (g.X.EncodeMetric.may_fault x) name t labels
-  by_kind k name labels are t (metric.Number x) same fit fault = absurd (number_fits k name labels are t x same fault)
+  by_kind k name labels are t (metric.Scalar x) same fit fault = absurd (scalar_fits k name labels are t x same fault)
   by_kind k name labels are t (metric.Histogram x) same fit fault = absurd (histogram_fits k name labels are t _ _ _ _ (λ own. own) same fit fault)
   by_kind k name labels are t (metric.GaugeHistogram x) same fit fault = absurd (gauge_histogram_fits k name labels are t _ _ _ (λ own. own) same fit fault)
   by_kind k name labels are t (metric.Family (family.Counters v)) same fit fault = absurd (vec_fits k name labels are t type.Counter _ _ _ _ (λ own. own.1.2) same (all_free type.Counter labels (λ _ never. never)) fit.1 (λ m points told. counter_points _ _ (λ total. Whole (pos total)) (option_map millis (counter_created m)) points told) fault)
