@@ -1,4 +1,15 @@
 //! Registries of metrics, with their subsystems, roots that need no box, and the registry that a whole program shares.
+//!
+//! <!-- cut: crates/calling/src/many.rt -->
+//! ```rust
+//! let mut root = Root::new(rt)?;
+//! for name in ["mail", "images", "reports", "backups", "imports"] {
+//!     let work = make_work(&mut root, name)?;
+//!     work.begun.inc();
+//!     work.running.inc();
+//! }
+//! root.encode(out)?;
+//! ```
 
 mod at;
 mod description;

@@ -2,6 +2,13 @@
 //!
 //! These are the rules of Prometheus' `promlint` that a registry leaves open (<https://prometheus.io/docs/practices/naming/>), for
 //! the names of families, to which the lines of a document add a suffix.
+//!
+//! <!-- cut: crates/calling/src/errors.rt -->
+//! ```rust
+//! for warning in &root.lint()? {
+//!     writeln!(out, "{warning}")?;
+//! }
+//! ```
 ghost use Rattle.std.specs.Prelude.{◌≡◌, ◌&&◌, ◌++◌, map, is_none, OnOk, IfOk};
 ghost use Rattle.std.specs.Option.{option_copied, option_map};
 ghost use Rattle.std.specs.List.{flat_map};
@@ -31,6 +38,14 @@ static ALL: [Advice; 6] = [
 ];
 
 /// What is advised of a family.
+///
+/// <!-- cut: bench/tests/src/documents/advice.rt.in -->
+/// ```rust
+/// let sum = Box::new(alloc, ConstCounter::<u64>::new(1))?;
+/// add(alloc, &mut registry, "sum", "S", sum)?;
+/// let warnings = lint_registry(alloc, &registry)?;
+/// assert!(rt; warnings.len() == 1 && warnings[0].advice == Advice::Suffix);
+/// ```
 #[derive(Clone, Copy, Debug, PartialEq, Eq, Hash, Drop)]
 pub enum Advice {
     /// It has no help: the text is empty.
@@ -48,6 +63,16 @@ pub enum Advice {
 }
 
 /// What is advised of a family, with its printed name.
+///
+/// <!-- cut: crates/lint/src/verdict.rt -->
+/// ```rust
+/// for warning in warnings {
+///     if writeln!(out, "{warning}").is_err() {
+///         return 1;
+///     }
+/// }
+/// u8::from(!warnings.is_empty())
+/// ```
 #[derive(Debug, PartialEq, Eq, Drop)]
 pub struct Warning {
     pub name: String,

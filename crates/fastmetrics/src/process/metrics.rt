@@ -12,6 +12,13 @@ use std::rt::Files;
 
 /// Handles of the metrics of the process. A clone shares each number with them, as the root does; cloning takes memory. A number that
 /// couldn't be read when the metrics were registered has no metric, so that none is shown as a false zero.
+///
+/// <!-- cut: crates/calling/src/process.rt -->
+/// ```rust
+/// let _unread = process.read(rt);
+/// let mut body = Vec::new(rt.alloc());
+/// root.encode(&mut body)?;
+/// ```
 #[derive(Clone, Drop)]
 pub struct ProcessMetrics {
     /// The seconds of processor time, its own and the system's for it.

@@ -5,6 +5,17 @@ use fm_raw::{Fixed, Unit};
 use std::time::Duration;
 
 /// What a metric, or a family of metrics, is to be: its name and its help, and what else differs from the usual.
+///
+/// <!-- cut: crates/server/src/main.rt -->
+/// ```rust
+/// let latency = Description::new("latency", "Time to serve").unit(Unit::Seconds);
+/// Ok(Http {
+///     sent: root.counter_with(Description::new("sent", "What was sent").unit(Unit::Bytes))?,
+///     // ..
+///     latency: root.histogram_with(latency.bounds(&bounds()))?,
+///     // ..
+/// })
+/// ```
 #[derive(Drop)]
 pub struct Description<'a> {
     pub(crate) name: &'a str,

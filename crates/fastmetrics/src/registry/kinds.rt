@@ -38,6 +38,18 @@ use std::time::Duration;
 /// that has none leaves `X` out.
 ///
 /// It declares and offers what the metric in it does.
+///
+/// <!-- cut: crates/replay/src/world.rt -->
+/// ```rust
+/// let metric = Metric::Own(own);
+/// match unit_of(self.alloc, line.word(5)) {
+///     Ok(unit) => Ok(
+///         self.root
+///             .register(line.word(3), line.word(4), unit, metric)?,
+///     ),
+///     Err(stop) => Err(stop),
+/// }
+/// ```
 pub enum Metric<H: Wait, X = NoOwn> {
     /// A counter or a gauge.
     Scalar(Scalar),

@@ -58,6 +58,17 @@ fn random_hashing<R: RandomSource>(rt: &R) -> Result<LabelHashing, RegistryError
 ///
 /// Its type says that it reads a history of accepted calls. So any function may make one, register in it, return it or keep it under
 /// a lock, and no clause and no box is needed. Its metrics wait by the handle that it is made with.
+///
+/// <!-- cut: crates/server/src/main.rt -->
+/// ```rust
+/// let mut root: Root<_, Own> = Root::built(Registry::builder(), rt)?;
+/// // ..
+/// root.namespace("shop", &[("zone", "west")])?;
+/// // ..
+/// let load = root.fixed_gauge("load", "How busy the machine is")?;
+/// // ..
+/// load.set(Fixed::from_millionths(500_000));
+/// ```
 pub struct Root<H: Wait, X = NoOwn> {
     at: RegistryAt<H, X>,
     wait: H,
@@ -327,6 +338,17 @@ impl<H: Waiter, X: EncodeMetric> Root<H, X> {
 
 /// What can be shown in a document, for the clauses of a program: `is_document` says that these bytes are the document of an exposition
 /// which the metrics that are registered there admit, and of no other.
+///
+/// <!-- cut: crates/calling/src/roots.rt -->
+/// ```rust
+/// pub fn first_page<H: Waiter>(root: &mut Root<H>) -> anyhow::Result<Vec<u8>>
+///     ensures { IfOk result (λ bytes. ⟦<Root<H> as Shown>⟧.is_document root.new bytes.items) }
+/// {
+///     let pages = root.counter("pages", "Pages that were asked for")?;
+///     pages.inc();
+///     Ok(root.document()?)
+/// }
+/// ```
 pub trait Shown {
     ghost is_document: { Self → List ℕ → Type 0 };
 }

@@ -1,4 +1,14 @@
 //! The OpenMetrics text format: collecting a registry, writing its document, and reading documents back; where two texts differ.
+//!
+//! <!-- cut: crates/calling/src/documents.rt -->
+//! ```rust
+//! let exposition = collect(alloc, registry)?;
+//! if exposition.families().is_empty() {
+//!     return Ok(None);
+//! }
+//! let mut body = Vec::new(alloc);
+//! encode_exposition(alloc, &mut body, &exposition)?;
+//! ```
 
 pub use crate::scrape::{FamilyFault, collect, encode, fault};
 pub use fm_exposition::{Exemplar, Exposition, FamilySamples, Sample, Value};

@@ -61,6 +61,17 @@ impl<M> Protected<M> {
 
 /// A registry protected by a lock, which several threads may read at once. It is empty until one is set. The first use
 /// fixes it: from then on `set_global_registry` fails.
+///
+/// <!-- cut: crates/calling/src/globals.rt -->
+/// ```rust
+/// let global: GlobalRegistry = GlobalRegistry::new();
+/// set_global_registry(&rt, &global, named(alloc)?.build()?)?;
+///
+/// let requests = Counter::<u64>::try_default(rt, alloc)?;
+/// let metric: Box<dyn EncodeMetric> = Box::new(alloc, requests.clone()?)?;
+/// let (name, help) = texts(alloc)?;
+/// register_metric(&rt, &global, name, help, None, metric)?;
+/// ```
 #[derive(Drop)]
 pub struct GlobalRegistry<M: Drop = Box<dyn EncodeMetric>> {
     pub(crate) protected: RwLock<Protected<M>>,

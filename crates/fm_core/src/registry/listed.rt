@@ -13,6 +13,16 @@ use fm_registry_rules::names::Tailed;
 use indexmap::IndexMap;
 
 /// A metric as a collector receives it: with its metadata, and with the namespace and the labels of its registry.
+///
+/// <!-- cut: bench/tests/src/documents/listing.rt.in -->
+/// ```rust
+/// listed.namespace == Some("db")
+///     && (key.as_str(), value.as_str()) == ("k", "v")
+///     && listed.tail == tail
+///     && (listed.metadata.name(), listed.metadata.help()) == (name, "H")
+///     && listed.metadata.unit() == Some(&Unit::Bytes)
+///     && listed.metric.metric_type() == MetricType::Gauge
+/// ```
 #[derive(Drop)]
 pub struct ListedMetric<'a, M = Box<dyn EncodeMetric>> {
     pub namespace: Option<&'a str>,

@@ -43,6 +43,20 @@ impl<M: Drop> Drop for Facts<M> {
 /// A registry of metrics, with its subsystems. Contracts see it as a `Tree`.
 ///
 /// An empty registry takes no memory.
+///
+/// <!-- cut: crates/calling/src/pool.rt -->
+/// ```rust
+/// let mut registry = Registry::default();
+/// let counter = Box::new(alloc, ConstCounter::new(received.total))?;
+/// add(
+///     alloc,
+///     &mut registry,
+///     "received_bytes",
+///     "Bytes that were received",
+///     counter,
+/// )?;
+/// encode(alloc, out, &registry)?;
+/// ```
 #[derive(Drop)]
 #[cycle(tree)]
 pub struct Registry<M = Box<dyn EncodeMetric>> {

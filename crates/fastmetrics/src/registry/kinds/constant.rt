@@ -13,6 +13,16 @@ use std::time::Duration;
 /// A metric that never changes.
 ///
 /// It declares and offers what the metric in it does.
+///
+/// <!-- cut: crates/calling/src/roots.rt -->
+/// ```rust
+/// root.register(
+///     "version",
+///     "Version of the protocol",
+///     None,
+///     ConstGauge::new(3_i64),
+/// )?;
+/// ```
 pub enum Constant {
     /// Facts, as pairs of a name and a text.
     Info(Info<Vec<(String, String)>>),

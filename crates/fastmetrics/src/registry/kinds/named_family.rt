@@ -16,18 +16,58 @@ use std::time::Duration;
 pub type VecOf<M, H> = MetricVec<M, Maker<H>, H>;
 
 /// Counters of whole numbers with the same label names.
+///
+/// <!-- cut: crates/calling/src/families.rt -->
+/// ```rust
+/// pub fn count_request<H: Waiter>(
+///     requests: &CounterVec<H>,
+///     method: &str,
+/// ) -> Result<u64, MetricError> {
+///     requests.with(&[method], |count| count.inc())
+/// }
+/// ```
 pub type CounterVec<H> = VecOf<Counter<u64>, H>;
 
 /// Counters of millionths with the same label names.
+///
+/// <!-- cut: bench/tests/src/documents/named.rt.in -->
+/// ```rust
+/// let starts = root.fixed_counters_with(
+///     Description::new("starts", "H")
+///         .labels(&labels)
+///         .created(created),
+/// )?;
+/// starts.with(
+///     &["a"],
+///     |count| count.inc_by(Fixed::from_millionths(2_500_000)),
+/// )??;
+/// ```
 pub type FixedCounterVec<H> = VecOf<Counter<Fixed>, H>;
 
 /// Gauges of whole numbers with the same label names.
+///
+/// <!-- cut: bench/tests/src/documents/named.rt.in -->
+/// ```rust
+/// let load = root.gauges("load", "H", &["host", "core"])?;
+/// // ..
+/// load.with(&values, |gauge| gauge.set(value))?;
+/// ```
 pub type GaugeVec<H> = VecOf<Gauge<i64>, H>;
 
 /// Gauges of millionths with the same label names.
 pub type FixedGaugeVec<H> = VecOf<Gauge<Fixed>, H>;
 
 /// Histograms with the same label names.
+///
+/// <!-- cut: crates/server/src/main.rt -->
+/// ```rust
+/// let waits = Description::new("waits", "Waits by queue and place").labels(&["queue", "place"]);
+/// // ..
+/// waits: root.histograms_with(waits.bounds(&bounds()).limit(100))?,
+/// // ..
+/// pool.waits
+///     .with(&["mail", "out"], |wait| wait.observe(waited))??;
+/// ```
 pub type HistogramVec<H> = VecOf<Histogram<H>, H>;
 
 /// Gauge histograms with the same label names.

@@ -8,6 +8,19 @@ use std::time::Duration;
 /// A metric of one of two types. A program with more own types than two has a `OneOf` in a `OneOf`.
 ///
 /// It declares and offers what the metric in it does.
+///
+/// <!-- cut: crates/calling/src/own.rt -->
+/// ```rust
+/// pub type Own<H> = OneOf<
+///     SourceGauge<i64, Arc<Queue>>,
+///     OneOf<
+///         Collected<ConstGauge<i64>, Arc<Pools>>,
+///         OneOf<PairFamily<u64, Counter, H, 1>, SizesBy<H>>,
+///     >,
+/// >;
+/// // ..
+/// let mut root: Root<H, Own<H>> = Root::built(Registry::builder(), rt)?;
+/// ```
 pub enum OneOf<A, B> {
     /// The first type.
     First(A),

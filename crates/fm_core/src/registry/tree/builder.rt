@@ -14,6 +14,15 @@ use fm_registry_rules::RegistryError;
 use fm_registry_rules::labels::tested_root_labels;
 
 /// Sets up a root. The namespace and the labels are both optional.
+///
+/// <!-- cut: crates/calling/src/registries.rt -->
+/// ```rust
+/// let namespace = String::from_str(alloc, "myapp")?;
+/// let labels = one_label(alloc, "env", "prod")?;
+/// Registry::builder()
+///     .with_namespace(namespace)?
+///     .with_const_labels(labels)
+/// ```
 pub struct RegistryBuilder {
     namespace: Option<String>,
     const_labels: Option<Vec<(String, String)>>,

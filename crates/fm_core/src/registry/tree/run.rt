@@ -19,6 +19,20 @@ use fm_raw::{MetricType, Unit};
 use fm_registry_rules::RegistryError;
 
 /// A call at the registry that a path of subsystem names leads to, starting from the registry that runs the call.
+///
+/// <!-- cut: crates/calling/src/registries.rt -->
+/// ```rust
+/// Ok(RegistryCall::Subsystem {
+///     path: Vec::new(alloc),
+///     name,
+///     labels: Vec::new(alloc),
+/// })
+/// // ..
+/// let calls = vec![in alloc; make, register]?;
+/// for reply in registry.run(calls)? {
+///     reply?;
+/// }
+/// ```
 #[derive(Drop)]
 pub enum RegistryCall<M = Box<dyn EncodeMetric>> {
     /// Registers a metric there.

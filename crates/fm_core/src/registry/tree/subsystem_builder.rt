@@ -20,6 +20,15 @@ use fm_registry_rules::RegistryError;
 use fm_registry_rules::labels::tested_labels;
 
 /// Sets up a subsystem of a registry. It borrows the registry until the subsystem is built.
+///
+/// <!-- cut: bench/replay/src/boxes.rt.in -->
+/// ```rust
+/// self.registry
+///     .subsystem_builder(name)?
+///     .with_const_labels(first)?
+///     .with_const_labels(labels)?
+///     .build()?;
+/// ```
 #[derive(Drop)]
 pub struct RegistrySubsystemBuilder<'a, M = Box<dyn EncodeMetric>> {
     registry: &'a mut Registry<M>,
