@@ -133,6 +133,15 @@ struct Shared {
 /// Negative values are not taken.
 ///
 /// A call that observes or encodes waits while another thread has the lock. Making one, cloning and encoding take memory.
+///
+/// <!-- cut: bench/tests/src/documents/own.rt.in -->
+/// ```rust
+/// type Own = OneOf<ExemplarCounter<HostRuntime>, OneOf<ExemplarHistogram<HostRuntime>, Unknown<i64>>>;
+/// // ..
+/// let mut root = Root::<_, Own>::built(Registry::builder(), rt)?;
+/// // ..
+/// let _lengths: ExemplarHistogram<HostRuntime> = root.own("lengths", "H")?;
+/// ```
 pub struct ExemplarHistogram<H: Wait> {
     shared: Arc<Shared, Global>,
     wait: H,

@@ -49,6 +49,17 @@ impl<S: Sign, H: Wait + Drop> Drop for HistogramOf<S, H> {
 ///
 /// A call that observes, reads or encodes waits while another thread has the lock. Making one, cloning and encoding take
 /// memory.
+///
+/// <!-- cut: crates/calling/src/histograms.rt -->
+/// ```rust
+/// let bounds = [
+///     Fixed::from_millionths(10_000),
+///     Fixed::from_millionths(100_000),
+///     Fixed::from_millionths(1_000_000),
+/// ];
+/// let durations = Histogram::new(wait, alloc, bounds.into_iter())?;
+/// durations.observe(Fixed::from_millionths(250_000))?;
+/// ```
 pub type Histogram<H> = HistogramOf<NotNegative, H>;
 
 /// How many current values lie in each bucket, how many there are, and their sum, which its clones share under a lock.
@@ -56,6 +67,18 @@ pub type Histogram<H> = HistogramOf<NotNegative, H>;
 ///
 /// A call that observes, reads or encodes waits while another thread has the lock. Making one, cloning and encoding take
 /// memory.
+///
+/// <!-- cut: crates/replay_metrics/src/histograms.rt -->
+/// ```rust
+/// pub fn make_gauge_histogram<H: Wait + Drop>(
+///     wait: H,
+///     alloc: Global,
+///     bounds: &Vec<Fixed>,
+/// ) -> Result<GaugeHistogram<H>, MetricError> {
+///     let bounds = bounds.clone()?.into_iter();
+///     GaugeHistogram::new(wait, alloc, bounds)
+/// }
+/// ```
 pub type GaugeHistogram<H> = HistogramOf<Signed, H>;
 
 // A duration in seconds. One that is too long is as long as a number can say.

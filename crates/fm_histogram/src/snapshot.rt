@@ -34,10 +34,31 @@ impl<S: Sign> Drop for SnapshotOf<S> {
 
 /// How many observed values lie in each bucket, how many there are, and their sum.
 /// Negative values are not taken. Cloning takes memory.
+///
+/// <!-- cut: crates/calling/src/histograms.rt -->
+/// ```rust
+/// pub fn merged(
+///     mut all: HistogramSnapshot,
+///     mine: &HistogramSnapshot,
+/// ) -> Result<HistogramSnapshot, MetricError> {
+///     all.merge(mine)?;
+///     Ok(all)
+/// }
+/// ```
 pub type HistogramSnapshot = SnapshotOf<NotNegative>;
 
 /// How many observed values lie in each bucket, how many there are, and their sum.
 /// Negative values and bounds are taken too. Cloning takes memory.
+///
+/// <!-- cut: crates/replay_metrics/src/histograms.rt -->
+/// ```rust
+/// pub fn show_gauge_histogram<H: Wait + Drop>(
+///     histogram: &GaugeHistogram<H>,
+///     alloc: Global,
+/// ) -> Result<String, Stop> {
+///     histogram.with_snapshot(|taken| counts(alloc, taken.buckets(), taken.gcount(), taken.gsum()))
+/// }
+/// ```
 pub type GaugeHistogramSnapshot = SnapshotOf<Signed>;
 
 impl<S: Sign> Model for SnapshotOf<S> {

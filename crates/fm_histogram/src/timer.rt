@@ -12,6 +12,16 @@ use std::time::{Clock, Duration, Instant};
 use thiserror::Error;
 
 /// Why a timer counted nothing.
+///
+/// By a clock that tells two times and then fails:
+///
+/// <!-- cut: bench/tests/src/metrics/timers.rt.in -->
+/// ```rust
+/// let clock = Told::new([1, 2]);
+/// let first = histogram.start_timer(&clock)?;
+/// let second = histogram.start_timer(&clock)?;
+/// assert!(rt; matches!(second.stop(), Err(TimerError::Clock(_))));
+/// ```
 #[derive(Debug, Drop, Error)]
 pub enum TimerError {
     /// The clock couldn't be read.
@@ -27,6 +37,16 @@ pub enum TimerError {
 ///
 /// A timer that is dropped counts nothing where `stop` would fail. To count, it waits while another thread has the histogram's
 /// lock. It takes no memory.
+///
+/// By a clock that tells a quarter of a second more each time:
+///
+/// <!-- cut: bench/tests/src/metrics/timers.rt.in -->
+/// ```rust
+/// let clock = Quarters::new();
+/// let timer = histogram.start_timer(&clock)?;
+/// assert_eq!(rt; timer.stop()?, Duration::from_millis(250));
+/// assert!(rt; has_one(&histogram, 250));
+/// ```
 #[must_use = "the time is counted as soon as this is dropped"]
 pub struct Timer<'a, H: Wait, C: Clock> {
     histogram: &'a Histogram<H>,

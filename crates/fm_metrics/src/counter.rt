@@ -29,6 +29,13 @@ pub(crate) struct Count<N: CounterValue> {
 ///
 /// `N` is `u32`, `u64`, `usize` or `Fixed`. Each change is one atomic step. No call waits, and only making a counter
 /// and cloning it take memory.
+///
+/// <!-- cut: crates/calling/src/counters.rt -->
+/// ```rust
+/// let messages = Counter::<u64>::with_created(alloc, now)?;
+/// messages.inc();
+/// messages.inc_by(2)?;
+/// ```
 pub struct Counter<N: CounterValue = u64> {
     pub(crate) count: Arc<Count<N>, Global>,
 }
@@ -182,6 +189,14 @@ impl<N: CounterValue + EncodeCounterValue> EncodeMetric for Counter<N> {
 /// A counter that keeps the total it was made with, for a total that is counted elsewhere.
 ///
 /// `N` is `u32`, `u64`, `usize` or `Fixed`.
+///
+/// <!-- cut: crates/expose_io/src/tally.rt -->
+/// ```rust
+/// pub fn jobs<R: Threads + Wait + Sync>(rt: &R, alloc: Global) -> Result<Box<ConstCounter>, Fault> {
+///     let total = counted_jobs::<Brand, R>(rt, alloc, Blank::new(3))?;
+///     Ok(Box::new(alloc, ConstCounter::new(total))?)
+/// }
+/// ```
 #[derive(Clone, Debug, Drop)]
 pub struct ConstCounter<N = u64> {
     total: N,

@@ -23,6 +23,14 @@ use std::time::Duration;
 ///
 /// The total is that of [`Counter`]. The exemplar is under a lock: passing one and encoding wait while another thread has it. Making
 /// one and cloning it take memory.
+///
+/// <!-- cut: bench/tests/src/documents/own.rt.in -->
+/// ```rust
+/// let mut root = Root::<_, ExemplarCounter<_>>::built(Registry::builder(), rt)?;
+/// let routes: ExemplarCounter<HostRuntime> = root.own("routes", "H")?;
+/// // ..
+/// routes.counter().inc();
+/// ```
 pub struct ExemplarCounter<H: Wait, N: CounterValue = u64> {
     counter: Counter<N>,
     last: Arc<Mutex<Option<LabeledExemplar<ExemplarLabels>>>, Global>,

@@ -20,6 +20,18 @@ use std::time::Duration;
 ///
 /// `N` is `i32`, `i64`, `isize`, `u32`, `u64` or `Fixed`. Each change is one atomic step, and wraps at the ends of the
 /// type. No call waits, and only making a gauge and cloning it take memory.
+///
+/// <!-- cut: crates/calling/src/gauges.rt -->
+/// ```rust
+/// pub fn serve_one(open: &Gauge) {
+///     open.inc();
+///     open.dec();
+/// }
+/// // ..
+/// pub fn temperature(alloc: Global) -> Result<Gauge<Fixed>, MetricError> {
+///     Gauge::new(alloc, Fixed::from_millionths(21_500_000))
+/// }
+/// ```
 pub struct Gauge<N: GaugeValue = i64> {
     value: Arc<N::Atomic, Global>,
 }
@@ -104,6 +116,13 @@ impl<N: GaugeValue> Gauge<N> {
 /// way out of a scope, an early return by `?` too. To lower it sooner, `drop` this.
 ///
 /// Each is one atomic step, which wraps at the ends of the type, takes no memory and doesn't wait.
+///
+/// <!-- cut: crates/server/src/main.rt -->
+/// ```rust
+/// let http = &server.http;
+/// let _in_flight = http.in_flight.track_in_progress();
+/// http.requests.with(&["GET"], |count| count.inc())?;
+/// ```
 #[must_use = "the gauge is lowered as soon as this is dropped"]
 pub struct InProgress<'a, N: GaugeValue = i64> {
     value: &'a N::Atomic,
@@ -185,6 +204,16 @@ impl<N: GaugeValue + EncodeGaugeValue> EncodeMetric for Gauge<N> {
 /// A gauge that keeps the value it was made with, for a value that is measured elsewhere.
 ///
 /// `N` is `i32`, `i64`, `isize`, `u32`, `u64` or `Fixed`.
+///
+/// <!-- cut: crates/calling/src/roots.rt -->
+/// ```rust
+/// root.register(
+///     "version",
+///     "Version of the protocol",
+///     None,
+///     ConstGauge::new(3_i64),
+/// )?;
+/// ```
 #[derive(Clone, Debug, Drop)]
 pub struct ConstGauge<N = i64> {
     value: N,

@@ -1,4 +1,12 @@
 //! Information that does not change.
+//!
+//! <!-- cut: crates/server/src/main.rt -->
+//! ```rust
+//! let mut root: Root<_, Own> = Root::built(Registry::builder(), rt)?;
+//! // ..
+//! root.namespace("shop", &[("zone", "west")])?;
+//! root.info("build", "What runs", &[("version", "1.2")])?;
+//! ```
 ghost use Rattle.std.specs.Prelude.{◌≡◌, [], ◌∷◌};
 ghost use Rattle.fm_grammar.specs.declared.MetricType.TheVariants.{Info as InfoType};
 ghost use Rattle.fm_encoder.specs.Points.{InfoPoint};
@@ -9,6 +17,15 @@ use fm_raw::{EncodeError, MetricType, TypedMetric};
 use std::time::Duration;
 
 /// An info metric: a label set that does not change.
+///
+/// <!-- cut: crates/calling/src/infos.rt -->
+/// ```rust
+/// let version = (
+///     String::from_str(alloc, "version")?,
+///     String::from_str(alloc, "1.2.3")?,
+/// );
+/// Ok(Info::new(vec![in alloc; version]?))
+/// ```
 #[derive(Clone, Debug, Drop)]
 pub struct Info<LS> {
     labels: LS,

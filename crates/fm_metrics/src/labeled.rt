@@ -8,6 +8,16 @@ use std::time::Duration;
 
 /// A metric of a program's own that consists of its labels and its point. Its type is that of the point. The point is a constant
 /// metric, such as `ConstGauge`, a shared one, such as `Counter`, or a type of the program's own.
+///
+/// <!-- cut: crates/own_metric/src/lib.rt -->
+/// ```rust
+/// pub fn waiting_now(queue: Queue, requests: u64) -> Labeled<Queue, ConstGauge<u64>> {
+///     Labeled {
+///         labels: queue,
+///         point: ConstGauge::new(requests),
+///     }
+/// }
+/// ```
 #[derive(Clone, Debug, Drop)]
 pub struct Labeled<LS, P> {
     /// Its labels.

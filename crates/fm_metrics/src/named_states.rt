@@ -112,6 +112,13 @@ struct Named {
 
 /// A state that its clones share. The states are texts, which are given when the state set is made. An atomic contains the index of
 /// the current one: a change is one store, a reading one load.
+///
+/// <!-- cut: crates/calling/src/infos.rt -->
+/// ```rust
+/// let job = NamedStates::new(alloc, &["waiting", "running", "done"])?;
+/// job.set("running")?;
+/// Ok(job)
+/// ```
 #[derive(Drop)]
 pub struct NamedStates {
     named: Arc<Named, Global>,

@@ -1,4 +1,11 @@
 //! Gauges and counters that ask a source for their number each time they are written.
+//!
+//! <!-- cut: crates/calling/src/own.rt -->
+//! ```rust
+//! use fastmetrics::metrics::source::{NumberSource, SourceGauge};
+//! // ..
+//! root.add_own("queue", "Jobs that wait", SourceGauge::new(queue.clone()?))?;
+//! ```
 ghost use Rattle.std.specs.Prelude.{◌≡◌, [], ◌∷◌, None, ⊤};
 ghost use Rattle.std.specs.Arc.{arc_value};
 ghost use Rattle.fm_grammar.specs.declared.MetricType.TheVariants.{Gauge, Counter};
@@ -16,6 +23,15 @@ use std::sync::atomic::{AtomicI32, AtomicI64, AtomicIsize, AtomicU32, AtomicU64,
 use std::time::Duration;
 
 /// Tells a number when it is asked, such as the length of a queue.
+///
+/// <!-- cut: crates/calling/src/own.rt -->
+/// ```rust
+/// impl NumberSource<i64> for Queue {
+///     fn read(&self) -> i64 {
+///         self.waiting.load(SeqCst)
+///     }
+/// }
+/// ```
 pub trait NumberSource<N> {
     /// Holds of each number that the source may tell. If nothing is said, it may tell any.
     ghost tells: { Self → N → Type 0 } = { λ _ _. ⊤ };
@@ -80,6 +96,15 @@ impl NumberSource<usize> for AtomicUsize {
 ///
 /// The source is asked once for each document, and tells an `i32`, `i64`, `isize`, `u32`, `u64` or `Fixed`. Whoever writes the
 /// document waits for it. No call takes memory but the source's own.
+///
+/// <!-- cut: crates/calling/src/process.rt -->
+/// ```rust
+/// pub fn queue_length(
+///     length: &Arc<AtomicI64, Global>,
+/// ) -> Result<SourceGauge<i64, Arc<AtomicI64, Global>>, AllocError> {
+///     Ok(SourceGauge::new(length.clone()?))
+/// }
+/// ```
 #[derive(Drop)]
 pub struct SourceGauge<N, R> {
     source: R,
@@ -144,6 +169,14 @@ impl<N: EncodeGaugeValue + Send + Sync + Drop, R: NumberSource<N> + Send + Sync 
 ///
 /// The source is asked as that of a `SourceGauge` is, and tells a `u32`, `u64`, `usize` or `Fixed`. That the total is not
 /// negative and never falls is its own task.
+///
+/// <!-- cut: bench/tests/src/documents/sources.rt.in -->
+/// ```rust
+/// let hits = Arc::new(alloc, AtomicU64::new(3))?;
+/// let registry = registry_of(alloc, "hits", SourceCounter::new(hits.clone()?))?;
+/// // ..
+/// hits.store(41, SeqCst);
+/// ```
 #[derive(Drop)]
 pub struct SourceCounter<N, R> {
     source: R,

@@ -21,6 +21,18 @@ use std::time::Duration;
 pub const MAX_STATES: usize = 256;
 
 /// A type whose values are the states of a state set.
+///
+/// <!-- cut: crates/own_metric/src/states.rt -->
+/// ```rust
+/// impl StateSetValue for Job {
+///     ghost all = { Waiting ∷ Running ∷ [] };
+///     // ..
+///     fn variants() -> &'static [Job] {
+///         &JOBS
+///     }
+///     // ..
+/// }
+/// ```
 pub trait StateSetValue: PartialEq + Sized + Send + Sync + Drop {
     /// The states, in order.
     ghost all: { List Self };
@@ -92,6 +104,13 @@ impl<T: StateSetValue> Rule for IndexOf<T> {
 }
 
 /// A state that its clones share. An atomic contains its index: a change is one store, a reading one load.
+///
+/// <!-- cut: crates/own_metric/src/states.rt -->
+/// ```rust
+/// let job = StateSet::new(alloc, Job::Waiting)?;
+/// job.set(Job::Running)?;
+/// Ok(job)
+/// ```
 pub struct StateSet<T: StateSetValue> {
     index: Arc<AtomicIn<IndexOf<T>>, Global>,
     alloc: Global,
@@ -242,6 +261,16 @@ impl<T: StateSetValue + 'static> EncodeMetric for StateSet<T> {
 }
 
 /// A state set that keeps the state it was made with.
+///
+/// <!-- cut: crates/replay_metrics/src/const_states.rt -->
+/// ```rust
+/// fn states<T: StateSetValue + Named + 'static>(
+///     alloc: Global,
+///     state: &str,
+/// ) -> Result<ConstStateSet<T>, MetricError> {
+///     ConstStateSet::new(alloc, T::named(state))
+/// }
+/// ```
 #[derive(Drop)]
 pub struct ConstStateSet<T: StateSetValue> {
     state: T,

@@ -12,6 +12,13 @@ use std::time::Duration;
 /// A metric of unknown type that keeps the value it was made with.
 ///
 /// `T` is `i32`, `i64`, `isize`, `u32` or `Fixed`.
+///
+/// <!-- cut: crates/replay_metrics/src/constant.rt -->
+/// ```rust
+/// fn unknown<N: Told + UnknownValue>(line: &Line) -> Result<Unknown<N>, Stop> {
+///     Ok(Unknown::new(N::read(line.argument(0)?)?))
+/// }
+/// ```
 #[derive(Clone, Debug, Drop)]
 pub struct Unknown<T: UnknownValue> {
     value: T,

@@ -9,6 +9,15 @@ use std::alloc::Global;
 use std::marker::Model;
 
 /// What a caller of a tally does.
+///
+/// <!-- cut: bench/replay/src/tallies.rt.in -->
+/// ```rust
+/// Some(("read", who)) => Ok(Event::Read { who: whole(who)? }),
+/// Some((who, number)) => Ok(Event::Add {
+///     who: whole(who)?,
+///     v: whole(number)?,
+/// }),
+/// ```
 #[derive(Clone, Copy, Debug, PartialEq, Eq)]
 pub enum Event {
     /// Adds a value.
@@ -18,6 +27,15 @@ pub enum Event {
 }
 
 /// What a tally replies to an event.
+///
+/// <!-- cut: bench/replay/src/tallies.rt.in -->
+/// ```rust
+/// let told = match reply {
+///     Reply::Added => String::from_str(alloc, "added ")?,
+///     Reply::Full => String::from_str(alloc, "full ")?,
+///     Reply::Sum(sum) => format!(in alloc; "sum {sum} ")?,
+/// };
+/// ```
 #[derive(Clone, Copy, Debug, PartialEq, Eq)]
 pub enum Reply {
     /// The value was added.
@@ -29,6 +47,15 @@ pub enum Reply {
 }
 
 /// The sum of the values that were added so far. It never passes 2^64 - 1.
+///
+/// <!-- cut: bench/tests/src/metrics/tallies.rt.in -->
+/// ```rust
+/// let events = vec![in alloc; Event::Add { who: 0, v: 1 }; 70_000]?;
+/// let mut book = Book::new();
+/// let replies = book.run(alloc, events.as_slice())?;
+/// assert!(rt; replies.iter().all(|reply| *reply == Reply::Added));
+/// assert!(rt; replies.len() == 70_000 && book.read() == 70_000);
+/// ```
 #[derive(Debug, Drop)]
 pub struct Book {
     sum: u64,

@@ -7,6 +7,13 @@ use std::alloc::{AllocError, AllocFailed};
 use thiserror::Error;
 
 /// Why a call on a tally failed.
+///
+/// <!-- cut: crates/expose_io/src/tally.rt -->
+/// ```rust
+/// let Ok(first) = scope.spawn(move || count_to_hundred(rt, tally, one)) else {
+///     return Err(TallyError::SpawnFailed);
+/// };
+/// ```
 #[derive(Clone, Copy, Debug, PartialEq, Eq, Drop, Error)]
 pub enum TallyError {
     /// Memory could not be allocated.

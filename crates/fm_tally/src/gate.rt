@@ -2,6 +2,18 @@
 ghost use Rattle.std.specs.Prelude.{◌≡◌, ℕ, false};
 
 /// Lets pieces through or refuses them. Each worker calls it before it observes its piece.
+///
+/// A gate that refuses all pieces from one on:
+///
+/// <!-- cut: bench/tests/src/metrics/pieces.rt.in -->
+/// ```rust
+/// impl Gate for RefusesFrom {
+///     // ..
+///     fn pass(&self, piece: usize) -> bool {
+///         piece < self.0
+///     }
+/// }
+/// ```
 pub trait Gate: Sync {
     /// Whether the gate may refuse a piece.
     ghost may_refuse: { Self → ℕ → Type 0 };
@@ -13,6 +25,14 @@ pub trait Gate: Sync {
 }
 
 /// A gate that lets every piece through.
+///
+/// <!-- cut: bench/replay/src/tallies.rt.in -->
+/// ```rust
+/// let bounds = bounds_of(alloc, line.word(1))?;
+/// let pieces = pieces_of(alloc, line.word(2))?;
+/// // ..
+/// let all = observe_all(rt, alloc, bounds.as_slice(), pieces.as_slice(), &OpenGate)?;
+/// ```
 #[derive(Clone, Copy, Debug)]
 pub struct OpenGate;
 

@@ -10,6 +10,13 @@ use std::sync::ledger::{Blank, Ledger};
 use std::sync::{Mutex, Wait, ledger};
 
 /// Which tally a share is of. A function that makes a tally has it as a type parameter, and is called with `Brand`.
+///
+/// <!-- cut: crates/calling/src/pool.rt -->
+/// ```rust
+/// let (tally, mut shares) = Tally::<K>::new(alloc, blank, batches.len() + 1)?;
+/// // ..
+/// count_all::<Brand, _>(rt, alloc, Blank::new(6), &batches)
+/// ```
 pub trait TallyKey: Ledger {}
 
 impl TallyKey for Brand {}
@@ -29,6 +36,13 @@ struct Protected<K: TallyKey> {
 /// One worker's share of a tally: the amount that was added through it, and the last total that it was told.
 ///
 /// It can't be cloned. A share that is dropped is missing when the tally is closed.
+///
+/// <!-- cut: crates/expose_io/src/tally.rt -->
+/// ```rust
+/// for jobs in 1..101 {
+///     tally.add(wait, &mut share, jobs)?;
+/// }
+/// ```
 #[derive(Drop)]
 pub struct Share<K: TallyKey> {
     amount: u64,
@@ -96,6 +110,19 @@ impl<K: TallyKey> Protected<K> {
 /// A sum that several workers add to, each through a share. It never passes 2^64 - 1.
 ///
 /// Any number of threads may borrow it. Contracts see it as the number of its shares.
+///
+/// <!-- cut: crates/calling/src/pool.rt -->
+/// ```rust
+/// let (tally, mut shares) = Tally::<K>::new(alloc, blank, batches.len() + 1)?;
+/// let Some(watch) = shares.pop() else {
+///     return Err(TallyError::MissingShares);
+/// };
+/// let (done, watch) = run_all(rt, &tally, shares, watch, batches)?;
+/// let so_far = watch.seen();
+/// let mut shares = gather(alloc, done)?;
+/// shares.push(watch)?;
+/// let total = tally.close(shares)?;
+/// ```
 #[derive(Drop)]
 pub struct Tally<K: TallyKey> {
     shares: usize,
