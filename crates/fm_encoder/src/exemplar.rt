@@ -1,4 +1,12 @@
 //! Exemplars: what emits them, and the encoder that takes one of them.
+//!
+//! <!-- cut: crates/own_metric/src/histograms.rt -->
+//! ```rust
+//! fn encode(&self, encoder: &mut MetricEncoder) -> Result<(), EncodeError> {
+//!     let exemplars = [Some(&self.trace), None];
+//!     encoder.encode_histogram(&self.buckets, &exemplars, self.requests, self.seconds, None)
+//! }
+//! ```
 ghost use Rattle.std.specs.Prelude.{◌≡◌, ◌^◌, ◌⊎◌, List, [], ◌∷◌, MatchResult, Option, IfSome, None, Some, Err};
 ghost use Rattle.std.specs.Option.{option_map};
 ghost use Rattle.fm_grammar.specs.declared.MetricType.TheVariants.{Unknown};

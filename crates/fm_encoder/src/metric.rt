@@ -1,4 +1,12 @@
 //! Metrics: what offers members, and the encoder that puts a family's samples into a sink.
+//!
+//! <!-- cut: crates/own_metric/src/readings.rt -->
+//! ```rust
+//! if encoder.timestamp() != Some(u128::from(reading.0)) {
+//!     return Err(EncodeError::MetricFault);
+//! }
+//! encoder.encode_gauge(&reading.1)
+//! ```
 ghost use Rattle.std.specs.Prelude.{◌≡◌, ℕ, List, [], ◌∷◌, ◌⊎◌, MatchOption, Option, None, IsTrue, map};
 ghost use Rattle.std.specs.Option.{option_map, option_map_or};
 ghost use Rattle.fm_grammar.specs.declared.MetricType.{MetricType};
@@ -28,6 +36,18 @@ pub(crate) mod collector;
 ///
 /// A collector relies only on what the metric declares: the lists of members that `encode` may offer, the types and timestamps
 /// that it may return, whether it may be empty, and whether `encode` may return an error of its own.
+///
+/// <!-- cut: crates/own_metric/src/lib.rt -->
+/// ```rust
+/// ghost offers = { λ w _ ms. ms ≡ record {
+///   labels = ⟦<Queue as EncodeLabelSet>⟧.labels w.queue;
+///   point = GaugePoint (Whole (pos w.requests) ∷ []);
+/// } ∷ [] };
+///
+/// fn encode(&self, encoder: &mut MetricEncoder) -> Result<(), EncodeError> {
+///     encoder.encode(&self.queue, &ConstGauge::new(self.requests))
+/// }
+/// ```
 pub trait EncodeMetric: Send + Sync + Drop {
     /// `metric_type` may return this type. If nothing is declared, it may return any type.
     ghost types: { Self → MetricType → Type 0 } = { λ _ _. Unit {0} };
@@ -97,6 +117,13 @@ impl EncodeMetric for Box<dyn EncodeMetric> {
 }
 
 /// Puts the samples of a metric's family into a sink.
+///
+/// <!-- cut: crates/own_metric/src/summaries.rt -->
+/// ```rust
+/// fn encode(&self, encoder: &mut MetricEncoder) -> Result<(), EncodeError> {
+///     encoder.encode_summary(self.quantiles.as_slice(), self.seconds, self.requests, None)
+/// }
+/// ```
 pub struct MetricEncoder {
     constants: ConstantLabels,
     points: PointEncoder,

@@ -42,6 +42,20 @@ mod summary;
 mod totals;
 
 /// A source of points: mostly of one.
+///
+/// <!-- cut: crates/replay_metrics/src/live.rt -->
+/// ```rust
+/// impl<H: Wait + Drop> EncodePoint for Live<H> {
+///     // ..
+///     fn encode(&self, points: &mut PointEncoder) -> Result<(), EncodeError> {
+///         match self {
+///             Live::Number(metric) => EncodePoint::encode(metric, points),
+///             Live::Histogram(metric) => EncodePoint::encode(metric, points),
+///             Live::GaugeHistogram(metric) => EncodePoint::encode(metric, points),
+///         }
+///     }
+/// }
+/// ```
 pub trait EncodePoint {
     /// The lists of points that `encode` may emit.
     ghost points: { Self → List Point → Type 0 };
@@ -56,6 +70,15 @@ pub trait EncodePoint {
 }
 
 /// Puts the samples of points under one member's labels into a sink.
+///
+/// <!-- cut: bench/replay/src/own/point.rt.in -->
+/// ```rust
+/// Content::Gauge(value) => encoder.encode_gauge(value),
+/// Content::Unknown(value) => encoder.encode_unknown(value),
+/// Content::Counter(value, exemplar) => {
+///     encoder.encode_counter(value, exemplar.as_ref(), self.created)
+/// }
+/// ```
 pub struct PointEncoder {
     alloc: Global,
     name: String,

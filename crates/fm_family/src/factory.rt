@@ -12,6 +12,16 @@ use std::sync::Wait;
 ///
 /// Each closure without arguments that returns `Result<M, MetricError>` is a factory. A boxed family needs a closure: a
 /// function pointer is refused there.
+///
+/// <!-- cut: crates/calling/src/own.rt -->
+/// ```rust
+/// impl<H: Wait + Copy + Drop> MetricFactory<Histogram<H>> for Sizes<H> {
+///     fn new_metric(&self) -> Result<Histogram<H>, MetricError> {
+///         let bounds = [1_000_000, 16_000_000, 256_000_000].map(Fixed::from_millionths);
+///         Histogram::new(self.wait, self.alloc, bounds.into_iter())
+///     }
+/// }
+/// ```
 pub trait MetricFactory<M> {
     /// Holds of a factory that can be called. If nothing is said, any can.
     ghost is_ready: { Self → Type 0 } = { λ _. ⊤ };
@@ -37,6 +47,15 @@ impl<M, F: Fn() -> Result<M, MetricError>> MetricFactory<M> for F {
 }
 
 /// Makes metrics by `try_default`. It keeps the arguments of that: a `Wait` handle and the allocator.
+///
+/// <!-- cut: bench/tests/src/metrics/keys.rt.in -->
+/// ```rust
+/// type Counters<S> = Family<Path, Counter, DefaultFactory<Counter, HostRuntime>, S, HostRuntime>;
+/// // ..
+/// let factory = DefaultFactory::new(rt, alloc);
+/// let random = RandomState::new(&rt)?;
+/// let pages = Counters::<RandomState>::with_hasher(rt, alloc, factory, random)?;
+/// ```
 #[derive(Drop)]
 pub struct DefaultFactory<M, H: Wait> {
     wait: H,

@@ -30,6 +30,18 @@ struct Shared<LS: EncodeLabelSet + Eq + Hash, M, MF, S: BuildHasher> {
 /// A call waits while another thread makes or removes a metric, and a call that makes or removes one waits for all others.
 /// Neither the factory nor a closure that borrows a metric may call the same family: it would wait for ever. For the hasher
 /// `S` see `FamilyCore`.
+///
+/// <!-- cut: crates/calling/src/own.rt -->
+/// ```rust
+/// pub type SizesBy<H> = Family<Answer, Histogram<H>, Sizes<H>, BuildHasherDefault<FoldHasher>, H>;
+/// // ..
+/// let sizes = Family::new(wait, alloc, Sizes { wait, alloc })?;
+/// root.add_own("sizes", "Sizes by status, in kilobytes", sizes.clone()?)?;
+/// // ..
+/// handles
+///     .sizes
+///     .with_or_new(&Answer { status }, |sizes| sizes.observe(size))??;
+/// ```
 pub struct Family<LS: EncodeLabelSet + Eq + Hash, M, MF, S: BuildHasher, H: Wait> {
     shared: Arc<Shared<LS, M, MF, S>, Global>,
     wait: H,
@@ -38,6 +50,16 @@ pub struct Family<LS: EncodeLabelSet + Eq + Hash, M, MF, S: BuildHasher, H: Wait
 /// Metrics by label set, each of which begins as `try_default` makes it.
 ///
 /// Its hasher starts from a fixed state. If others can choose the label values, use a `Family` with `RandomState` instead.
+///
+/// <!-- cut: crates/calling/src/families.rt -->
+/// ```rust
+/// pub fn count_answer<H: Wait + Clone + Drop>(
+///     answers: &DefaultFamily<Answer, Counter, H>,
+///     answer: &Answer,
+/// ) -> Result<u64, MetricError> {
+///     answers.with_or_new(answer, |count| count.inc())
+/// }
+/// ```
 pub type DefaultFamily<LS, M, H> = Family<
     LS,
     M,

@@ -32,6 +32,19 @@ use std::marker::Model;
 /// family with `with_hasher`, and with `DefaultFactory::new(rt, alloc)` if `try_default` makes the metrics. The
 /// compiler refuses `new` there ("the item `new` exists .., but its bounds are not met") and `try_default` ("no
 /// function or constant named `try_default` found").
+///
+/// By statuses, with a function `add` that calls `get_or_new` for each:
+///
+/// <!-- cut: bench/tests/src/documents/direct.rt.in -->
+/// ```rust
+/// type Members = FamilyCore<Status, ConstGauge<i64>, BuildHasherDefault<FoldHasher>>;
+/// // ..
+/// let mut members = Members::new(rt.alloc());
+/// // ..
+/// add(&mut members, &[200, 404, 301, 500])?;
+/// assert!(rt; members.remove(&Status(404)) && !members.remove(&Status(404)));
+/// members.retain(|status: &Status, gauge: &ConstGauge<i64>| status.0 > 200 && gauge.get() < 600);
+/// ```
 pub struct FamilyCore<LS: EncodeLabelSet + Eq + Hash, M, S: BuildHasher> {
     alloc: Global,
     members: IndexMap<LS, M, S>,

@@ -13,6 +13,17 @@ use std::sync::Wait;
 /// Metrics by `N` pairs of a text of the program and a value of the type `V`, such as a number.
 ///
 /// A member is removed by `Family::remove`, which takes a reference to the array of pairs and takes no memory.
+///
+/// <!-- cut: crates/calling/src/families.rt -->
+/// ```rust
+/// pub fn count_status<H: Wait + Clone + Drop>(
+///     statuses: &PairFamily<u64, Counter, H, 1>,
+///     status: u64,
+/// ) -> Result<u64, MetricError> {
+///     let labels = [(StaticStr("status"), status)];
+///     with_pairs(statuses, &labels, |count| count.inc())
+/// }
+/// ```
 pub type PairFamily<V, M, H, const N: usize> = DefaultFamily<[(StaticStr, V); N], M, H>;
 
 /// Calls `f` with the metric of these labels, and returns its result. If there is none, `try_default` makes one, which is added

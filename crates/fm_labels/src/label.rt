@@ -1,4 +1,12 @@
 //! Labels: what emits them, and the encoders that gather them.
+//!
+//! <!-- cut: crates/expose_io/src/tree.rt -->
+//! ```rust
+//! fn encode(&self, encoder: &mut LabelSetEncoder) -> Result<(), EncodeError> {
+//!     encoder.encode(&(LabelStr("method"), self.method))?;
+//!     encoder.encode(&(LabelStr("status"), self.status))
+//! }
+//! ```
 ghost use Rattle.std.specs.Prelude.{◌≡◌, [], ◌∷◌, ◌++◌, Bool, Some, None, Ok, Err, OnOk, MatchResult};
 ghost use Rattle.fm_raw.specs.declared.encode_error.EncodeError.{EncodeError};
 ghost use Rattle.fm_labels.specs.Labels.{EmittedLabel, NamePiece, ValuePiece, NameFits, NameFault, written};
@@ -33,6 +41,18 @@ pub trait EncodeLabelName {
 }
 
 /// A source of the value of a label.
+///
+/// <!-- cut: crates/expose_io/src/tree.rt -->
+/// ```rust
+/// ghost pieces = { λ method. ValuePiece (method_text method) ∷ [] };
+/// // ..
+/// fn encode(&self, encoder: &mut LabelEncoder) -> Result<(), EncodeError> {
+///     encoder.encode_str_value(match self {
+///         Method::Get => "Get",
+///         Method::Put => "Put",
+///     })
+/// }
+/// ```
 pub trait EncodeLabelValue {
     /// The pieces that `encode` emits: mostly one value.
     ghost pieces: { Self → EmittedLabel };
@@ -54,6 +74,18 @@ pub trait EncodeLabelValue {
 }
 
 /// A source of a label.
+///
+/// <!-- cut: bench/replay/src/own/labels.rt.in -->
+/// ```rust
+/// for piece in &self.pieces {
+///     match piece {
+///         Piece::Name(text) => encoder.encode_label_name(text.as_str())?,
+///         Piece::Value(text) => encoder.encode_str_value(text.as_str())?,
+///         Piece::Fault(error) => return Err(*error),
+///     }
+/// }
+/// Ok(())
+/// ```
 pub trait EncodeLabel {
     /// The pieces that `encode` emits: a name and a value, or nothing for a label that is left out.
     ghost pieces: { Self → EmittedLabel };
@@ -68,6 +100,16 @@ pub trait EncodeLabel {
 }
 
 /// Gathers the pieces of one label, which follows the labels before it.
+///
+/// <!-- cut: bench/tests/src/documents/direct.rt.in -->
+/// ```rust
+/// 9 => encoder.encode_u64_value(u64::MAX),
+/// 10 => encoder.encode_u128_value(u128::MAX),
+/// 11 => encoder.encode_usize_value(usize::MAX),
+/// 12 => encoder.encode_bool_value(true),
+/// 13 => encoder.encode_fixed_value(Fixed::from_millionths(-1)),
+/// _ => encoder.encode_str_value("a\"b"),
+/// ```
 pub struct LabelEncoder {
     metric_type: MetricType,
     labels: LabelText,
@@ -181,6 +223,13 @@ impl LabelEncoder {
 }
 
 /// Gathers the labels of a label set.
+///
+/// <!-- cut: bench/replay/src/own/labels.rt.in -->
+/// ```rust
+/// for label in &self.labels {
+///     encoder.encode(label)?;
+/// }
+/// ```
 pub struct LabelSetEncoder {
     label: LabelEncoder,
 }

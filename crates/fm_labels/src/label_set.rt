@@ -1,4 +1,16 @@
 //! Label sets: lists, sets and maps of labels.
+//!
+//! <!-- cut: crates/own_metric/src/request.rt -->
+//! ```rust
+//! encode_labels(
+//!     encoder,
+//!     &[
+//!         ("method", LabelValue::Text(self.method.as_str())),
+//!         ("status", LabelValue::Whole(u64::from(self.status))),
+//!         ("failed", LabelValue::Truth(self.failed)),
+//!     ],
+//! )
+//! ```
 ghost use Rattle.std.specs.Prelude.{◌≡◌, [], List, IsTrue, map, Any, Ok};
 ghost use Rattle.fm_grammar.specs.LabelPairs.{labels_of};
 ghost use Rattle.fm_labels.specs.Labels.{EmittedLabel, emitted_again};
@@ -10,6 +22,17 @@ use fm_raw::EncodeError;
 use std::collections::{BTreeMap, BTreeSet, LinkedList, VecDeque};
 
 /// A source of a list of labels.
+///
+/// <!-- cut: crates/calling/src/families.rt -->
+/// ```rust
+/// impl EncodeLabelSet for Answer {
+///     ghost labels = { λ answer. label (codes "status") (decimal answer.status) ∷ [] };
+///
+///     fn encode(&self, encoder: &mut LabelSetEncoder) -> Result<(), EncodeError> {
+///         encode_labels(encoder, &[("status", LabelValue::Whole(self.status))])
+///     }
+/// }
+/// ```
 pub trait EncodeLabelSet {
     /// The labels that `encode` emits, each as its pieces.
     ghost labels: { Self → List EmittedLabel };

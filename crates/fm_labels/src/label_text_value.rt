@@ -11,10 +11,26 @@ use fm_raw::EncodeError;
 use fm_raw::fixed::{Fixed, FixedBuffer, FixedSum};
 
 /// Borrows a text as a name or a value of a label.
+///
+/// <!-- cut: bench/tests/src/metrics/keys.rt.in -->
+/// ```rust
+/// fn encode(&self, encoder: &mut LabelSetEncoder) -> Result<(), EncodeError> {
+///     encoder.encode(&(LabelStr("path"), &self.path))
+/// }
+/// ```
 #[derive(Clone, Copy, Debug, PartialEq, Eq, PartialOrd, Ord, Hash)]
 pub struct LabelStr<'a>(pub &'a str);
 
 /// A text of the program itself as a name or a value of a label. Unlike `LabelStr` it may be part of a boxed metric.
+///
+/// <!-- cut: crates/calling/src/own.rt -->
+/// ```rust
+/// with_pairs(
+///     &handles.statuses,
+///     &[(StaticStr("status"), status)],
+///     |count| count.inc(),
+/// )?;
+/// ```
 #[derive(Clone, Copy, Debug, PartialEq, Eq, PartialOrd, Ord, Hash)]
 pub struct StaticStr(pub &'static str);
 

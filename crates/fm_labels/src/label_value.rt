@@ -12,6 +12,13 @@ pub use crate::label_text_value::{LabelStr, StaticStr};
 use fm_raw::{EncodeError, Fixed};
 
 /// The value of a label: a text, a number or a truth value.
+///
+/// <!-- cut: crates/own_metric/src/lib.rt -->
+/// ```rust
+/// let name = LabelValue::Text(self.name.as_str());
+/// let priority = LabelValue::Whole(u64::from(self.priority));
+/// encode_labels(encoder, &[("queue", name), ("priority", priority)])
+/// ```
 #[derive(Clone, Copy, Debug, PartialEq, Eq, PartialOrd, Ord, Hash)]
 pub enum LabelValue<'a> {
     /// This text.

@@ -70,6 +70,16 @@ fn text_of(value: &[u8]) -> &str
 }
 
 /// Values of labels, in the order of their names.
+///
+/// <!-- cut: bench/tests/src/documents/named.rt.in -->
+/// ```rust
+/// let load = root.gauges("load", "H", &["host", "core"])?;
+/// // ..
+/// load.retain(|values: &LabelValues, gauge| {
+///     // ..
+///     values.get(0) == Some("b") && gauge.get() != 5
+/// });
+/// ```
 pub struct LabelValues {
     bytes: Vec<u8>,
 }

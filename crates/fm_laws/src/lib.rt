@@ -1,4 +1,11 @@
 //! Laws: functions that do nothing and whose contracts are theorems. A function has a theorem where it calls its law.
+//!
+//! <!-- cut: bench/tests/src/metrics/laws.rt.in -->
+//! ```rust
+//! laws::counts_add_up();
+//! laws::merging_is_lawful();
+//! laws::valid_is_without_fault();
+//! ```
 #![tactic(auto)]
 
 ghost use Rattle.std.specs.Prelude.{◌≡◌, ◌+◌, ◌⊎◌, ◌↔◌, ℕ, ℤ, pos, List, [], Some, map, slice_get, take};

@@ -10,6 +10,13 @@ use fm_raw::fixed::Fixed;
 use std::time::Duration;
 
 /// An observation under labels, mostly of the trace that it belongs to.
+///
+/// <!-- cut: crates/own_metric/src/counters.rt -->
+/// ```rust
+/// pub trace: LabeledExemplar<LS>,
+/// // ..
+/// encoder.encode_counter(&self.requests, Some(&self.trace), None)
+/// ```
 #[derive(Clone, Copy, Debug, Drop)]
 pub struct LabeledExemplar<LS> {
     /// Its labels. Their names and values together have at most 128 code points.

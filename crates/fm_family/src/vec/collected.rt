@@ -20,6 +20,16 @@ use std::sync::Arc;
 use std::time::Duration;
 
 /// The members that a collector gives of a family at one scrape.
+///
+/// <!-- cut: crates/server/src/main.rt -->
+/// ```rust
+/// if family == 0 {
+///     members.add(&["mail"], ConstGauge::new(mail))?;
+///     members.add(&["pages"], ConstGauge::new(pages))?;
+/// } else {
+///     members.add(&[], ConstGauge::new(mail.saturating_add(pages)))?;
+/// }
+/// ```
 #[derive(Drop)]
 pub struct CollectedMembers<M> {
     alloc: Global,
@@ -46,6 +56,17 @@ impl<M: Drop> CollectedMembers<M> {
 }
 
 /// Gives the members of families, which all are of the type `M`, at each scrape.
+///
+/// <!-- cut: crates/server/src/main.rt -->
+/// ```rust
+/// impl Collector<ConstGauge<i64>> for Queues {
+///     fn collect(&self, family: usize, members: &mut Members) -> Result<(), MetricError> {
+///         let (mail, pages) = (self.mail.load(SeqCst), self.pages.load(SeqCst));
+///         // ..
+///         Ok(())
+///     }
+/// }
+/// ```
 pub trait Collector<M> {
     /// Adds the members of a family to none: of that with this place, from 0 on, in the list with which the collector was registered.
     /// At an error the scrape fails: with `Memory`, or else with `MetricFault`.
@@ -60,6 +81,15 @@ impl<M, C: Collector<M>> Collector<M> for Arc<C, Global> {
 }
 
 /// A family of the type `M` by label names, whose members a collector gives at each scrape.
+///
+/// <!-- cut: crates/server/src/main.rt -->
+/// ```rust
+/// type Own = Collected<ConstGauge<i64>, Arc<Queues>>;
+/// // ..
+/// let queue = Description::new("queue", "Jobs that wait").labels(&["name"]);
+/// let all = Description::new("queues", "Jobs that wait in all queues");
+/// root.collector(&[queue, all], queues.clone()?)?;
+/// ```
 #[derive(Drop)]
 pub struct Collected<M, C> {
     names: LabelNames,

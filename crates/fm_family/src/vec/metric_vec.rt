@@ -41,6 +41,15 @@ struct Shared<M, MF> {
 ///
 /// A call waits while another thread makes or removes a metric, and a call that makes or removes one waits for all others.
 /// Neither the factory nor a closure that borrows a metric may call the same family: it would wait for ever.
+///
+/// <!-- cut: crates/calling/src/families.rt -->
+/// ```rust
+/// requests.with(&[method], |count| count.inc())
+/// // ..
+/// requests.with_label_values(&[method])
+/// // ..
+/// requests.remove(&[method])
+/// ```
 pub struct MetricVec<M, MF, H: Wait> {
     shared: Arc<Shared<M, MF>, Global>,
     alloc: Global,
