@@ -193,14 +193,17 @@ impl<
     /// At an error the members stay as they were. A clone of a label set must equal it. If the metric exists, the call
     /// takes no memory, and locks for reading only.
     pub fn with_or_new<R, F: FnOnce(&M) -> R>(&self, labels: &LS, f: F) -> Result<R, MetricError>
+        // The factory and `f` can be called, and a clone of a label set equals it.
         requires ready { MF.is_ready (arc_value self.now.shared).factory }
         requires callable { F.IsAlwaysCallable f }
         requires clones { ClonesEqual LS.is_clone LS.eq }
+        // `f` is called with the metric of these labels: one that was there, or a new last one.
         ensures gets { Locked (AreDifferent LS.eq)
             (λ old new r. GetsOrAdds LS.is_clone LS.eq
             (MF.promises (arc_value self.now.shared).factory)
             labels.now old new (λ r metric. FnOnceReturnsAt F.FnOnce f metric r) r) result }
         ensures called { IfOk result (λ r. (metric : M) × FnOnceReturnsAt F.FnOnce f metric r) }
+        // The error is `Memory`, or that of the factory.
         ensures refused { IfErr result
             (λ e. (e ≡ Memory) ⊎ MF.promises (arc_value self.now.shared).factory (Err e)) }
     {

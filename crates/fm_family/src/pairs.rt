@@ -41,9 +41,11 @@ pub fn with_pairs<
     F: FnOnce(&M) -> R,
     const N: usize,
 >(family: &DefaultFamily<[(K, V); N], M, H>, labels: &[(K, V); N], f: F) -> Result<R, MetricError>
+    // `f` can be called, and a clone of a name or of a value equals it.
     requires callable { F.IsAlwaysCallable f }
     requires names { ClonesEqual K.is_clone K.eq }
     requires values { ClonesEqual V.is_clone V.eq }
+    // `f` is called with a metric. The error is `Memory`, or that of `try_default`.
     ensures called { IfOk result (λ r. (metric : M) × FnOnceReturnsAt F.FnOnce f metric r) }
     ensures refused { IfErr result (λ e. (e ≡ Memory) ⊎ M.may_refuse e) }
 {

@@ -144,12 +144,15 @@ impl<S: Sign> SnapshotOf<S> {
     /// Counts a value in the first bucket whose bound is not below it. In a histogram a negative value changes nothing, which is no
     /// error. For a value that is taken it fails with `CountFull` if the count is the greatest `u64`, and then changes nothing.
     pub fn observe(&mut self, value: Fixed) -> Result<(), MetricError>
+        // On success the value is counted with those before it.
         ensures counted { OnOk result
             ((bounds xs : List ℤ) → IsHistogram (takes S.NEGATIVE) bounds xs self.old
             → IsHistogram (takes S.NEGATIVE) bounds (xs ++ value ∷ []) self.new) }
+        // It fails with `CountFull` alone: where the count is the greatest `u64`, and the value is taken.
         ensures full { (result ≡ Err CountFull)
             ↔ ((self.old.count + 1 ≡ 2 ^ 64) × (takes S.NEGATIVE value ≡ true)) }
         ensures only_full { IfErr result (λ e. e ≡ CountFull) }
+        // A value that is taken adds one to the count. Another one changes nothing, nor does an error.
         ensures count { OnOk result
             (self.new.count ≡ self.old.count + (if takes S.NEGATIVE value then 1 else 0)) }
         ensures ignored { takes S.NEGATIVE value ≡ false → self.new ≡ self.old }
@@ -164,17 +167,20 @@ impl<S: Sign> SnapshotOf<S> {
     /// Adds what the other counts. Fails with `UnequalBounds` if the bounds differ, and else with `CountFull` if the sum of both
     /// counts exceeds the greatest `u64`; then it changes nothing. It takes no memory.
     pub fn merge(&mut self, other: &SnapshotOf<S>) -> Result<(), MetricError>
+        // On success the values of both are counted.
         ensures merged { OnOk result (self.new ≡ merged self.old other.now) }
         ensures histogram { OnOk result
             ((bounds xs ys : List ℤ) → IsHistogram (takes S.NEGATIVE) bounds xs self.old
             → IsHistogram (takes S.NEGATIVE) bounds ys other.now
             → IsHistogram (takes S.NEGATIVE) bounds (xs ++ ys) self.new) }
+        // It fails where the bounds differ, else where the count would pass 2^64 - 1, and nowhere else.
         ensures unequal { (result ≡ Err UnequalBounds)
             ↔ (upper_bounds self.old.buckets ≢ upper_bounds other.now.buckets) }
         ensures full { (result ≡ Err CountFull)
             ↔ ((upper_bounds self.old.buckets ≡ upper_bounds other.now.buckets)
             × (2 ^ 64 ≤ self.old.count + other.now.count)) }
         ensures only { IfErr result (λ e. (e ≡ UnequalBounds) ⊎ (e ≡ CountFull)) }
+        // At an error nothing changes.
         ensures kept { OnErr result (self.new ≡ self.old) }
     {
         self.counts.merge(&other.counts)

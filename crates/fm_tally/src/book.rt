@@ -104,18 +104,22 @@ impl Book {
     /// Carries out all events in order, and returns the reply to each. The memory for the replies is allocated first:
     /// if that fails, it returns `Memory` and changes nothing.
     pub fn run(&mut self, alloc: Global, events: &[Event]) -> Result<Vec<Reply>, TallyError>
+        // The replies are those to the events in turn, and the sum grows by the values that were accepted.
         ensures replies { IfOk result (λ r. r.items ≡ replies self.old events.now) }
         ensures sum { OnOk result (self.new ≡ self.old + sum_of (accepted self.old events.now)) }
+        // A caller who reads is told at least what that caller added before.
         ensures own { IfOk result (λ r. (k who : ℕ) (d : Reply) (e : Event)
             → k < length events.now
             → slice_index_or events.now k e ≡ Event.Read who
             → (s : ℕ) × (slice_index_or r.items k d ≡ Reply.Sum s)
             × (amount who (accepted self.old (take k events.now)) ≤ s)) }
+        // Where all values fit, none is refused, and the sum grows by all.
         ensures none_refused { IfOk result (λ r. self.old + sum_by event_value events.now < 2 ^ 64
             → All (λ x. x ≢ Reply.Full) r.items) }
         ensures whole_sum { OnOk result
             (self.old + sum_by event_value events.now < 2 ^ 64
             → self.new ≡ self.old + sum_by event_value events.now) }
+        // It fails with `Memory` alone, and then nothing changes.
         ensures only_memory { IfErr result (λ e. e ≡ TallyError.Memory) }
         ensures kept { OnErr result (self.new ≡ self.old) }
     {

@@ -145,12 +145,15 @@ impl<K: TallyKey> Tally<K> {
         blank: Blank,
         n: usize,
     ) -> Result<(Tally<K>, Vec<Share<K>>), TallyError>
+        // The blank is that of this tally, and has one part for each share and one for the tally.
         requires name { blank.name ≡ K.name }
         requires parts { blank.parts ≡ K.parts }
         requires one_more { blank.parts ≡ n + 1 }
+        // There are `n` shares, and none of them was used.
         ensures shares { IfOk result (λ r. r.0 ≡ n) }
         ensures count { IfOk result (λ r. vec_len r.1 ≡ n) }
         ensures unused { IfOk result (λ r. All (λ s. s ≡ unused) r.1.items) }
+        // Its only error is `Memory`.
         ensures only_memory { IfErr result (λ e. e ≡ TallyError.Memory) }
     {
         let mut shares = Vec::with_capacity(alloc, n)?;

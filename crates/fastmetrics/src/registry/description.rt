@@ -32,8 +32,10 @@ impl<'a> Description<'a> {
     /// A metric of this name, with this help: without a unit and a time of creation, with the usual bounds if it is a histogram, and,
     /// if it is a family, without labels, and with any number of members.
     pub fn new(name: &'a str, help: &'a str) -> Description<'a>
+        // It has the name and the help.
         ensures name { result.name.now ≡ name.now }
         ensures help { result.help.now ≡ help.now }
+        // It has no unit, no time of creation and no labels.
         ensures unit { result.unit ≡ None }
         ensures created { result.created ≡ None }
         ensures labels { result.labels.now ≡ [] }

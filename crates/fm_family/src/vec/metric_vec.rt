@@ -186,13 +186,16 @@ impl<M: Drop, MF: MetricFactory<M> + Drop, H: Wait + Drop> MetricVec<M, MF, H> {
     /// `TooManyMembers` where there are as many members as the limit allows, with the factory's error, or with `Memory` if memory runs
     /// out. At an error the members stay as they were. If the metric exists, the call takes no memory, and locks for reading only.
     pub fn with<R, F: FnOnce(&M) -> R>(&self, values: &[&str], f: F) -> Result<R, MetricError>
+        // The factory and `f` can be called.
         requires ready { MF.is_ready (vec_factory self.now) }
         requires callable { F.IsAlwaysCallable f }
+        // With as many values as names, `f` is called with the metric of these values: one that was there, or a new last one.
         ensures finds { length values.now ≡ length (vec_names self.now)
             → Locked AreVecMembers (λ old new r. FindsOrAdds (MF.promises (vec_factory self.now))
             old.limit (shown_texts values.now) old.entries new.entries
             (λ r metric. FnOnceReturnsAt F.FnOnce f metric r) r) result }
         ensures called { IfOk result (λ r. (metric : M) × FnOnceReturnsAt F.FnOnce f metric r) }
+        // Another number of values is `WrongValueCount`. Else the error is `Memory`, `TooManyMembers`, or that of the factory.
         ensures wrong { HasOtherCount (vec_names self.now) values.now
             → result ≡ Err WrongValueCount }
         ensures refused { IfErr result (λ e. HasOtherCount (vec_names self.now) values.now

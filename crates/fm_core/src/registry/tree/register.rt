@@ -152,6 +152,7 @@ impl<M: Drop> Registry<M> {
         unit: Option<Unit>,
         metric: M,
     ) -> Result<(), RegistryError>
+        // The reply is the one that each history of the registry gives, or `Memory`. After `Ok` the call is part of it.
         ensures answer { (b : _) → Reads self.old b
             → IsReturned (refusal_of result)
             (answer b (Register [] (seen_metric (asked name help metric_type unit) metric))) }
@@ -159,6 +160,7 @@ impl<M: Drop> Registry<M> {
             ((b : _) → Reads self.old b
             → Reads self.new
             (after b (Register [] (seen_metric (asked name help metric_type unit) metric)))) }
+        // At an error nothing changes, and nothing that was accepted before is ever lost.
         ensures err { OnErr result (self.new ≡ self.old) }
         ensures grows { Grows self.old self.new }
         ensures sound { HasHistory self.old → HasHistory self.new }

@@ -203,11 +203,14 @@ impl Registry {
         &mut self,
         calls: Vec<RegistryCall>,
     ) -> Result<Vec<Result<(), RegistryError>>, RegistryError>
+        // Each call gets its reply in turn, from the registry that the calls before it left.
         ensures replies { IfOk result
             (λ replies. RunsCalls (λ m t. types m t) calls.items
             self.old self.new (map refusal_of replies.items)) }
+        // Its only error is `Memory`, and then nothing changes.
         ensures answer { IsReturned (refusal_of result) None }
         ensures err { OnErr result (self.new ≡ self.old) }
+        // Nothing that was accepted before is lost.
         ensures grows { Grows self.old self.new }
         ensures sound { HasHistory self.old → HasHistory self.new }
     {

@@ -66,11 +66,14 @@ impl<M: Drop> Registry<M> {
         &mut self,
         name: String,
     ) -> Result<RegistrySubsystemBuilder<'_, M>, RegistryError>
+        // At an error the registry stays as it was.
         ensures* unchanged_at_err { sem 𝓛 (rests_if_refused M.row self.entry result) }
+        // The builder borrows this registry, and has the name, and no labels.
         ensures same_registry { IfOk result (λ b. b.registry.ghost_name ≡ self.entry.ghost_name) }
         ensures registry { IfOk result (λ b. b.registry.now ≡ self.old) }
         ensures name { IfOk result (λ b. b.name ≡ name) }
         ensures labels { IfOk result (λ b. b.labels.items ≡ []) }
+        // It fails for a name that is not in snake case, and where the subsystem would be too deep.
         ensures answer { refusal_of result
             ≡ name_or_depth_refusal self.old.facts.depth (string_bytes name) }
     {
@@ -98,12 +101,15 @@ impl<'a, M: Drop> RegistrySubsystemBuilder<'a, M> {
         self,
         labels: Vec<(String, String)>,
     ) -> Result<RegistrySubsystemBuilder<'a, M>, RegistryError>
+        // At an error the registry stays as it was.
         ensures* unchanged_at_err { sem 𝓛 (builder_rests M.row self.entry result) }
+        // The builder keeps its registry and its name, and has these labels.
         ensures same_registry { IfOk result
             (λ b. b.registry.ghost_name ≡ self.entry.registry.ghost_name) }
         ensures registry { IfOk result (λ b. b.registry.now ≡ self.entry.registry.now) }
         ensures name { IfOk result (λ b. b.name ≡ self.entry.name) }
         ensures labels { IfOk result (λ b. b.labels ≡ labels) }
+        // It fails with the first name that is not a valid label name.
         ensures answer { refusal_of result ≡ first_bad_label (labels_of labels.items) }
     {
         let RegistrySubsystemBuilder { registry, name, .. } = self;
@@ -116,7 +122,9 @@ impl<'a, M: Drop> RegistrySubsystemBuilder<'a, M> {
     /// An existing subsystem keeps its labels, and returning it allocates nothing. A new one fails with `NameTaken` as
     /// `subsystem` does, or with `Memory`. At an error the registry stays as it was.
     pub fn build(self) -> Result<&'a mut Subsystem<M>, RegistryError>
+        // What is done to the subsystem becomes part of the registry. At an error the registry stays as it was.
         ensures* writes_back { sem 𝓛 (lends_built M.row self.entry result) }
+        // The error is the one that the registry gives for this name and these labels, or `Memory`.
         ensures answer { IsReturned (refusal_of result)
             (subsystem_refusal self.entry.registry.now.facts.depth
             self.entry.registry.now.facts.metrics
@@ -128,6 +136,7 @@ impl<'a, M: Drop> RegistrySubsystemBuilder<'a, M> {
             → refusal_of result
             ≡ asking_refusal self.entry.registry.now.facts.depth (string_bytes self.entry.name)
             (labels_of self.entry.labels.items) }
+        // The subsystem has the name, and reads each history of the registry with this call after it.
         ensures name { IfOk result (λ s. string_bytes s.now.name ≡ string_bytes self.entry.name) }
         ensures reads { IfOk result (λ s. (b : _) → Reads self.entry.registry.now b
             → LoanReads

@@ -304,14 +304,17 @@ impl<M: Drop> Registry<M> {
     /// name and an underscore. At an error the registry stays as it was. What is done to the subsystem becomes part of
     /// this registry. Returning an existing subsystem allocates nothing.
     pub fn subsystem(&mut self, name: String) -> Result<&mut Subsystem<M>, RegistryError>
+        // What is done to the subsystem becomes part of the registry. At an error the registry stays as it was.
         ensures* writes_back { sem 𝓛
             (lends_subsystem M.row self.entry (string_bytes name) [] result) }
+        // The error is the one that the registry gives for this name, or `Memory`.
         ensures answer { IsReturned (refusal_of result)
             (subsystem_refusal self.old.facts.depth self.old.facts.metrics
             (names_in self.old.children) (string_bytes name) []) }
         // Returning an existing one allocates nothing.
         ensures there { has_text (names_in self.old.children) (string_bytes name) ≡ true
             → refusal_of result ≡ asking_refusal self.old.facts.depth (string_bytes name) [] }
+        // The subsystem has the name, and reads each history of the registry with this call after it.
         ensures name { IfOk result (λ s. string_bytes s.now.name ≡ string_bytes name) }
         ensures reads { IfOk result (λ s. (b : _) → Reads self.old b
             → LoanReads (with_subsystem self.old (string_bytes name) [])
