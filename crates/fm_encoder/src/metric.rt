@@ -1,4 +1,4 @@
-//! Metrics: what offers members, and the encoder that puts a family's samples into a sink.
+//! Metrics: what offers the members of a family, and the encoder that takes them.
 //!
 //! <!-- cut: crates/own_metric/src/readings.rt -->
 //! ```rust
@@ -32,7 +32,7 @@ use std::time::Duration;
 
 pub(crate) mod collector;
 
-/// A metric, which a registry keeps in a box.
+/// A metric: what a registry takes, in a box or, as a root does, without one.
 ///
 /// A collector relies only on what the metric declares: the lists of members that `encode` may offer, the types and timestamps
 /// that it may return, whether it may be empty, and whether `encode` may return an error of its own.
@@ -116,7 +116,7 @@ impl EncodeMetric for Box<dyn EncodeMetric> {
     }
 }
 
-/// Puts the samples of a metric's family into a sink.
+/// What a metric passes its members to, each with its labels and its point: it makes their samples.
 ///
 /// <!-- cut: crates/own_metric/src/summaries.rt -->
 /// ```rust

@@ -1,4 +1,4 @@
-//! A metric of one label set and one value.
+//! A metric that is a label set and a point.
 ghost use Rattle.std.specs.Prelude.{◌≡◌, ◌⊎◌};
 ghost use Rattle.fm_encoder.specs.Emits.{MembersOf};
 

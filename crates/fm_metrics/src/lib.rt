@@ -1,5 +1,5 @@
-//! The metrics of one label set: counters, gauges, state sets, infos and unknowns, those that threads share without a lock, those
-//! that keep the value they were made with, and those that ask for it.
+//! Metrics of one member: counters, gauges, state sets, infos and unknowns. Some are shared by threads, without a lock but for
+//! exemplars; some keep the value they were made with; and some ask for it.
 #![tactic(auto)]
 
 pub mod counter;

@@ -167,8 +167,8 @@ impl<N: EncodeGaugeValue + Send + Sync + Drop, R: NumberSource<N> + Send + Sync 
 /// A counter whose total is what a source tells each time the counter is written, such as the requests that another library
 /// counts. It has no time of creation.
 ///
-/// The source is asked as that of a `SourceGauge` is, and tells a `u32`, `u64`, `usize` or `Fixed`. That the total is not
-/// negative and never falls is its own task.
+/// The source is asked as that of a `SourceGauge` is, and tells a `u32`, `u64`, `usize` or `Fixed`. The source itself has to
+/// see to it that the total is not negative and never falls: nothing tests it.
 ///
 /// <!-- cut: bench/tests/src/documents/sources.rt.in -->
 /// ```rust

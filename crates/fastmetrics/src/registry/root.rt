@@ -255,9 +255,14 @@ impl<H: Waiter, X: EncodeMetric> Root<H, X> {
         self.at.go_to(path);
     }
 
-    /// Registers a metric in the current subsystem, with or without a unit. It has the errors of `Registry::register_metric`, in the
-    /// same order, and fails with `Memory` first if there is none for the call. At an error the metric is dropped, and the root
+    /// Registers a metric in the current subsystem, with or without a unit. At an error the metric is dropped, and the root
     /// stays as it was.
+    ///
+    /// It fails with `Memory` if there is none for the call, and then for a label of the metric: with `DuplicateLabel` if a
+    /// constant label has its name, or if two facts of an info have the same name; with `InvalidLabelName` if a fact's name is
+    /// no label name. Histograms and gauge histograms have a label `le`, and a state set has one with its printed name. Labels
+    /// of the program's own metrics are tested at a scrape only. Then it has the errors of `Registry::register_metric`, in the
+    /// same order.
     pub fn register<T: Into<Metric<H, X>>>(
         &mut self,
         name: &str,
@@ -314,7 +319,7 @@ impl<H: Waiter, X: EncodeMetric> Root<H, X> {
         fault(self.alloc(), self.registry())
     }
 
-    /// What a linter advises of the metrics, as a program's test asks it: of those too that show nothing yet.
+    /// What a linter advises of the metrics, also of those that show nothing yet. A test of the program may ask for it.
     pub fn lint(&self) -> Result<Vec<Warning>, AllocError>
         ensures { IfOk result (λ warnings. map seen_warning warnings.items
             ≡ warnings_of_all (listed_tree self.now.at.tree)) }

@@ -108,7 +108,7 @@ impl RegistryBuilder {
         })
     }
 
-    /// Returns the root, which is empty. It allocates nothing, and never fails with `Memory`.
+    /// Returns the root, which is empty. It allocates nothing, and never fails: the result is always `Ok`.
     pub fn build(self) -> Result<Registry, RegistryError>
         ensures root { IfOk result
             (λ t. IsNewRoot (option_map string_bytes self.namespace)
