@@ -129,7 +129,8 @@ pub mod metrics {
     }
 
     pub mod tally {
-        //! Tallies, sums that many workers count together, and observations that are cut among workers.
+        //! Tallies: sums that many workers count together. Also histograms of values that are cut into pieces, each with a
+        //! worker.
         //!
         //! <!-- cut: crates/expose_io/src/tally.rt -->
         //! ```rust

@@ -1,4 +1,4 @@
-//! Points: what emits them, and the encoder that puts their samples into a sink.
+//! Points: what emits them, and the encoder that takes them.
 ghost use Rattle.std.specs.Prelude.{◌≡◌, ◌++◌, List, [], None, Some, Err, OnOk, OnErr, IfOk, IfErr, IfSome, IsSome, string_bytes};
 ghost use Rattle.std.specs.Option.{option_map};
 ghost use Rattle.fm_grammar.specs.Names.{IsSnakeCase};
@@ -41,7 +41,7 @@ mod states;
 mod summary;
 mod totals;
 
-/// A source of points: mostly of one.
+/// What emits the points of a member: mostly one, such as the total of a counter.
 ///
 /// <!-- cut: crates/replay_metrics/src/live.rt -->
 /// ```rust
@@ -69,7 +69,7 @@ pub trait EncodePoint {
             encoder.old encoder.new result };
 }
 
-/// Puts the samples of points under one member's labels into a sink.
+/// What a source of points passes them to: it makes their samples, under the labels of one member.
 ///
 /// <!-- cut: bench/replay/src/own/point.rt.in -->
 /// ```rust

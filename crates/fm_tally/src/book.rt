@@ -20,9 +20,9 @@ use std::marker::Model;
 /// ```
 #[derive(Clone, Copy, Debug, PartialEq, Eq)]
 pub enum Event {
-    /// Adds a value.
+    /// The caller `who` adds the value `v`.
     Add { who: usize, v: u64 },
-    /// Reads the sum.
+    /// The caller `who` reads the sum.
     Read { who: usize },
 }
 

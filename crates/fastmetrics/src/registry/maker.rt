@@ -16,7 +16,8 @@ use std::alloc::{AllocError, Global};
 use std::sync::Wait;
 use std::time::Duration;
 
-/// Makes metrics that wait by a handle, with these bounds and this time of creation where they have some.
+/// What a root makes metrics with: the handle that they wait by, and the bounds of histograms and the time of creation, if
+/// these were given.
 pub struct Maker<H: Wait> {
     wait: H,
     alloc: Global,

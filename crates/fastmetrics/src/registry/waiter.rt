@@ -2,8 +2,8 @@
 
 use std::sync::Wait;
 
-/// A handle that a root's metrics wait by at a lock: one that is copied, and sent to other threads. Each handle of that kind is one, as
-/// `HostRuntime` is.
+/// A handle that a root's metrics wait by at a lock. It is copied, and sent to other threads. Each type with these traits is
+/// one, such as `HostRuntime`.
 ///
 /// <!-- cut: crates/calling/src/roots.rt -->
 /// ```rust

@@ -1,4 +1,5 @@
-//! The OpenMetrics text format: collecting a registry, writing its document, and reading documents back; where two texts differ.
+//! The OpenMetrics text format: collecting a registry, writing its document, reading documents back, and finding where
+//! two texts differ.
 //!
 //! <!-- cut: crates/calling/src/documents.rt -->
 //! ```rust

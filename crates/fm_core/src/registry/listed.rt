@@ -28,7 +28,7 @@ pub struct ListedMetric<'a, M = Box<dyn EncodeMetric>> {
     pub namespace: Option<&'a str>,
     /// The constant labels of its registry.
     pub const_labels: &'a [(String, String)],
-    /// The name, or the name, an underscore and the unit.
+    /// The name as it was registered, with an underscore and the unit after it if there is a unit.
     pub tail: &'a str,
     pub metadata: &'a Metadata,
     pub metric: &'a M,

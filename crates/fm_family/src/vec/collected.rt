@@ -68,8 +68,8 @@ impl<M: Drop> CollectedMembers<M> {
 /// }
 /// ```
 pub trait Collector<M> {
-    /// Adds the members of a family to none: of that with this place, from 0 on, in the list with which the collector was registered.
-    /// At an error the scrape fails: with `Memory`, or else with `MetricFault`.
+    /// Adds the members of one family to `members`, which has none yet. `family` is the place of the family, from 0 on, in the
+    /// list with which the collector was registered. At an error the scrape fails: with `Memory`, or else with `MetricFault`.
     fn collect(&self, family: usize, members: &mut CollectedMembers<M>) -> Result<(), MetricError>;
 }
 

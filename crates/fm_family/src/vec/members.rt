@@ -53,7 +53,7 @@ impl<M> Model for VecMembers<M> {
 }
 
 impl<M> VecMembers<M> {
-    /// No members, of which there may be so many, with so many values each. It takes no memory.
+    /// No members. There may be `limit` of them at most, each with `count` values. It takes no memory.
     pub fn new(alloc: Global, hashing: LabelHashing, count: usize, limit: usize) -> VecMembers<M>
         ensures { result ≡ record { count = count; limit = limit; entries = [] } }
     {

@@ -67,7 +67,7 @@ impl<M: Drop, MF: Drop, H: Wait + Drop> Drop for MetricVec<M, MF, H> {
 }
 
 impl<M: TypedMetric + Drop, MF: Drop, H: Wait + Drop> MetricVec<M, MF, H> {
-    /// A family without members, with these label names, of which there may be so many.
+    /// A family with these label names, without members. It may have `limit` members at most.
     ///
     /// The first name that is no label name (`InvalidLabelName`) or that was there before (`DuplicateLabel`) is the error's, then one that
     /// the type of the metrics keeps for itself (`ReservedLabel`). Fails with `Memory` if memory runs out.
