@@ -65,6 +65,13 @@ pub struct Registry<M = Box<dyn EncodeMetric>> {
 }
 
 /// A registry with its name, as its parent keeps it.
+///
+/// <!-- cut: crates/calling/src/registries.rt -->
+/// ```rust
+/// registry
+///     .subsystem(below)?
+///     .register_with_unit(name, help, Unit::Seconds, metric)
+/// ```
 #[derive(Drop)]
 #[cycle(tree)]
 pub struct Subsystem<M = Box<dyn EncodeMetric>> {
