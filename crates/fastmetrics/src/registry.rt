@@ -11,7 +11,7 @@
 //! root.encode(out)?;
 //! ```
 
-mod at;
+mod calls;
 mod description;
 mod fitting;
 mod kinds;

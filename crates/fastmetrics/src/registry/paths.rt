@@ -10,7 +10,7 @@ ghost use Rattle.fm_core.specs.Calls.{seen_path, IsCall};
 ghost use Rattle.fm_core.specs.Named.{named_metric};
 ghost use Rattle.fastmetrics.specs.Paths.{Below, Replied, RegistersBelow, shown_path};
 
-use crate::registry::at::{asking, registering};
+use crate::registry::calls::{asking, registering};
 use fm_core::registry::{Registry, RegistryCall, RegistryError};
 use fm_encoder::EncodeMetric;
 use std::alloc::{AllocError, Global};

@@ -1,12 +1,11 @@
 //! A registry that always reads a history, so that its callers need no clause.
-ghost use Rattle.std.specs.Prelude.{◌≡◌, ◌⊎◌, ℕ, List, [], None, Some, Err, OnOk, IfOk, IfErr, IfSome, length, map, string_bytes, take};
+ghost use Rattle.std.specs.Prelude.{◌≡◌, ◌⊎◌, ℕ, List, [], None, OnOk, IfOk, IfErr, IfSome, map, string_bytes};
 ghost use Rattle.std.specs.Option.{option_map};
 ghost use Rattle.std.specs.Io.KnownBytes.{Keeps};
 ghost use Rattle.fm_grammar.specs.Exposition.{Text, Exposition};
-ghost use Rattle.fm_grammar.specs.LabelPairs.{shown_label};
 ghost use Rattle.fm_exposition.specs.Written.{IsWritersFault};
 ghost use Rattle.fm_raw.specs.declared.encode_error.EncodeError.{EncodeError};
-ghost use Rattle.fm_registry_rules.specs.declared.error.RegistryError.TheVariants.{Memory, NoRandomKeys};
+ghost use Rattle.fm_registry_rules.specs.declared.error.RegistryError.TheVariants.{NoRandomKeys};
 ghost use Rattle.fm_core.specs.HasHistory.{IsNewRoot};
 ghost use Rattle.fm_registry_rules.specs.Lists.{seen_labels};
 ghost use Rattle.fm_registry_rules.specs.inside.Fitting.{HasFittingHistory};
@@ -14,9 +13,7 @@ ghost use Rattle.fm_registry_rules.specs.Listing.{listed_tree};
 ghost use Rattle.fm_core.specs.Admits.{AdmittedBy};
 ghost use Rattle.fm_core.specs.Encoded.{IsAdmittedText, Writes, BeginsToWrite};
 ghost use Rattle.fm_core.specs.Lint.{seen_warning, warnings_of_all};
-ghost use Rattle.fm_core.specs.Named.{named_metric};
-ghost use Rattle.fastmetrics.specs.Roots.{AddsOrNot, AddsKept, Enters};
-ghost use Rattle.fastmetrics.specs.Fits.{fit_refusal_here, HasOwnFault, HasOwnFaultNamed};
+ghost use Rattle.fastmetrics.specs.Fits.{HasOwnFault, HasOwnFaultNamed};
 ghost use Rattle.fastmetrics.specs.inside.FittingMetrics.{Fits};
 
 mod collectors;
@@ -24,8 +21,9 @@ mod constants;
 mod families;
 mod metrics;
 mod own;
+mod registering;
+mod subsystems;
 
-use crate::registry::at::RegistryAt;
 use crate::registry::kinds::faults::only_own_faults;
 use crate::registry::kinds::{Metric, NoOwn};
 use crate::registry::waiter::Waiter;
@@ -35,7 +33,7 @@ use fm_core::registry::{Registry, RegistryBuilder, RegistryError};
 use fm_encoder::EncodeMetric;
 use fm_exposition::Exposition;
 use fm_family::LabelHashing;
-use fm_raw::{EncodeError, Unit};
+use fm_raw::EncodeError;
 use std::alloc::{AllocError, Global};
 use std::hash::RandomState;
 use std::io::Write;
@@ -70,7 +68,10 @@ fn random_hashing<R: RandomSource>(rt: &R) -> Result<LabelHashing, RegistryError
 /// load.set(Fixed::from_millionths(500_000));
 /// ```
 pub struct Root<H: Wait, X = NoOwn> {
-    at: RegistryAt<H, X>,
+    registry: Registry<Metric<H, X>>,
+    // The names that lead to the subsystem in which it registers.
+    path: Vec<String>,
+    alloc: Global,
     wait: H,
     // How its families hash the values of labels.
     hashing: LabelHashing,
@@ -79,7 +80,10 @@ pub struct Root<H: Wait, X = NoOwn> {
 }
 
 impl<H: Wait, X> Model for Root<H, X> {
+    ghost use Rattle.std.specs.Prelude.{map, string_bytes};
     ghost use Rattle.std.specs.Coded.{codes};
+    ghost use Rattle.fm_registry_rules.specs.inside.Fitting.{HasFittingHistory};
+    ghost use Rattle.fastmetrics.specs.inside.FittingMetrics.{Fits};
     ghost use Rattle.fm_metrics.specs.contracts.named_states.NamedStates as states;
     ghost use Rattle.fastmetrics.specs.Roots.{SeenRoot};
     ghost use Rattle.fastmetrics.specs.inside.RootCode.{seen_root_code};
@@ -89,13 +93,21 @@ impl<H: Wait, X> Model for Root<H, X> {
 
     ghost coded = { seen_root_code H.code (Prim.hlevel (codes, states.the_row.coded)) };
 
-    ghost view = { λ r. record { at = r.at; base = r.base; wait = r.wait } };
+    ghost view = { λ r. record {
+      at = record { tree = r.registry; path = map string_bytes r.path.items };
+      base = r.base;
+      wait = r.wait;
+    } };
+
+    ghost invariant = { λ r. HasFittingHistory Fits r.registry };
 }
 
 impl<H: Wait + Drop, X: Drop> Drop for Root<H, X> {
     fn drop(self) {
         let Root {
-            at: _,
+            registry: _,
+            path: _,
+            alloc: _,
             wait: _,
             hashing: _,
             base: _,
@@ -114,9 +126,11 @@ impl<H: Waiter + RandomSource + AllocGlobal> Root<H> {
         ensures error { IfErr result (λ e. e ≡ NoRandomKeys) }
     {
         let hashing = random_hashing(&rt)?;
-        let at = RegistryAt::new(rt.alloc());
+        let alloc = rt.alloc();
         Ok(Root {
-            at,
+            registry: Registry::default(),
+            path: Vec::new(alloc),
+            alloc,
             wait: rt,
             hashing,
             base: 0,
@@ -134,9 +148,11 @@ impl<H: Waiter + RandomSource + AllocGlobal, X> Root<H, X> {
         ensures error { IfErr result (λ e. e ≡ NoRandomKeys) }
     {
         let hashing = random_hashing(&rt)?;
-        let at = RegistryAt::built(builder, rt.alloc());
+        let alloc = rt.alloc();
         Ok(Root {
-            at,
+            registry: builder.build_root(),
+            path: Vec::new(alloc),
+            alloc,
             wait: rt,
             hashing,
             base: 0,
@@ -160,7 +176,7 @@ impl<H: Waiter> Root<H> {
 impl<H: Waiter, X> Root<H, X> {
     /// The allocator that it was made with.
     pub fn alloc(&self) -> Global {
-        self.at.alloc()
+        self.alloc
     }
 
     /// The handle that its metrics wait by.
@@ -169,114 +185,15 @@ impl<H: Waiter, X> Root<H, X> {
     {
         self.wait
     }
-
-    /// Goes back to the root itself, or to the namespace if one was begun. It takes no memory.
-    pub fn leave(&mut self)
-        ensures { self.new ≡ record self.old {
-          at = record self.old.at { path = take self.old.base self.old.at.path };
-        } }
-    {
-        self.at.leave(self.base);
-    }
 }
 
 impl<H: Waiter, X: EncodeMetric> Root<H, X> {
-    /// Begins a namespace below the current subsystem: from now on the names of metrics begin with it and an underscore, their samples
-    /// have these labels, and `leave` goes back to it. What is registered already stays as it is.
-    ///
-    /// Fails as `enter` does, and then the root stays as it was.
-    pub fn namespace(&mut self, name: &str, labels: &[(&str, &str)]) -> Result<(), RegistryError>
-        ensures enters { ((result ≡ Err Memory) × (self.new.at ≡ self.old.at))
-            ⊎ Enters name.now (map shown_label labels.now) self.old.at self.new.at result }
-        ensures base { OnOk result (self.new.base ≡ length self.new.at.path) }
-        ensures kept { IfErr result (λ _. self.new ≡ self.old) }
-    {
-        self.at.enter(name, labels)?;
-        self.base = self.at.depth();
-        Ok(())
-    }
-
-    /// Goes on in the subsystem with this name below the current one. If it isn't there, it is made, with these labels besides those
-    /// of the registries above it. From now on metrics are registered there.
-    ///
-    /// Fails as a subsystem builder does, or with `Memory`; then the root stays as it was.
-    pub fn enter(&mut self, name: &str, labels: &[(&str, &str)]) -> Result<(), RegistryError>
-        ensures enters { ((result ≡ Err Memory) × (self.new.at ≡ self.old.at))
-            ⊎ Enters name.now (map shown_label labels.now) self.old.at self.new.at result }
-    {
-        self.at.enter(name, labels)
-    }
-
     // The registry.
     fn registry(&self) -> &Registry<Metric<H, X>>
         ensures shown { result.now ≡ self.now.at.tree }
         ensures sound { HasFittingHistory Fits result.now }
     {
-        self.at.registry()
-    }
-
-    // Registers a metric in the current subsystem.
-    fn add_metric(
-        &mut self,
-        name: &str,
-        help: &str,
-        unit: Option<Unit>,
-        metric: Metric<H, X>,
-    ) -> Result<(), RegistryError>
-        ensures { AddsOrNot (fit_refusal_here self.old.at name.now unit metric)
-            (⟦<Metric<H, X> as EncodeMetric>⟧.types metric)
-            (named_metric name.now help.now unit metric) self.old.at self.new.at result }
-    {
-        self.at.register(name, help, unit, metric)
-    }
-
-    // Registers a clone of a metric in the current subsystem, and returns the metric.
-    fn keep_metric<T: Into<Metric<H, X>> + Clone + Drop>(
-        &mut self,
-        name: &str,
-        help: &str,
-        unit: Option<Unit>,
-        metric: T,
-    ) -> Result<T, RegistryError>
-        ensures { AddsKept metric T.is_clone T.converts (fit_refusal_here self.old.at name.now unit)
-            ⟦<Metric<H, X> as EncodeMetric>⟧.types
-            (named_metric name.now help.now unit) self.old.at self.new.at result }
-    {
-        self.at.keep(name, help, unit, metric)
-    }
-
-    // Goes to the root itself, above each namespace, and returns the path on which it was.
-    pub(crate) fn go_to_top(&mut self) -> Vec<String> {
-        self.at.go_to_top()
-    }
-
-    // Goes on at this path.
-    pub(crate) fn go_to(&mut self, path: Vec<String>) {
-        self.at.go_to(path);
-    }
-
-    /// Registers a metric in the current subsystem, with or without a unit. At an error the metric is dropped, and the root
-    /// stays as it was.
-    ///
-    /// It fails with `Memory` if there is none for the call, and then for a label of the metric: with `DuplicateLabel` if a
-    /// constant label has its name, or if two facts of an info have the same name; with `InvalidLabelName` if a fact's name is
-    /// no label name. Histograms and gauge histograms have a label `le`, and a state set has one with its printed name. Labels
-    /// of the program's own metrics are tested at a scrape only. Then it has the errors of `Registry::register_metric`, in the
-    /// same order.
-    pub fn register<T: Into<Metric<H, X>>>(
-        &mut self,
-        name: &str,
-        help: &str,
-        unit: Option<Unit>,
-        metric: T,
-    ) -> Result<(), RegistryError>
-        ensures { (converted : _) × T.converts metric converted
-            × AddsOrNot (fit_refusal_here self.old.at name.now unit converted)
-            (⟦<Metric<H, X> as EncodeMetric>⟧.types converted)
-            (named_metric name.now help.now unit converted) self.old.at
-            self.new.at result }
-    {
-        self.add_metric(name, help, unit, metric.into())
+        &self.registry
     }
 
     /// The exposition of the registry: what `collect` returns for it, with its errors.
@@ -307,6 +224,7 @@ impl<H: Waiter, X: EncodeMetric> Root<H, X> {
         only_own_faults::<H, X>();
         encode(self.alloc(), writer, self.registry())
     }
+
     /// The first family that a document can't show at this moment, and why, or `None`: what a server prints where `encode` was refused.
     /// It collects the registry, so it waits as `collect` does.
     pub fn fault(&self) -> Result<Option<FamilyFault>, AllocError>
@@ -326,6 +244,7 @@ impl<H: Waiter, X: EncodeMetric> Root<H, X> {
     {
         lint_registry(self.alloc(), self.registry())
     }
+
     /// The document of the registry, in memory: the body of a server's answer to a scrape. It has the errors of `collect`.
     pub fn document(&self) -> Result<Vec<u8>, EncodeError>
         ensures document { IfOk result (λ bytes. ⟦<Root<H, X> as Shown>⟧.is_document self.now bytes.items) }

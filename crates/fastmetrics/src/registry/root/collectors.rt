@@ -42,9 +42,9 @@ impl<H: Waiter, X: EncodeMetric> Root<H, X> {
         } else {
             self.hashing
         };
-        let alloc = self.at.alloc();
+        let alloc = self.alloc;
         let family = Collected::new(alloc, description.labels, hashing, collector, place)?;
-        self.at.test_names(family.names())?;
+        self.test_names(family.names())?;
         Ok(family)
     }
 

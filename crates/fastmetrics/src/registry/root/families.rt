@@ -36,7 +36,7 @@ impl<H: Waiter, X: EncodeMetric> Root<H, X> {
         ensures names { IfOk result (λ family. vec_names family
             ≡ shown_texts description.now.labels.now) }
     {
-        let alloc = self.at.alloc();
+        let alloc = self.alloc;
         let maker = Maker::new(self.wait, alloc, description.bounds, description.created)?;
         let hashing = if description.fixed_hasher {
             LabelHashing::Fixed
@@ -51,7 +51,7 @@ impl<H: Waiter, X: EncodeMetric> Root<H, X> {
             hashing,
             description.limit,
         )?;
-        self.at.test_names(family.names())?;
+        self.test_names(family.names())?;
         Ok(family)
     }
 

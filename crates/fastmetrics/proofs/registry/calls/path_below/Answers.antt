@@ -2,7 +2,7 @@ use Rattle.std.proofs.Common.{◌++◌, ◌∷◌, [], ap, ◌∙◌}
 use Rattle.std.specs.String.{string_bytes}
 use Rattle.fm_core.specs.Calls.{seen_path}
 use Rattle.fastmetrics.proofs.RootLemmas.{path-cloned, path-pushed}
-use Rattle.fastmetrics.proofs.registry.at.path_below.Goals as goal
+use Rattle.fastmetrics.proofs.registry.calls.path_below.Goals as goal
 
 pub returns : goal.returns
 returns c =

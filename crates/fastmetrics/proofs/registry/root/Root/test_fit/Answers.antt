@@ -3,7 +3,7 @@ use Rattle.std.specs.Option.{option_copied}
 use Rattle.std.specs.String.{string_bytes}
 use Rattle.fm_registry_rules.specs.Tree.{subtree_from}
 use Rattle.fastmetrics.proofs.FitLemmas.{ok_more}
-use Rattle.fastmetrics.proofs.registry.at.RegistryAt.test_fit.Goals as goal
+use Rattle.fastmetrics.proofs.registry.root.Root.test_fit.Goals as goal
 
 pub returns-in-Some-clause-fits : goal.returns-in-Some-clause-fits
 returns-in-Some-clause-fits g c =
