@@ -258,15 +258,6 @@ impl PointEncoder {
         self.refused.error
     }
 
-    // Keeps a refusal, which is the first, and returns it.
-    pub(crate) fn refuse(&mut self, error: EncodeError) -> Result<(), EncodeError>
-        requires accepting { self.old.refused ≡ None }
-        ensures refused { self.new ≡ record self.old { refused = Some error } }
-        ensures returned { result ≡ Err error }
-    {
-        self.refused.refuse(error)
-    }
-
     // The first refusal, after the visited source returned `visited`.
     pub(crate) fn outcome(&self, visited: Result<(), EncodeError>) -> Result<(), EncodeError>
         ensures { IsOutcome self.now.refused visited result }
