@@ -1,17 +1,18 @@
 -- The library's metrics that fit have no fault, kind by kind.
-use Rattle.std.proofs.Common.{◌≡◌, ℕ, ℤ, pos, Bool, List, [], ◌∷◌, length, Contains, Option, None, inl, inr, refl, sym, subst, codes}
+use Rattle.std.proofs.Common.{◌≡◌, ℕ, ℤ, pos, Bool, List, [], ◌∷◌, length, Contains, Option, None, inl, inr, refl, sym, subst}
 use Rattle.std.specs.List.{AllByRecursion}
 use Rattle.std.specs.Option.{option_map}
 use Rattle.fm_grammar.specs.declared.MetricType.{MetricType}
 use Rattle.fm_grammar.specs.declared.MetricType.TheVariants as type
 use Rattle.fm_grammar.specs.Exposition.{Text, Label, Value, Whole, Fixed}
+use Rattle.fm_grammar.specs.Kinds.{reserved_label}
 use Rattle.fm_grammar.specs.WellFormed.{AreLabels}
 use Rattle.fm_grammar.specs.LabelPairs.{labels_of}
 use Rattle.fm_raw.specs.declared.encode_error.EncodeError.{EncodeError}
-use Rattle.fm_labels.specs.Labels.{EmittedLabel, IsReserved, LabelsValid, label_names}
+use Rattle.fm_labels.specs.Labels.{EmittedLabel, LabelsValid, label_names}
 use Rattle.fm_labels.specs.inside.FittingNames.{NamesFit}
 use Rattle.fm_labels.specs.inside.FreeLabels.{AreFree}
-use Rattle.fm_labels.proofs.NameLemmas.{AreFree-named, emitted_again-pairs}
+use Rattle.fm_labels.proofs.NameLemmas.{emitted_again-pairs}
 use Rattle.fm_labels.proofs.FittingLemmas.{LabelsValid-fitting, all_free}
 use Rattle.fm_encoder.specs.Points.{Point, UnknownPoint, CounterPoint, GaugePoint, StateSetPoint, InfoPoint, Member, MembersFault, millis}
 use Rattle.fm_encoder.specs.Offers.{MetricHasFault, context_at}
@@ -28,29 +29,26 @@ use Rattle.fastmetrics.specs.contracts.registry.kinds.scalar.ScalarEncodeMetric.
 use Rattle.fastmetrics.specs.declared.registry.kinds.constant.Constant.{Constant}
 use Rattle.fastmetrics.specs.declared.registry.kinds.constant.Constant.TheVariants as constant
 use Rattle.fastmetrics.specs.contracts.registry.kinds.constant.ConstantEncodeMetric.TheImpl.{ghosts as constants}
-use Rattle.fastmetrics.specs.inside.FittingMetrics.{scalar_type, constant_type, NoBoundLabel, SnapshotFits, ConstantFits}
+use Rattle.fastmetrics.specs.inside.FittingMetrics.{scalar_type, constant_type, SnapshotFits, ConstantFits}
 
--- labels in a family of a type that reserves no name, and labels without the name that histograms reserve
-free_in : (own t : MetricType) (labels : List Label) → t ≡ own → ((name : Text) → ¬ (IsReserved own name)) → AreFree t labels
-free_in own t labels same none = subst (λ (x : MetricType). AreFree x labels) (sym same) (all_free own labels none)
+-- labels that are free in a family of the type that this one is, and in one whose type reserves no name
+free_as : (own t : MetricType) (labels : List Label) → t ≡ own → AreFree own labels → AreFree t labels
+free_as own t labels same free = subst (λ (x : MetricType). AreFree x labels) (sym same) free
 
-free_of_bounds : (t : MetricType) (labels : List Label) → t ≡ type.Histogram → NoBoundLabel labels → AreFree t labels
-free_of_bounds t labels same fresh = subst (λ (x : MetricType). AreFree x labels) (sym same) (AreFree-named labels (codes "le") fresh)
-
-free_of_gauge_bounds : (t : MetricType) (labels : List Label) → t ≡ type.GaugeHistogram → NoBoundLabel labels → AreFree t labels
-free_of_gauge_bounds t labels same fresh = subst (λ (x : MetricType). AreFree x labels) (sym same) (AreFree-named labels (codes "le") fresh)
+free_in : (own t : MetricType) (labels : List Label) → t ≡ own → reserved_label own ≡ None → AreFree t labels
+free_in own t labels same none = free_as own t labels same (all_free own labels none)
 
 module _ (k : EncodeError) (name : Text) (labels : List Label) (are : AreLabels labels) (t : MetricType) where
   -- one number that some value gives, as a counter without exemplars or as a gauge
   counter_fits : (V : Type 0) (In : V → Type 0) (value : V → Value) (created : Option ℕ) (Stamps : Option ℕ → Type 0) (MayFault : Type 0) → ¬ MayFault → t ≡ type.Counter → ¬ (MetricHasFault k (λ stamp ms. (v : V) × In v × (ms ≡ bare (CounterPoint (value v ∷ []) [] created) ∷ [])) Stamps MayFault name t labels)
   counter_fits V In value created Stamps MayFault never same =
       one_faultless k V In (λ v. CounterPoint (value v ∷ []) [] created) Stamps MayFault name t labels are
-      (free_in type.Counter t labels same (λ _ never. never)) never (λ v. sym same) (λ v within. ((value v, refl), inl refl))
+      (free_in type.Counter t labels same refl) never (λ v. sym same) (λ v within. ((value v, refl), inl refl))
 
   gauge_fits : (V : Type 0) (In : V → Type 0) (value : V → Value) (Stamps : Option ℕ → Type 0) (MayFault : Type 0) → ¬ MayFault → t ≡ type.Gauge → ¬ (MetricHasFault k (λ stamp ms. (v : V) × In v × (ms ≡ bare (GaugePoint (value v ∷ [])) ∷ [])) Stamps MayFault name t labels)
   gauge_fits V In value Stamps MayFault never same =
       one_faultless k V In (λ v. GaugePoint (value v ∷ [])) Stamps MayFault name t labels are
-      (free_in type.Gauge t labels same (λ _ never. never)) never (λ v. sym same) (λ v within. (value v, refl))
+      (free_in type.Gauge t labels same refl) never (λ v. sym same) (λ v within. (value v, refl))
 
   pub scalar_fits : (x : Scalar) → t ≡ scalar_type x → ¬ (MetricHasFault k (scalars.offers x) (scalars.stamps x) (scalars.may_fault x) name t labels)
   scalar_fits (scalar.Counter x) same = counter_fits _ _ (λ total. Whole (pos total)) (option_map millis (counter_created x)) _ _ (λ own. own.2) same
@@ -61,38 +59,38 @@ module _ (k : EncodeError) (name : Text) (labels : List Label) (are : AreLabels 
   unknown_fits : (value : Value) (Stamps : Option ℕ → Type 0) (MayFault : Type 0) → ¬ MayFault → t ≡ type.Unknown → ¬ (MetricHasFault k (λ stamp ms. ms ≡ bare (UnknownPoint (value ∷ [])) ∷ []) Stamps MayFault name t labels)
   unknown_fits value Stamps MayFault never same =
       fixed_faultless k (UnknownPoint (value ∷ [])) Stamps MayFault name t labels are
-      (free_in type.Unknown t labels same (λ _ never. never)) never (sym same) (value, refl)
+      (free_in type.Unknown t labels same refl) never (sym same) (value, refl)
 
   const_counter_fits : (value : Value) (created : Option ℕ) (Stamps : Option ℕ → Type 0) (MayFault : Type 0) → ¬ MayFault → t ≡ type.Counter → ¬ (MetricHasFault k (λ stamp ms. ms ≡ bare (CounterPoint (value ∷ []) [] created) ∷ []) Stamps MayFault name t labels)
   const_counter_fits value created Stamps MayFault never same =
       fixed_faultless k (CounterPoint (value ∷ []) [] created) Stamps MayFault name t labels are
-      (free_in type.Counter t labels same (λ _ never. never)) never (sym same) ((value, refl), inl refl)
+      (free_in type.Counter t labels same refl) never (sym same) ((value, refl), inl refl)
 
   const_gauge_fits : (value : Value) (Stamps : Option ℕ → Type 0) (MayFault : Type 0) → ¬ MayFault → t ≡ type.Gauge → ¬ (MetricHasFault k (λ stamp ms. ms ≡ bare (GaugePoint (value ∷ [])) ∷ []) Stamps MayFault name t labels)
   const_gauge_fits value Stamps MayFault never same =
       fixed_faultless k (GaugePoint (value ∷ [])) Stamps MayFault name t labels are
-      (free_in type.Gauge t labels same (λ _ never. never)) never (sym same) (value, refl)
+      (free_in type.Gauge t labels same refl) never (sym same) (value, refl)
 
   -- what some values were counted as, or what a snapshot has counted, under labels without the reserved name
-  pub histogram_fits : (taken : ℤ → Bool) (created : Option ℕ) (Stamps : Option ℕ → Type 0) (MayFault : Type 0) → ¬ MayFault → t ≡ type.Histogram → NoBoundLabel labels → ¬ (MetricHasFault k (λ stamp ms. (s : Histogram) × CountsTaken taken s × (ms ≡ bare (point_of s created) ∷ [])) Stamps MayFault name t labels)
-  histogram_fits taken created Stamps MayFault never same fresh =
+  pub histogram_fits : (taken : ℤ → Bool) (created : Option ℕ) (Stamps : Option ℕ → Type 0) (MayFault : Type 0) → ¬ MayFault → t ≡ type.Histogram → AreFree type.Histogram labels → ¬ (MetricHasFault k (λ stamp ms. (s : Histogram) × CountsTaken taken s × (ms ≡ bare (point_of s created) ∷ [])) Stamps MayFault name t labels)
+  histogram_fits taken created Stamps MayFault never same free =
       one_faultless k Histogram (CountsTaken taken) (λ s. point_of s created) Stamps MayFault name t labels are
-      (free_of_bounds t labels same fresh) never (λ s. sym same) (λ s counts. plain_point s created (few_counted taken s counts))
+      (free_as type.Histogram t labels same free) never (λ s. sym same) (λ s counts. plain_point s created (few_counted taken s counts))
 
-  pub gauge_histogram_fits : (taken : ℤ → Bool) (Stamps : Option ℕ → Type 0) (MayFault : Type 0) → ¬ MayFault → t ≡ type.GaugeHistogram → NoBoundLabel labels → ¬ (MetricHasFault k (λ stamp ms. (s : Histogram) × CountsTaken taken s × (ms ≡ bare (gauge_point_of s) ∷ [])) Stamps MayFault name t labels)
-  gauge_histogram_fits taken Stamps MayFault never same fresh =
+  pub gauge_histogram_fits : (taken : ℤ → Bool) (Stamps : Option ℕ → Type 0) (MayFault : Type 0) → ¬ MayFault → t ≡ type.GaugeHistogram → AreFree type.GaugeHistogram labels → ¬ (MetricHasFault k (λ stamp ms. (s : Histogram) × CountsTaken taken s × (ms ≡ bare (gauge_point_of s) ∷ [])) Stamps MayFault name t labels)
+  gauge_histogram_fits taken Stamps MayFault never same free =
       one_faultless k Histogram (CountsTaken taken) gauge_point_of Stamps MayFault name t labels are
-      (free_of_gauge_bounds t labels same fresh) never (λ s. sym same) (λ s counts. plain_gauge_point s (few_counted taken s counts))
+      (free_as type.GaugeHistogram t labels same free) never (λ s. sym same) (λ s counts. plain_gauge_point s (few_counted taken s counts))
 
-  snapshot_fits : (s : Histogram) (created : Option ℕ) (Stamps : Option ℕ → Type 0) (MayFault : Type 0) → ¬ MayFault → t ≡ type.Histogram → SnapshotFits labels s → ¬ (MetricHasFault k (λ stamp ms. ms ≡ bare (point_of s created) ∷ []) Stamps MayFault name t labels)
-  snapshot_fits s created Stamps MayFault never same (fresh, few) =
+  snapshot_fits : (s : Histogram) (created : Option ℕ) (Stamps : Option ℕ → Type 0) (MayFault : Type 0) → ¬ MayFault → t ≡ type.Histogram → SnapshotFits type.Histogram labels s → ¬ (MetricHasFault k (λ stamp ms. ms ≡ bare (point_of s created) ∷ []) Stamps MayFault name t labels)
+  snapshot_fits s created Stamps MayFault never same (free, few) =
       fixed_faultless k (point_of s created) Stamps MayFault name t labels are
-      (free_of_bounds t labels same fresh) never (sym same) (plain_point s created few)
+      (free_as type.Histogram t labels same free) never (sym same) (plain_point s created few)
 
-  gauge_snapshot_fits : (s : Histogram) (Stamps : Option ℕ → Type 0) (MayFault : Type 0) → ¬ MayFault → t ≡ type.GaugeHistogram → SnapshotFits labels s → ¬ (MetricHasFault k (λ stamp ms. ms ≡ bare (gauge_point_of s) ∷ []) Stamps MayFault name t labels)
-  gauge_snapshot_fits s Stamps MayFault never same (fresh, few) =
+  gauge_snapshot_fits : (s : Histogram) (Stamps : Option ℕ → Type 0) (MayFault : Type 0) → ¬ MayFault → t ≡ type.GaugeHistogram → SnapshotFits type.GaugeHistogram labels s → ¬ (MetricHasFault k (λ stamp ms. ms ≡ bare (gauge_point_of s) ∷ []) Stamps MayFault name t labels)
+  gauge_snapshot_fits s Stamps MayFault never same (free, few) =
       fixed_faultless k (gauge_point_of s) Stamps MayFault name t labels are
-      (free_of_gauge_bounds t labels same fresh) never (sym same) (plain_gauge_point s few)
+      (free_as type.GaugeHistogram t labels same free) never (sym same) (plain_gauge_point s few)
 
   -- an info whose labels may follow the constant ones
   info_fits : (ls : List EmittedLabel) (Stamps : Option ℕ → Type 0) (MayFault : Type 0) → ¬ MayFault → t ≡ type.Info → LabelsValid type.Info labels ls → ¬ (MetricHasFault k (λ stamp ms. ms ≡ bare (InfoPoint ls) ∷ []) Stamps MayFault name t labels)

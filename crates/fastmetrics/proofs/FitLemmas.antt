@@ -1,5 +1,5 @@
 -- Metrics whose labels' names are not refused fit.
-use Rattle.std.proofs.Common.{◌≡◌, ℕ, zero, suc, ◌<◌, Bool, true, false, if◌then◌else◌, List, [], ◌∷◌, map, Option, None, Some, Result, Ok, Err, OnOk, inl, inr, refl, sym, subst, ◌∙◌, arith, true≢false, Contains, codes}
+use Rattle.std.proofs.Common.{◌≡◌, ℕ, zero, suc, ◌<◌, Bool, true, false, if◌then◌else◌, List, [], ◌∷◌, map, Option, None, Some, Result, Ok, Err, OnOk, inl, inr, refl, sym, subst, ◌∙◌, arith, true≢false, Contains, option_and_then}
 use Rattle.std.specs.List.{AllByRecursion}
 use Rattle.std.specs.Str.{bytes_eq}
 use Rattle.std.specs.Cmp.Lexicographic.{bytes_decides}
@@ -12,11 +12,12 @@ use Rattle.fm_registry_rules.specs.declared.error.RegistryError.{RegistryError}
 use Rattle.fm_registry_rules.specs.LabelNames.{AreLabelNames, names_refusal, IsOrMemory}
 use Rattle.fm_registry_rules.proofs.NameListLemmas.{names_valid}
 use Rattle.fm_labels.specs.Labels.{IsReserved, NameFits, label_names}
-use Rattle.fm_labels.specs.ReservedNames.{reserved_refusal}
+use Rattle.fm_labels.specs.ReservedNames.{refused_if_among, reserved_refusal}
 use Rattle.fm_labels.specs.inside.FittingNames.{NamesFit}
+use Rattle.fm_labels.specs.inside.FreeLabels.{AreFree}
+use Rattle.fm_labels.proofs.NameLemmas.{AreFree-unless}
 use Rattle.fastmetrics.specs.Roots.{constants_refusal}
 use Rattle.fastmetrics.specs.Fits.{taken_refusal, facts_refusal, type_refusal, family_refusal}
-use Rattle.fastmetrics.specs.inside.FittingMetrics.{NoneIsReserved}
 
 -- a refusal of the first test, or none
 pub first_refused : (e : Refusal) (first later : Option Refusal) → IsOrMemory (Some e) first → IsOrMemory (Some e) (or_then first later)
@@ -75,18 +76,10 @@ fresh (l ∷ labels) names none name there =
     by false other gone rest = rw other rest
 
 -- nor is it one that the type reserves
-named_le : (names : List Text) (reserved name : Text) (why : Refusal) → (if has_text names reserved then Some why else None) ≡ None → has_text names name ≡ true → ¬ (name ≡ reserved)
-named_le names reserved name why none there same = true≢false (sym (subst (λ (t : Text). has_text names t ≡ true) same there) ∙ test_false _ _ none)
-
 not_reserved : (t : MetricType) (names : List Text) → reserved_refusal t names ≡ None → (name : Text) → has_text names name ≡ true → ¬ (IsReserved t name)
-not_reserved type.Histogram names none name there = named_le names (codes "le") name _ none there
-not_reserved type.GaugeHistogram names none name there = named_le names (codes "le") name _ none there
-not_reserved type.Summary names none name there = named_le names (codes "quantile") name _ none there
-not_reserved type.Counter names none name there = λ never. never
-not_reserved type.Gauge names none name there = λ never. never
-not_reserved type.StateSet names none name there = λ never. never
-not_reserved type.Info names none name there = λ never. never
-not_reserved type.Unknown names none name there = λ never. never
+not_reserved t names none name there reserved =
+    let refused : refused_if_among names name ≡ None = subst (λ (o : Option Text). option_and_then (refused_if_among names) o ≡ None) reserved none in
+    true≢false (sym there ∙ test_false _ _ refused)
 
 each_fits : (t : MetricType) (labels : Labels) (names : List Text) → AllByRecursion IsLabelName names → ((name : Text) → has_text names name ≡ true → (¬ (IsReserved t name)) × (¬ (Contains (label_names labels) name))) → AllByRecursion (NameFits t labels) names
 each_fits t labels [] valid holds = tt
@@ -101,18 +94,13 @@ names_fit t labels names are free others = record {
   different = are.different;
 }
 
-none_reserved : (t : MetricType) (labels : Labels) → type_refusal t labels ≡ None → NoneIsReserved t labels
-none_reserved type.Histogram labels none = not_taken labels (codes "le") none
-none_reserved type.GaugeHistogram labels none = not_taken labels (codes "le") none
-none_reserved type.Summary labels none = tt
-none_reserved type.Counter labels none = tt
-none_reserved type.Gauge labels none = tt
-none_reserved type.StateSet labels none = tt
-none_reserved type.Info labels none = tt
-none_reserved type.Unknown labels none = tt
+-- no constant label has the name that the type reserves
+pub none_reserved : (t : MetricType) (labels : Labels) → type_refusal t labels ≡ None → AreFree t labels
+none_reserved t labels none =
+    AreFree-unless t labels (λ has. not_taken labels has.0 (subst (λ (o : Option Text). option_and_then (taken_refusal labels) o ≡ None) has.1 none) has.2)
 
 -- a family that is not refused
-pub family_fits : (t : MetricType) (labels : Labels) (names : List Text) → AreLabelNames names → family_refusal labels t names ≡ None → NoneIsReserved t labels × NamesFit t labels names
+pub family_fits : (t : MetricType) (labels : Labels) (names : List Text) → AreLabelNames names → family_refusal labels t names ≡ None → AreFree t labels × NamesFit t labels names
 family_fits t labels names are none =
     let first = both_none (type_refusal t labels) _ none in let rest = both_none (reserved_refusal t names) (constants_refusal labels names) first.1 in
     (none_reserved t labels first.0, names_fit t labels names are rest.0 rest.1)

@@ -1,8 +1,9 @@
 -- Why a root refuses a metric for its labels' names, which could not stand beside the constant labels of the registry in which it is to
 -- be. Each name is tested when the metric is registered, so that no document is refused for it later.
-use Rattle.std.specs.Prelude.{◌≡◌, List, [], ◌∷◌, Option, None, Some, map, codes, if◌then◌else◌}
+use Rattle.std.specs.Prelude.{◌≡◌, List, [], ◌∷◌, Option, None, Some, map, option_and_then, if◌then◌else◌}
 use Rattle.std.specs.List.{Any}
 use Rattle.std.specs.Option.{option_map}
+use Rattle.fm_grammar.specs.Kinds.{reserved_label}
 use Rattle.fm_grammar.specs.LabelPairs.{labels_of}
 use Rattle.fm_grammar.specs.declared.MetricType.{MetricType}
 use Rattle.fm_grammar.specs.declared.MetricType.TheVariants as type
@@ -37,18 +38,16 @@ taken_refusal labels name = if has_text (map (λ label. label.name) labels) name
 abbrev pub facts_refusal : Labels → List Text → Option Refusal
 facts_refusal labels names = or_then (names_refusal names) (constants_refusal labels names)
 
+-- a constant label has the name that the type reserves
+abbrev pub type_refusal : MetricType → Labels → Option Refusal
+type_refusal type labels = option_and_then (taken_refusal labels) (reserved_label type)
+
 -- a constant under these constant labels
 abbrev pub constant_refusal : Labels → Constant → Option Refusal
 constant_refusal labels (constant.Info x) = facts_refusal labels (map (λ label. label.name) (labels_of (label_set_of x).items))
-constant_refusal labels (constant.Histogram s) = taken_refusal labels (codes "le")
-constant_refusal labels (constant.GaugeHistogram s) = taken_refusal labels (codes "le")
+constant_refusal labels (constant.Histogram s) = type_refusal type.Histogram labels
+constant_refusal labels (constant.GaugeHistogram s) = type_refusal type.GaugeHistogram labels
 constant_refusal labels _ = None
-
--- a constant label has the name that the type reserves
-abbrev pub type_refusal : MetricType → Labels → Option Refusal
-type_refusal type.Histogram labels = taken_refusal labels (codes "le")
-type_refusal type.GaugeHistogram labels = taken_refusal labels (codes "le")
-type_refusal _ labels = None
 
 module _ {H : Type 0} where
   -- the type of the members of a family, and their label names
@@ -76,8 +75,8 @@ module _ {H X : Type 0} where
   -- a metric that would be printed under this name, under these constant labels
   abbrev pub fit_refusal : Text → Labels → Metric H X → Option Refusal
   fit_refusal name labels (metric.Scalar x) = None
-  fit_refusal name labels (metric.Histogram x) = taken_refusal labels (codes "le")
-  fit_refusal name labels (metric.GaugeHistogram x) = taken_refusal labels (codes "le")
+  fit_refusal name labels (metric.Histogram x) = type_refusal type.Histogram labels
+  fit_refusal name labels (metric.GaugeHistogram x) = type_refusal type.GaugeHistogram labels
   fit_refusal name labels (metric.Family f) = family_refusal labels (family_type f) (family_names f)
   fit_refusal name labels (metric.States x) = taken_refusal labels name
   fit_refusal name labels (metric.Constant x) = constant_refusal labels x

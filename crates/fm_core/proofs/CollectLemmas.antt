@@ -8,6 +8,7 @@ use Rattle.std.proofs.lemmas.Option.{get_or_from_slice_get, slice_get_within, sl
 use Rattle.fm_grammar.specs.Names.{AllDifferent}
 use Rattle.fm_grammar.specs.Exposition.{Text, Exposition}
 use Rattle.fm_grammar.specs.Reading.{IsNewName}
+use Rattle.fm_grammar.specs.WellFormed.{AreLabels}
 use Rattle.fm_grammar.proofs.Runs.{all_append}
 use Rattle.fm_raw.specs.declared.encode_error.EncodeError.{EncodeError}
 use Rattle.fm_raw.specs.declared.encode_error.EncodeError.TheVariants.{Memory}
@@ -142,6 +143,14 @@ module _ {M : Type 0} where
   -- a registry's own metrics have its labels
   pub labels_at : (facts : Facts M) (i : ℕ) (l : Listed M) → slice_get (own_metrics facts) i ≡ Some l → l.labels ≡ facts.labels
   labels_at facts i l at = all_at (λ (m : Listed M). m.labels ≡ facts.labels) (own_metrics facts) i l at (all_labels facts facts.metrics)
+
+  -- a registry that has metrics has the labels that each of them is listed with
+  pub own_labels : (facts : Facts M) → AllByRecursion IsListable (own_metrics facts) → length (own_metrics facts) ≢ 0 → AreLabels facts.labels
+  own_labels facts all some = by facts.metrics all some
+    where
+      by : (rs : List (Registration M)) → AllByRecursion IsListable (listed_with facts.namespace facts.labels rs) → length (listed_with facts.namespace facts.labels rs) ≢ 0 → AreLabels facts.labels
+      by [] all some = absurd (some refl)
+      by (r ∷ rs) all some = all.0.labels
 
   -- one registry more
   pub listed_in-next : (registries : List (Bor (Tree M))) (i : ℕ) (r : Bor (Tree M)) → i < length registries → r ≡ get_or registries i r → listed_in (take (i + 1) registries) ≡ listed_in (take i registries) ++ own_metrics r.now.facts

@@ -67,11 +67,11 @@ module _ (k : EncodeError) (name : Text) (type : MetricType) (constants : List L
 module _ (k : EncodeError) (name : Text) (constants : List Label) (are : AreLabels constants) where
   -- an info whose labels may follow the constant ones
   pub info_faultless : (labels : List EmittedLabel) (stamp : Option ℕ) → LabelsValid Info constants labels → ¬ (MembersFault k (context_at name Info constants stamp) (bare (InfoPoint labels) ∷ []))
-  info_faultless labels stamp valid = bare_faultless k name Info constants are (all_free Info constants (λ _ never. never)) (InfoPoint labels) stamp refl valid
+  info_faultless labels stamp valid = bare_faultless k name Info constants are (all_free Info constants refl) (InfoPoint labels) stamp refl valid
 
   -- a state set whose printed name is no name of the constant labels
   pub states_faultless : (states : List (Text × Bool)) (stamp : Option ℕ) → ¬ (Contains (label_names constants) name) → ¬ (MembersFault k (context_at name StateSet constants stamp) (bare (StateSetPoint states) ∷ []))
-  states_faultless states stamp fresh = bare_faultless k name StateSet constants are (all_free StateSet constants (λ _ never. never)) (StateSetPoint states) stamp refl (inr fresh)
+  states_faultless states stamp fresh = bare_faultless k name StateSet constants are (all_free StateSet constants refl) (StateSetPoint states) stamp refl (inr fresh)
 
 -- a metric that declares no error of its own, and offers only what has no fault
 pub metric_faultless : (k : EncodeError) (Offers : Option ℕ → List Member → Type 0) (Stamps : Option ℕ → Type 0) (MayFault : Type 0) (name : Text) (type : MetricType) (constants : List Label) → ¬ MayFault → ((stamp : Option ℕ) (ms : List Member) → Stamps stamp → Offers stamp ms → ¬ (MembersFault k (context_at name type constants stamp) ms)) → ¬ (MetricHasFault k Offers Stamps MayFault name type constants)

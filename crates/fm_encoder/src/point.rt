@@ -23,10 +23,11 @@ use fm_exposition::{Exemplar, SampleStore, Value};
 use fm_grammar::{MetricType, SampleKind};
 use fm_labels::collecting::constants::ConstantLabels;
 use fm_labels::collecting::first_refusal::{FirstRefusal, own_refusal};
+use fm_labels::collecting::gathering;
 use fm_labels::collecting::written::WrittenLabels;
+use fm_labels::keep;
 use fm_labels::label::LabelSetEncoder;
 use fm_labels::label_set::EncodeLabelSet;
-use fm_labels::{gathering, keep};
 use fm_raw::EncodeError;
 use fm_text::{GrowingText, LabelText};
 use fm_writer::{FamilyHead, NewSample, Sink};
@@ -278,15 +279,6 @@ impl PointEncoder {
         ensures { result ≡ self.now.refused }
     {
         self.refused.error
-    }
-
-    // Keeps a refusal, which is the first, and returns it.
-    pub(crate) fn refuse(&mut self, error: EncodeError) -> Result<(), EncodeError>
-        requires accepting { self.old.refused ≡ None }
-        ensures refused { self.new ≡ record self.old { refused = Some error } }
-        ensures returned { result ≡ Err error }
-    {
-        self.refused.refuse(error)
     }
 
     // The first refusal, after the visited source returned `visited`.

@@ -1,14 +1,15 @@
 -- Labels are valid where their names fit.
-use Rattle.std.proofs.Common.{◌≡◌, ◌≢◌, List, [], ◌∷◌, ◌++◌, length, inl, inr, refl, sym, ap, subst, arith, Contains}
+use Rattle.std.proofs.Common.{◌≡◌, ◌≢◌, List, [], ◌∷◌, ◌++◌, length, inl, inr, refl, sym, ap, subst, arith, Contains, None}
 use Rattle.std.specs.List.{AllByRecursion}
 use Rattle.std.proofs.lemmas.List.{map-append}
 use Rattle.std.proofs.lemmas.List.Elements.{Contains-push_cases}
 use Rattle.fm_grammar.specs.declared.MetricType.{MetricType}
 use Rattle.fm_grammar.specs.Exposition.{Text, Label}
+use Rattle.fm_grammar.specs.Kinds.{reserved_label}
 use Rattle.fm_grammar.specs.Names.{IsLabelName}
 use Rattle.fm_grammar.specs.WellFormed.{AreLabels}
 use Rattle.fm_grammar.specs.LabelPairs.{labels_with}
-use Rattle.fm_labels.specs.Labels.{IsReserved, label_names, NameFits, LabelsValid, emitted_again}
+use Rattle.fm_labels.specs.Labels.{label_names, NameFits, LabelsValid, emitted_again}
 use Rattle.fm_labels.specs.inside.FittingNames.{NamesFit}
 use Rattle.fm_labels.specs.inside.FreeLabels.{AreFree}
 use Rattle.fm_labels.proofs.LabelsLemmas.{LabelsValid-append, written_again}
@@ -50,9 +51,9 @@ each_fits type [] names free = tt
 each_fits type (l ∷ ls) names free = (record { valid = names.0; free = free.0; fresh = none_there l.name }, each_fits type ls names.1 free.1)
 
 -- a type that reserves no name leaves all labels free
-pub all_free : (type : MetricType) (ls : List Label) → ((name : Text) → ¬ (IsReserved type name)) → AreFree type ls
+pub all_free : (type : MetricType) (ls : List Label) → reserved_label type ≡ None → AreFree type ls
 all_free type [] none = tt
-all_free type (l ∷ ls) none = (none l.name, all_free type ls none)
+all_free type (l ∷ ls) none = (λ reserved. absurd cc, all_free type ls none)
 
 -- constant labels fit in a family whose type reserves none of their names
 pub constants_fit : (type : MetricType) (ls : List Label) → AreLabels ls → AreFree type ls → NamesFit type [] (label_names ls)

@@ -1,5 +1,5 @@
 -- The names of labels, and that valid labels have valid and different names.
-use Rattle.std.proofs.Common.{◌≡◌, ◌≢◌, zero, suc, List, [], ◌∷◌, ◌++◌, map, ◌⊎◌, inl, inr, refl, sym, ap, subst, ◌∙◌, arith, append-nil, append_assoc, String, Global, string_bytes, Contains, codes}
+use Rattle.std.proofs.Common.{◌≡◌, ◌≢◌, zero, suc, List, [], ◌∷◌, ◌++◌, map, ◌⊎◌, inl, inr, refl, sym, ap, subst, arith, append-nil, append_assoc, String, Global, string_bytes, Contains, codes}
 use Rattle.std.specs.List.{AllByRecursion}
 use Rattle.std.proofs.lemmas.List.Elements.{Contains-append_right}
 use Rattle.fm_grammar.specs.declared.MetricType.{MetricType}
@@ -9,7 +9,7 @@ use Rattle.fm_grammar.specs.inside.Words.{further_words, IsLabelByte}
 use Rattle.fm_grammar.specs.WellFormed.{AreLabels}
 use Rattle.fm_grammar.specs.LabelPairs.{labels_of}
 use Rattle.fm_labels.specs.Labels.{EmittedLabel, NamePiece, ValuePiece, IsReserved, label_names, NameFits, LabelValid, LabelsValid, written, all_written, emitted_again}
-use Rattle.fm_labels.specs.inside.FreeLabels.{AreFree}
+use Rattle.fm_labels.specs.inside.FreeLabels.{AreFree, HasReserved}
 
 abbrev pub Pairs : Type 0
 Pairs = List (String Global × String Global)
@@ -125,11 +125,13 @@ AreLabels-own type before ls l h free reserved valid is =
       different = subst AllDifferent (sym (names_of-append before (l ∷ []))) (different-push (label_names before) l.name h.different (AreFree-without type before l.name free reserved));
     })
 
--- labels without a name
-pub AreFree-named : (ls : List Label) (name : Text) → ¬ (Contains (label_names ls) name) → AllByRecursion (λ label. ¬ (label.name ≡ name)) ls
-AreFree-named [] name fresh = tt
-AreFree-named (l ∷ ls) name fresh =
-    ((λ same. fresh (0, omega arith, same)), AreFree-named ls name (λ there. fresh (Contains-cons name l.name (label_names ls) there)))
+-- labels are free where none has the reserved name
+pub AreFree-unless : (type : MetricType) (ls : List Label) → ¬ (HasReserved type ls) → AreFree type ls
+AreFree-unless type [] none = tt
+AreFree-unless type (l ∷ ls) none = (
+  λ reserved. none (l.name, reserved, (0, omega arith, refl)),
+  AreFree-unless type ls (λ has. none (has.0, has.1, Contains-cons has.0 l.name (label_names ls) has.2)),
+)
 
 pub AreFree-left : (type : MetricType) (xs ys : List Label) → AreFree type (xs ++ ys) → AreFree type xs
 AreFree-left type [] ys h = tt

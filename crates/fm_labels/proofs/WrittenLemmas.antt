@@ -1,17 +1,18 @@
--- Labels that are valid in a summary, and have no label of a bucket's bound, are valid in a family of any type. Valid labels are also
--- valid after labels with other names.
-use Rattle.std.proofs.Common.{◌≡◌, List, [], ◌∷◌, ◌++◌, inl, inr, refl, sym, ap, subst, append_assoc, append-nil, arith, Contains, codes}
+-- Labels that are valid where no name is reserved, and have no name that some type reserves, are valid in a family of any type. Valid
+-- labels are also valid after labels with other names.
+use Rattle.std.proofs.Common.{◌≡◌, List, [], ◌∷◌, ◌++◌, inl, inr, refl, sym, ap, subst, append_assoc, append-nil, arith, Contains}
 use Rattle.std.specs.List.{Any}
 use Rattle.std.proofs.lemmas.List.{map-append}
 use Rattle.std.proofs.lemmas.List.Elements.{Contains-append_cases}
 use Rattle.fm_grammar.specs.declared.MetricType.{MetricType}
-use Rattle.fm_grammar.specs.declared.MetricType.TheVariants.{Histogram, GaugeHistogram, Summary}
+use Rattle.fm_grammar.specs.declared.MetricType.TheVariants.{Unknown}
 use Rattle.fm_grammar.specs.Exposition.{Text, Label}
+use Rattle.fm_grammar.proofs.TypeWords.{is_a_type}
 use Rattle.fm_labels.specs.WrittenLabels.{AreWritten}
 use Rattle.fm_labels.specs.Labels.{EmittedLabel, label_names, LabelValid, LabelsValid, written, all_written}
-use Rattle.fm_labels.specs.inside.FreeLabels.{AreFree}
+use Rattle.fm_labels.specs.inside.FreeLabels.{AreFree, HasReserved, HasAnyReserved}
 use Rattle.fm_labels.proofs.LabelsLemmas.{Any-left, Any-right}
-use Rattle.fm_labels.proofs.NameLemmas.{AreFree-written, AreFree-named, AreFree-left, AreFree-right}
+use Rattle.fm_labels.proofs.NameLemmas.{AreFree-unless, AreFree-left, AreFree-right}
 
 -- a valid label is valid in a family of another type that doesn't reserve its name
 LabelValid-for : (type other : MetricType) (before : List Label) (label : EmittedLabel) → LabelValid type before label → AreFree other (written label) → LabelValid other before label
@@ -27,21 +28,11 @@ LabelsValid-for type other before (label ∷ labels) valid free = (
   LabelsValid-for type other (before ++ written label) labels valid.1 (AreFree-right other (written label) (all_written labels) free),
 )
 
-none_free : (ls : List Label) → (type : MetricType) → ((label : Label) → AreFree type (label ∷ [])) → AreFree type ls
-none_free [] type all = tt
-none_free (l ∷ ls) type all = ((all l).0, none_free ls type all)
-
--- labels without the names that some type reserves
-free_for : (type : MetricType) (ls : List Label) → AreFree Summary ls → ¬ (Contains (label_names ls) (codes "le")) → AreFree type ls
-free_for Histogram ls free fresh = AreFree-named ls (codes "le") fresh
-free_for GaugeHistogram ls free fresh = AreFree-named ls (codes "le") fresh
-free_for Summary ls free fresh = free
-free_for type ls free fresh = none_free ls type (λ l. (λ reserved. reserved, tt))
-
-pub keeps : (labels : List EmittedLabel) (kept : List Label) → LabelsValid Summary [] labels → kept ≡ all_written labels → ¬ (Contains (label_names kept) (codes "le")) → AreWritten labels kept
-keeps labels kept valid is fresh = record {
+-- labels that are valid where no name is reserved, and that have no name that some type reserves
+pub keeps : (labels : List EmittedLabel) (kept : List Label) → LabelsValid Unknown [] labels → kept ≡ all_written labels → ¬ (HasAnyReserved kept) → AreWritten labels kept
+keeps labels kept valid is none = record {
   written = is;
-  valid = λ type. LabelsValid-for Summary type [] labels valid (free_for type (all_written labels) (AreFree-written Summary [] labels valid) (subst (λ (ls : List Label). ¬ (Contains (label_names ls) (codes "le"))) is fresh));
+  valid = λ type. LabelsValid-for Unknown type [] labels valid (AreFree-unless type (all_written labels) (λ has. none (let at = is_a_type type in (at.0, type, at.1, at.2, subst (HasReserved type) (sym is) has))));
 }
 
 -- none of the labels has the name of one of those before

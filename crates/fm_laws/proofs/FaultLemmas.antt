@@ -1,5 +1,5 @@
 -- Each part of an offer is valid, or it contains a fault.
-use Rattle.std.proofs.Common.{◌≡◌, ℕ, suc, ◌<◌, ◌≤◌, ◌⊎◌, ◌++◌, ◌==◌, List, [], ◌∷◌, length, Bool, true, false, inl, inr, refl, sym, true≢false, arith, codes}
+use Rattle.std.proofs.Common.{◌≡◌, ℕ, suc, ◌<◌, ◌≤◌, ◌⊎◌, ◌++◌, ◌==◌, List, [], ◌∷◌, length, Bool, true, false, inl, inr, refl, sym, ap, true≢false, arith, Option, Some, None}
 use Rattle.std.specs.Prelude.{Contains, bytes_eq, ◌^◌}
 use Rattle.std.specs.Bool.{Decides}
 use Rattle.std.specs.List.{AllByRecursion}
@@ -10,6 +10,7 @@ use Rattle.std.proofs.lemmas.Map.Made.{is_member-Decides}
 use Rattle.fm_grammar.specs.declared.MetricType.{MetricType}
 use Rattle.fm_grammar.specs.declared.MetricType.TheVariants.{Unknown, Histogram, GaugeHistogram, Summary}
 use Rattle.fm_grammar.specs.Exposition.{Text, Label, Value}
+use Rattle.fm_grammar.specs.Kinds.{reserved_label}
 use Rattle.fm_grammar.specs.NameTests.{is_label_name}
 use Rattle.fm_grammar.specs.WellFormed.{label_code_points, IsSample}
 use Rattle.fm_raw.proofs.NameLemmas.{label_name_decides}
@@ -36,11 +37,12 @@ text_known a b = known (bytes_eq a b) (bytes_eq-Decides a b)
 there_known : (names : List Text) (name : Text) → Contains names name ⊎ (¬ (Contains names name))
 there_known names name = known (is_member bytes_eq names name) (is_member-Decides bytes_eq-Decides names name)
 
+some_known : (text : Option Text) (name : Text) → (text ≡ Some name) ⊎ (¬ (text ≡ Some name))
+some_known None name = inr (λ is. absurd cc)
+some_known (Some text) name = elim (text_known text name) [ inl same ↦ inl (ap Some same) | inr other ↦ inr (λ is. other cc) ]
+
 reserved_known : (type : MetricType) (name : Text) → IsReserved type name ⊎ (¬ (IsReserved type name))
-reserved_known Histogram name = text_known name (codes "le")
-reserved_known GaugeHistogram name = text_known name (codes "le")
-reserved_known Summary name = text_known name (codes "quantile")
-reserved_known _ name = inr (λ reserved. reserved)
+reserved_known type name = some_known (reserved_label type) name
 
 name_or_fault : (type : MetricType) (before : List Label) (name : Text) → NameFits type before name ⊎ SomeFault (λ k. NameFault k type before name)
 name_or_fault type before name = elim (known (is_label_name name) (label_name_decides name)) [

@@ -1,6 +1,6 @@
 -- Which metrics fit a registry of a root, so that no scrape is refused for what is in them. Those of the program's own always fit, and
 -- may have the faults that they declare.
-use Rattle.std.specs.Prelude.{◌≡◌, ◌<◌, ◌^◌, ℕ, List, Contains, Option, Some, IfSome, codes}
+use Rattle.std.specs.Prelude.{◌≡◌, ◌<◌, ◌^◌, ℕ, List, Contains, Option, Some, IfSome}
 use Rattle.fm_grammar.specs.declared.MetricType.{MetricType}
 use Rattle.fm_grammar.specs.declared.MetricType.TheVariants as type
 use Rattle.fm_grammar.specs.LabelPairs.{labels_of}
@@ -11,6 +11,7 @@ use Rattle.fm_raw.specs.Units.{seen_unit}
 use Rattle.fm_registry_rules.specs.Registration.{printed_unit}
 use Rattle.fm_labels.specs.Labels.{label_names}
 use Rattle.fm_labels.specs.inside.FittingNames.{NamesFit}
+use Rattle.fm_labels.specs.inside.FreeLabels.{AreFree}
 use Rattle.fm_registry_rules.specs.Texts.{Text, Labels, Path, printed_name}
 use Rattle.fm_registry_rules.specs.Tree.{Tree, subtree_from}
 use Rattle.fm_registry_rules.specs.Listing.{Listed, listed_name}
@@ -46,38 +47,28 @@ constant_type (constant.FixedUnknown x) = type.Unknown
 constant_type (constant.Histogram s) = type.Histogram
 constant_type (constant.GaugeHistogram s) = type.GaugeHistogram
 
--- no label has the name `le`, which both kinds of histogram reserve
-abbrev pub NoBoundLabel : Labels → Type 0
-NoBoundLabel labels = ¬ (Contains (label_names labels) (codes "le"))
-
--- a snapshot of fewer than 2^64 values, as all are
-abbrev pub SnapshotFits : Labels → Histogram → Type 0
-SnapshotFits labels s = NoBoundLabel labels × (values_in s.buckets < 2 ^ 64)
+-- a snapshot of fewer than 2^64 values, as all are, in a family of this type
+abbrev pub SnapshotFits : MetricType → Labels → Histogram → Type 0
+SnapshotFits type labels s = AreFree type labels × (values_in s.buckets < 2 ^ 64)
 
 -- a constant under these constant labels: the names of an info's facts may follow them
 abbrev pub ConstantFits : Labels → Constant → Type 0
 ConstantFits labels (constant.Info x) = NamesFit type.Info labels (label_names (labels_of (label_set_of x).items))
-ConstantFits labels (constant.Histogram s) = SnapshotFits labels s
-ConstantFits labels (constant.GaugeHistogram s) = SnapshotFits labels s
+ConstantFits labels (constant.Histogram s) = SnapshotFits type.Histogram labels s
+ConstantFits labels (constant.GaugeHistogram s) = SnapshotFits type.GaugeHistogram labels s
 ConstantFits labels _ = Unit {0}
-
--- no constant label has a name that the type reserves
-abbrev pub NoneIsReserved : MetricType → Labels → Type 0
-NoneIsReserved type.Histogram labels = NoBoundLabel labels
-NoneIsReserved type.GaugeHistogram labels = NoBoundLabel labels
-NoneIsReserved _ labels = Unit {0}
 
 module _ {H : Type 0} where
   -- a family under these constant labels
   abbrev pub FamilyFits : Labels → NamedFamily H → Type 0
-  FamilyFits labels f = NoneIsReserved (family_type f) labels × NamesFit (family_type f) labels (family_names f)
+  FamilyFits labels f = AreFree (family_type f) labels × NamesFit (family_type f) labels (family_names f)
 
 module _ {H X : Type 0} where
   -- a metric that is printed under this name, under these constant labels
   abbrev pub FitsUnder : Text → Labels → Metric H X → Type 0
   FitsUnder name labels (metric.Scalar x) = Unit {0}
-  FitsUnder name labels (metric.Histogram x) = NoBoundLabel labels
-  FitsUnder name labels (metric.GaugeHistogram x) = NoBoundLabel labels
+  FitsUnder name labels (metric.Histogram x) = AreFree type.Histogram labels
+  FitsUnder name labels (metric.GaugeHistogram x) = AreFree type.GaugeHistogram labels
   FitsUnder name labels (metric.Family x) = FamilyFits labels x
   FitsUnder name labels (metric.States x) = ¬ (Contains (label_names labels) name)
   FitsUnder name labels (metric.Constant x) = ConstantFits labels x

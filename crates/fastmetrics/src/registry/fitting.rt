@@ -1,5 +1,5 @@
 //! Whether the names of a metric's labels can stand beside the constant labels of a registry.
-ghost use Rattle.std.specs.Prelude.{◌≡◌, ◌<◌, ◌^◌, None, Option, IfOk, OnOk, map, codes, string_bytes};
+ghost use Rattle.std.specs.Prelude.{◌≡◌, ◌<◌, ◌^◌, None, Option, IfOk, OnOk, map, string_bytes};
 ghost use Rattle.std.specs.Option.{option_map};
 ghost use Rattle.fm_grammar.specs.LabelPairs.{labels_of};
 ghost use Rattle.fm_raw.specs.Units.{seen_unit};
@@ -69,9 +69,9 @@ fn test_type(
 ) -> Result<(), RegistryError>
     ensures { IsOrMemory (refusal_of result) (type_refusal metric_type (labels_of labels.now)) }
 {
-    match metric_type {
-        MetricType::Histogram | MetricType::GaugeHistogram => test_taken(alloc, labels, "le"),
-        _ => Ok(()),
+    match metric_type.reserved_label() {
+        Some(reserved) => test_taken(alloc, labels, reserved),
+        None => Ok(()),
     }
 }
 
@@ -153,11 +153,11 @@ fn test_constant(
         Constant::Info(info) => test_facts(alloc, labels, info.get().as_slice()),
         Constant::Histogram(snapshot) => {
             let _ = snapshot.count();
-            test_taken(alloc, labels, "le")
+            test_type(alloc, labels, MetricType::Histogram)
         }
         Constant::GaugeHistogram(snapshot) => {
             let _ = snapshot.gcount();
-            test_taken(alloc, labels, "le")
+            test_type(alloc, labels, MetricType::GaugeHistogram)
         }
         _ => Ok(()),
     }
@@ -225,11 +225,10 @@ impl Place<'_> {
             (labels_of self.now.labels.now) metric.now) }
     {
         match metric {
-            Metric::Histogram(_) | Metric::GaugeHistogram(_) => test_taken(
-                self.alloc,
-                self.labels,
-                "le",
-            ),
+            Metric::Histogram(_) => test_type(self.alloc, self.labels, MetricType::Histogram),
+            Metric::GaugeHistogram(_) => {
+                test_type(self.alloc, self.labels, MetricType::GaugeHistogram)
+            }
             Metric::Family(family) => test_family(self.alloc, self.labels, family),
             Metric::States(_) => test_states(self.alloc, self.labels, self.namespace, name, unit),
             Metric::Constant(constant) => test_constant(self.alloc, self.labels, constant),

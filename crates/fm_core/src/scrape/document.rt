@@ -36,7 +36,6 @@ pub(crate) fn print_name<M>(
 // Appends the lines of the family of a listed metric, unless the metric is empty, or returns the first refusal. The encoder has the
 // constant labels of the metric's registry.
 fn add_listed<M: EncodeMetric>(
-    alloc: Global,
     encoder: &mut MetricEncoder,
     name: &mut String,
     listed: &ListedMetric<'_, M>,
@@ -58,7 +57,7 @@ fn add_listed<M: EncodeMetric>(
         return Ok(());
     }
     print_name(name, listed)?;
-    take_family(encoder, alloc, name, listed.metadata, metric)
+    take_family(encoder, name, listed.metadata, metric)
 }
 
 // Appends the lines of the families of a registry's own metrics, or returns the first refusal.
@@ -78,10 +77,13 @@ fn add_registry<M: EncodeMetric>(
         (λ k. (k ≡ EncodeError.Memory)
         ⊎ Fault M.EncodeMetric k (own_metrics registry.now.facts)) }
 {
+    if registry.metric_count() == 0 {
+        return Ok(());
+    }
     collector::enter(encoder, alloc, registry.constant_labels())?;
     for index in 0..registry.metric_count() {
         if let Some(listed) = registry.metric_at(index) {
-            add_listed(alloc, encoder, name, &listed)?;
+            add_listed(encoder, name, &listed)?;
         }
     }
     Ok(())

@@ -4,7 +4,7 @@ ghost use Rattle.std.specs.Option.{option_map, option_copied};
 ghost use Rattle.std.specs.List.{AllByRecursion};
 ghost use Rattle.fm_grammar.specs.Names.{IsSnakeCase};
 ghost use Rattle.fm_grammar.specs.Reading.{IsNewName};
-ghost use Rattle.fm_grammar.specs.WellFormed.{IsSample, IsFamily};
+ghost use Rattle.fm_grammar.specs.WellFormed.{AreLabels, IsSample, IsFamily};
 ghost use Rattle.fm_raw.specs.Units.{unit_text};
 ghost use Rattle.fm_raw.specs.declared.encode_error.EncodeError.{EncodeError};
 ghost use Rattle.fm_grammar.specs.LabelPairs.{labels_of};
@@ -126,6 +126,7 @@ fn samples_of_metric<M: EncodeMetric>(
     metric: &M,
 ) -> Result<SampleStore, EncodeError>
     requires name { IsSnakeCase (string_bytes name.old) }
+    requires labels { AreLabels (labels_of constants.now) }
     requires ready { IsReady encoder.old }
     ensures ready { OnOk result (IsReady encoder.new) }
     ensures samples { MatchResult result
@@ -139,7 +140,7 @@ fn samples_of_metric<M: EncodeMetric>(
         metadata.now.metric_type (labels_of constants.now)) }
 {
     collector::enter(encoder, alloc, constants)?;
-    take_family(encoder, alloc, name, metadata, metric)?;
+    take_family(encoder, name, metadata, metric)?;
     Ok(collector::take_samples(encoder)?)
 }
 

@@ -12,13 +12,11 @@ use crate::scrape::family::text_of;
 use fm_encoder::{EncodeMetric, MetricEncoder, collector, whole_millis};
 use fm_raw::{EncodeError, Metadata};
 use fm_writer::FamilyHead;
-use std::alloc::Global;
 
 // Goes on to the family of a metric with this printed name and this metadata, in the encoder's registry. A text gets the lines that come
 // before its samples.
 fn begin_family(
     encoder: &mut MetricEncoder,
-    alloc: Global,
     name: &mut String,
     metadata: &Metadata,
     time: Option<u128>,
@@ -38,14 +36,13 @@ fn begin_family(
         help: metadata.help(),
         unit: text_of(metadata.unit()),
     };
-    collector::begin_family(encoder, alloc, name, head, time)
+    collector::begin_family(encoder, name, head, time)
 }
 
 // Takes the family of a metric with this printed name and this metadata, in the encoder's registry, or returns the first refusal. The
 // name is swapped with that of the family before.
 pub(crate) fn take_family<M: EncodeMetric>(
     encoder: &mut MetricEncoder,
-    alloc: Global,
     name: &mut String,
     metadata: &Metadata,
     metric: &M,
@@ -64,7 +61,7 @@ pub(crate) fn take_family<M: EncodeMetric>(
         (string_bytes name.old) metadata.now.metric_type encoder.old.context.constants) }
 {
     let time = whole_millis(metric.timestamp());
-    begin_family(encoder, alloc, name, metadata, time)?;
+    begin_family(encoder, name, metadata, time)?;
     let visited = metric.encode(encoder);
     collector::outcome(encoder, visited)
 }

@@ -1,7 +1,7 @@
 //! What the collector and families call, and no metric: encoders are made, told the next registry and family, and taken apart.
 ghost use Rattle.std.specs.Prelude.{◌≡◌, [], ◌⊎◌, None, Some, IfSome, IsSome, OnOk, OnErr, IfOk, IfErr, Err, string_bytes};
 ghost use Rattle.fm_grammar.specs.Names.{IsSnakeCase};
-ghost use Rattle.fm_grammar.specs.WellFormed.{AreMillis};
+ghost use Rattle.fm_grammar.specs.WellFormed.{AreLabels, AreMillis};
 ghost use Rattle.fm_raw.specs.declared.encode_error.EncodeError.{EncodeError};
 ghost use Rattle.fm_exposition.specs.Rows.{head_rows};
 ghost use Rattle.fm_grammar.specs.LabelPairs.{labels_of};
@@ -51,13 +51,14 @@ pub fn for_lines(alloc: Global) -> MetricEncoder
     over(alloc, Sink::text(alloc, TextBlocks::new(alloc)))
 }
 
-/// Goes on to a registry with these constant labels: the families that begin next have them. Fails with `Memory` if memory runs out;
-/// then nothing changes.
+/// Goes on to a registry with these constant labels: the families that begin next have them. Fails if memory runs out; then nothing
+/// changes.
 pub fn enter(
     encoder: &mut MetricEncoder,
     alloc: Global,
     constants: &[(String, String)],
-) -> Result<(), EncodeError>
+) -> Result<(), AllocError>
+    requires labels { AreLabels (labels_of constants.now) }
     ensures entered { OnOk result (encoder.new ≡ record encoder.old {
       context = record {
         setting = encoder.old.context.setting;
@@ -65,7 +66,6 @@ pub fn enter(
       };
     }) }
     ensures kept { OnErr result (encoder.new ≡ encoder.old) }
-    ensures memory { IfErr result (λ e. e ≡ EncodeError.Memory) }
 {
     let metric_type = encoder.points.metric_type();
     encoder.constants.enter(alloc, metric_type, constants)
@@ -77,7 +77,6 @@ pub fn enter(
 /// may end in a part of these lines. An encoder that has refused something stays as it is, and returns that refusal.
 pub fn begin_family(
     encoder: &mut MetricEncoder,
-    alloc: Global,
     name: &mut String,
     head: FamilyHead<'_>,
     time: Option<u128>,
@@ -106,10 +105,7 @@ pub fn begin_family(
     if let Some(error) = encoder.points.refusal() {
         return Err(error);
     }
-    let before = encoder.points.metric_type();
-    if let Err(error) = encoder.constants.begin(alloc, before, head.metric_type) {
-        return encoder.points.refuse(error);
-    }
+    encoder.constants.begin(head.metric_type);
     encoder.points.begin_family(name, head, time)
 }
 

@@ -17,10 +17,8 @@ pub fn test_reserved(
 ) -> Result<(), RegistryError>
     ensures { IsOrMemory (refusal_of result) (reserved_refusal metric_type names.now) }
 {
-    let reserved = match metric_type {
-        MetricType::Histogram | MetricType::GaugeHistogram => "le",
-        MetricType::Summary => "quantile",
-        _ => return Ok(()),
+    let Some(reserved) = metric_type.reserved_label() else {
+        return Ok(());
     };
     if names.has(reserved) {
         let name = String::from_str(alloc, reserved)?;

@@ -7,18 +7,19 @@ ghost use Rattle.fm_labels.specs.Labels.{LabelsValid, all_written};
 
 use crate::label::gathering;
 use crate::label_set::EncodeLabelSet;
+use crate::names::has_any_reserved;
 use fm_grammar::MetricType;
 use fm_raw::EncodeError;
 use fm_text::LabelText;
 use std::alloc::Global;
 use std::marker::Model;
 
-// The labels of a label set, if they are valid in a summary without constant labels.
-fn summary_labels<LS: EncodeLabelSet>(alloc: Global, labels: &LS) -> Result<LabelText, EncodeError>
-    ensures { IfOk result (λ text. LabelsValid MetricType.Summary [] (LS.labels labels.now)
+// The labels of a label set, if they are valid in a family whose type reserves no name and which has no constant labels.
+fn valid_labels<LS: EncodeLabelSet>(alloc: Global, labels: &LS) -> Result<LabelText, EncodeError>
+    ensures { IfOk result (λ text. LabelsValid MetricType.Unknown [] (LS.labels labels.now)
         × (text.labels ≡ all_written (LS.labels labels.now))) }
 {
-    let mut encoder = gathering::new(alloc, MetricType::Summary);
+    let mut encoder = gathering::new(alloc, MetricType::Unknown);
     let visited = labels.encode(&mut encoder);
     gathering::outcome(&encoder, visited)?;
     Ok(encoder.into_text())
@@ -55,9 +56,9 @@ impl WrittenLabels {
         ensures read { IfOk result (λ read. IfSome read (AreWritten (LS.labels labels.now))) }
         ensures memory { IfErr result (λ e. e ≡ EncodeError.Memory) }
     {
-        match summary_labels(alloc, labels) {
+        match valid_labels(alloc, labels) {
             Ok(labels) => {
-                if labels.has_name("le") {
+                if has_any_reserved(&labels) {
                     return Ok(None);
                 }
                 Ok(Some(WrittenLabels { labels }))

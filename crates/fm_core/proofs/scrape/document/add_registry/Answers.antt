@@ -1,12 +1,20 @@
-use Rattle.std.proofs.Common.{◌≤◌, length, arith, inl, inr, sym, ◌∙◌}
+use Rattle.std.proofs.Common.{◌≤◌, length, arith, inl, inr, sym, subst, ◌∙◌}
 use Rattle.std.proofs.lemmas.Result.{err_from_is_err_and}
+use Rattle.fm_grammar.specs.WellFormed.{AreLabels}
 use Rattle.fm_registry_rules.specs.Listing.{own_metrics, IsListable}
 use Rattle.fm_core.specs.Seen.{seen_listed}
 use Rattle.fm_core.specs.inside.Documents.{text_so_far}
-use Rattle.fm_core.proofs.CollectLemmas.{all_at, labels_at, none_past, one-at}
+use Rattle.fm_core.proofs.CollectLemmas.{all_at, labels_at, own_labels, none_past, one-at}
 use Rattle.fm_core.proofs.DocumentLemmas.{AddsRowsOf-next}
 use Rattle.fm_core.proofs.scrape.document.add_registry.Goals.{in-Some+in_ok-add_listed, in_default}
 use Rattle.fm_core.proofs.scrape.document.add_registry.Goals as goal
+
+pub enter-requires : goal.enter-requires
+enter-requires g c =
+    record {
+      labels = subst AreLabels (sym c.constant_labels.ensures.tree)
+          (own_labels c.args.registry.now.facts c.requires.listable (λ none. c.if-metric_count-eq0.false (c.metric_count.ensures ∙ none)));
+    }
 
 pub add_listed-requires-clause-listable : goal.add_listed-requires-clause-listable
 add_listed-requires-clause-listable g c κs within =

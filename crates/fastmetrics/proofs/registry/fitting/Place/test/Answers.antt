@@ -1,11 +1,12 @@
-use Rattle.std.proofs.Common.{◌≡◌, inl, inr, codes}
+use Rattle.std.proofs.Common.{◌≡◌}
 use Rattle.std.specs.Option.{option_map}
+use Rattle.fm_grammar.specs.declared.MetricType.TheVariants as type
 use Rattle.fm_grammar.specs.LabelPairs.{labels_of}
 use Rattle.fm_raw.specs.Units.{seen_unit}
 use Rattle.fm_registry_rules.specs.Texts.{printed_name}
 use Rattle.fm_registry_rules.specs.Registration.{printed_unit}
-use Rattle.fastmetrics.specs.Fits.{taken_refusal, family_refusal, family_type, family_names}
-use Rattle.fastmetrics.proofs.FitLemmas.{ok_fits, not_taken, family_fits}
+use Rattle.fastmetrics.specs.Fits.{taken_refusal, type_refusal, family_refusal, family_type, family_names}
+use Rattle.fastmetrics.proofs.FitLemmas.{ok_fits, not_taken, none_reserved, family_fits}
 use Rattle.fastmetrics.proofs.registry.fitting.Place.test.Goals as goal
 
 pub returns-in-Family-clause-fits : goal.returns-in-Family-clause-fits
@@ -22,5 +23,9 @@ returns-in-States-clause-fits g c =
 pub returns-in-Histogram-clause-fits : goal.returns-in-Histogram-clause-fits
 returns-in-Histogram-clause-fits g c =
     let labels = labels_of c.args.self.now.labels.now in
-    let done = ok_fits c.test_taken.result (taken_refusal labels (codes "le")) _ c.test_taken.ensures (not_taken labels (codes "le")) in
-    elim c.in-Histogram.is [ inl is ↦ rw is.1 done | inr is ↦ rw is.1 done ]
+    rw c.in-Histogram.is (ok_fits c.test_type.result (type_refusal type.Histogram labels) _ c.test_type.ensures (none_reserved type.Histogram labels))
+
+pub returns-in-GaugeHistogram-clause-fits : goal.returns-in-GaugeHistogram-clause-fits
+returns-in-GaugeHistogram-clause-fits g c =
+    let labels = labels_of c.args.self.now.labels.now in
+    rw c.in-GaugeHistogram.is (ok_fits c.test_type-in-GaugeHistogram.result (type_refusal type.GaugeHistogram labels) _ c.test_type-in-GaugeHistogram.ensures (none_reserved type.GaugeHistogram labels))

@@ -1,12 +1,10 @@
-use Rattle.std.proofs.Common.{◌≡◌, pos, List, refl, codes}
+use Rattle.std.proofs.Common.{◌≡◌, pos, List, refl}
 use Rattle.std.specs.Option.{option_map}
 use Rattle.fm_grammar.specs.declared.MetricType.{MetricType}
 use Rattle.fm_grammar.specs.declared.MetricType.TheVariants as type
 use Rattle.fm_grammar.specs.Exposition.{Text, Label, Whole, Fixed}
 use Rattle.fm_grammar.specs.WellFormed.{AreLabels}
 use Rattle.fm_raw.specs.declared.encode_error.EncodeError.{EncodeError}
-use Rattle.fm_labels.proofs.NameLemmas.{AreFree-named}
-use Rattle.fm_labels.proofs.FittingLemmas.{all_free}
 use Rattle.fm_encoder.specs.Points.{millis}
 use Rattle.fm_registry_rules.specs.Listing.{listed_name}
 use Rattle.fm_metrics.specs.Counters.{counter_created}
@@ -49,12 +47,12 @@ module _ (g : Over) where
   by_kind k name labels are t (metric.Scalar x) same fit fault = absurd (scalar_fits k name labels are t x same fault)
   by_kind k name labels are t (metric.Histogram x) same fit fault = absurd (histogram_fits k name labels are t _ _ _ _ (λ own. own) same fit fault)
   by_kind k name labels are t (metric.GaugeHistogram x) same fit fault = absurd (gauge_histogram_fits k name labels are t _ _ _ (λ own. own) same fit fault)
-  by_kind k name labels are t (metric.Family (family.Counters v)) same fit fault = absurd (vec_fits k name labels are t type.Counter _ _ _ _ (λ own. own.1.2) same (all_free type.Counter labels (λ _ never. never)) fit.1 (λ m points told. counter_points _ _ (λ total. Whole (pos total)) (option_map millis (counter_created m)) points told) fault)
-  by_kind k name labels are t (metric.Family (family.FixedCounters v)) same fit fault = absurd (vec_fits k name labels are t type.Counter _ _ _ _ (λ own. own.1.2) same (all_free type.Counter labels (λ _ never. never)) fit.1 (λ m points told. counter_points _ _ Fixed (option_map millis (counter_created m)) points told) fault)
-  by_kind k name labels are t (metric.Family (family.Gauges v)) same fit fault = absurd (vec_fits k name labels are t type.Gauge _ _ _ _ (λ own. own.1.2) same (all_free type.Gauge labels (λ _ never. never)) fit.1 (λ m points told. gauge_points _ _ Whole points told) fault)
-  by_kind k name labels are t (metric.Family (family.FixedGauges v)) same fit fault = absurd (vec_fits k name labels are t type.Gauge _ _ _ _ (λ own. own.1.2) same (all_free type.Gauge labels (λ _ never. never)) fit.1 (λ m points told. gauge_points _ _ Fixed points told) fault)
-  by_kind k name labels are t (metric.Family (family.Histograms v)) same fit fault = absurd (vec_fits k name labels are t type.Histogram _ _ _ _ (λ own. own.1) same (AreFree-named labels (codes "le") fit.0) fit.1 (λ m points told. histogram_points _ _ points told) fault)
-  by_kind k name labels are t (metric.Family (family.GaugeHistograms v)) same fit fault = absurd (vec_fits k name labels are t type.GaugeHistogram _ _ _ _ (λ own. own.1) same (AreFree-named labels (codes "le") fit.0) fit.1 (λ m points told. gauge_histogram_points _ points told) fault)
+  by_kind k name labels are t (metric.Family (family.Counters v)) same fit fault = absurd (vec_fits k name labels are t type.Counter _ _ _ _ (λ own. own.1.2) same fit.0 fit.1 (λ m points told. counter_points _ _ (λ total. Whole (pos total)) (option_map millis (counter_created m)) points told) fault)
+  by_kind k name labels are t (metric.Family (family.FixedCounters v)) same fit fault = absurd (vec_fits k name labels are t type.Counter _ _ _ _ (λ own. own.1.2) same fit.0 fit.1 (λ m points told. counter_points _ _ Fixed (option_map millis (counter_created m)) points told) fault)
+  by_kind k name labels are t (metric.Family (family.Gauges v)) same fit fault = absurd (vec_fits k name labels are t type.Gauge _ _ _ _ (λ own. own.1.2) same fit.0 fit.1 (λ m points told. gauge_points _ _ Whole points told) fault)
+  by_kind k name labels are t (metric.Family (family.FixedGauges v)) same fit fault = absurd (vec_fits k name labels are t type.Gauge _ _ _ _ (λ own. own.1.2) same fit.0 fit.1 (λ m points told. gauge_points _ _ Fixed points told) fault)
+  by_kind k name labels are t (metric.Family (family.Histograms v)) same fit fault = absurd (vec_fits k name labels are t type.Histogram _ _ _ _ (λ own. own.1) same fit.0 fit.1 (λ m points told. histogram_points _ _ points told) fault)
+  by_kind k name labels are t (metric.Family (family.GaugeHistograms v)) same fit fault = absurd (vec_fits k name labels are t type.GaugeHistogram _ _ _ _ (λ own. own.1) same fit.0 fit.1 (λ m points told. gauge_histogram_points _ points told) fault)
   by_kind k name labels are t (metric.States x) same fit fault = absurd (states_fits k name labels are t _ _ (λ s. s) _ _ (λ own. own) same fit fault)
   by_kind k name labels are t (metric.Constant x) same fit fault = absurd (constant_fits k name labels are t x same fit fault)
   by_kind k name labels are t (metric.Own x) same fit fault = (x, refl, fault)
