@@ -1,6 +1,8 @@
 //! The OpenMetrics text format: collecting a registry, writing its document, and reading documents back; where two texts differ.
 
-pub use crate::scrape::{FamilyFault, collect, encode, fault};
+pub use crate::scrape::collect::collect;
+pub use crate::scrape::encode::encode;
+pub use crate::scrape::fault::{FamilyFault, fault};
 pub use fm_exposition::{Exemplar, Exposition, FamilySamples, Sample, Value};
 pub use fm_grammar::SampleKind;
 pub use fm_raw::EncodeError;
