@@ -1,13 +1,12 @@
 -- One metric more in a collection.
-use Rattle.std.proofs.Common.{◌≡◌, ◌≢◌, ℕ, ◌<◌, ◌≤◌, ◌+◌, zero, suc, List, [], ◌∷◌, ◌++◌, map, Option, None, Some, Result, Ok, Err, MatchResult, OnOk, IfOk, IfErr, ◌⊎◌, Bor, length, get_or, slice_get, take, inl, inr, refl, sym, ap, subst, ◌∙◌, append_assoc, append-nil, arith, true≢false, is_some}
+use Rattle.std.proofs.Common.{◌≡◌, ◌≢◌, ℕ, ◌<◌, ◌≤◌, ◌+◌, zero, suc, List, [], ◌∷◌, ◌++◌, map, Option, None, Some, Result, Ok, Err, OnOk, ◌⊎◌, Bor, length, get_or, slice_get, take, inl, inr, refl, sym, ap, subst, ◌∙◌, arith, true≢false, is_some}
 use Rattle.std.specs.List.{AllByRecursion}
 use Rattle.std.specs.Option.{option_map}
-use Rattle.std.proofs.lemmas.List.{take_more, map-append}
+use Rattle.std.proofs.lemmas.List.{take_more}
 use Rattle.std.proofs.lemmas.Grind.{flat_map-append}
 use Rattle.std.proofs.lemmas.Option.{get_or_from_slice_get, slice_get_within, slice_get_cases}
 use Rattle.fm_grammar.specs.Names.{AllDifferent}
 use Rattle.fm_grammar.specs.Exposition.{Text, Exposition}
-use Rattle.fm_grammar.specs.Reading.{IsNewName}
 use Rattle.fm_grammar.proofs.Runs.{all_append}
 use Rattle.fm_raw.specs.declared.encode_error.EncodeError.{EncodeError}
 use Rattle.fm_raw.specs.declared.encode_error.EncodeError.TheVariants.{Memory}
@@ -18,11 +17,10 @@ use Rattle.fm_registry_rules.specs.Tree.{Facts, Tree, Reads}
 use Rattle.fm_registry_rules.specs.Listing.{Listed, listed_name, listed_with, own_metrics, IsListable, order}
 use Rattle.fm_registry_rules.proofs.NameLemmas.{printed_names-different}
 use Rattle.fm_encoder.specs.declared.metric.EncodeMetric.{Ghosts}
-use Rattle.fm_labels.specs.Refusals.{result_of}
 use Rattle.fm_encoder.proofs.FaultLemmas.{MetricHasFault-not_writing}
 use Rattle.fm_core.specs.Seen.{listed_in}
 use Rattle.fm_core.proofs.ListingLemmas.{listed_in-push}
-use Rattle.fm_core.specs.Admits.{Admits, HoldsOfOne, FaultOf, Fault}
+use Rattle.fm_core.specs.Admits.{Admits, HoldsOfOne, Fault}
 
 all_left : {A : Type 0} (P : A → Type 0) (xs ys : List A) → AllByRecursion P (xs ++ ys) → AllByRecursion P xs
 all_left P [] ys h = tt

@@ -4,8 +4,7 @@ use Rattle.fm_grammar.specs.Exposition.{Text}
 use Rattle.fm_raw.specs.declared.encode_error.EncodeError.{EncodeError}
 use Rattle.fm_raw.specs.declared.encode_error.EncodeError.TheVariants.{Memory}
 use Rattle.fm_exposition.specs.Written.{IsWritersFault}
-use Rattle.fm_registry_rules.specs.History.{History}
-use Rattle.fm_registry_rules.specs.Tree.{Tree, Shows, Reads}
+use Rattle.fm_registry_rules.specs.Tree.{Tree}
 use Rattle.fm_registry_rules.specs.Listing.{order, listed_name}
 use Rattle.fm_encoder.specs.declared.metric.EncodeMetric.{Ghosts}
 use Rattle.fm_core.specs.Seen.{seen_listed}

@@ -14,7 +14,7 @@ ghost use Rattle.fm_core.specs.Seen.{seen_listed};
 ghost use Rattle.fm_core.specs.Lint.{all_advice, is_advised, last_word, counts_by_size, warnings_among, warnings_of, warnings_of_all, warnings_of_family, seen_warning};
 
 use crate::registry::{ListedMetric, Registry};
-use crate::scrape::name::{print_name, text_of};
+use crate::scrape::{print_name, text_of};
 use fm_exposition::Exposition;
 use fm_grammar::MetricType;
 use fm_raw::Metadata;

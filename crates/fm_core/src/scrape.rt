@@ -1,9 +1,13 @@
 //! What a scrape does: collecting a registry, or writing its document.
 
 pub(crate) mod collect;
-pub(crate) mod collector;
+mod collector;
 pub(crate) mod encode;
 mod family;
-pub(crate) mod fault;
+mod family_fault;
 mod gather;
-pub(crate) mod name;
+mod name;
+
+pub use collector::MetricFamilyEncoder;
+pub use family_fault::{FamilyFault, fault};
+pub(crate) use name::{print_name, text_of};

@@ -1,5 +1,5 @@
 -- What a scrape has collected, and what it adds: families, or the lines of families.
-use Rattle.std.specs.Prelude.{◌≡◌, List, [], ◌++◌, Option, None, Some, MatchOption, ◌⊎◌, Vec}
+use Rattle.std.specs.Prelude.{◌≡◌, List, ◌++◌, Option, None, Some, Vec}
 use Rattle.std.specs.List.{AllByRecursion}
 use Rattle.std.specs.Option.{option_map}
 use Rattle.std.specs.String.{string_bytes}
@@ -8,8 +8,6 @@ use Rattle.fm_grammar.specs.Exposition.{Text, Sample, Family, Exposition}
 use Rattle.fm_grammar.specs.WellFormed.{IsFamily}
 use Rattle.fm_exposition.specs.inside.DocumentRows.{families_rows}
 use Rattle.fm_raw.specs.declared.metadata.Metadata.{Metadata}
-use Rattle.fm_raw.specs.declared.encode_error.EncodeError.{EncodeError}
-use Rattle.fm_raw.specs.declared.encode_error.EncodeError.TheVariants.{Memory}
 use Rattle.fm_raw.specs.Units.{seen_unit}
 use Rattle.fm_registry_rules.specs.Lists.{items_of}
 use Rattle.fm_registry_rules.specs.Registration.{printed_unit}

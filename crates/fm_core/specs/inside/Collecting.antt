@@ -1,6 +1,5 @@
--- What holds of the fields of an encoder of families between calls, and where a scrape stops.
-use Rattle.std.specs.Prelude.{◌≡◌, None, MatchOption, ◌⊎◌}
-use Rattle.fm_grammar.specs.Exposition.{Text}
+-- What holds of the fields of an encoder of families between calls.
+use Rattle.std.specs.Prelude.{◌≡◌, None}
 use Rattle.fm_core.specs.inside.Offered.{IsReady}
 use Rattle.fm_core.specs.declared.scrape.collector.MetricFamilyEncoder.TheInside.{Inside}
 

@@ -71,39 +71,19 @@ impl<'a> Drop for MetricFamilyEncoder<'a> {
 }
 
 impl<'a> MetricFamilyEncoder<'a> {
-    // An encoder of families by this encoder of metrics, in a registry with no namespace.
-    fn over(
-        alloc: Global,
-        encoder: MetricEncoder,
-        families: Option<Vec<FamilySamples>>,
-    ) -> MetricFamilyEncoder<'a>
-        requires ready { IsReady families encoder }
-        ensures { result ≡ record {
-          namespace = None;
-          labels = encoder.context.constants;
-          families = items_of families;
-          lines = text_in encoder.output;
-          refused = None;
-        } }
-    {
-        MetricFamilyEncoder {
-            alloc,
-            namespace: None,
-            families,
-            refused: FirstRefusal { error: None },
-            encoder,
-            name: String::new(alloc),
-        }
-    }
-
     // An encoder that keeps families and has none, in a registry with no namespace and no labels. Fails if memory runs out.
     pub(crate) fn for_families(alloc: Global) -> Result<MetricFamilyEncoder<'a>, AllocError>
         ensures { IfOk result (λ encoder. encoder
             ≡ record { namespace = None; labels = []; families = []; lines = None; refused = None }) }
     {
-        let encoder = collector::for_samples(alloc)?;
-        let families = Some(Vec::new(alloc));
-        Ok(MetricFamilyEncoder::over(alloc, encoder, families))
+        Ok(MetricFamilyEncoder {
+            alloc,
+            namespace: None,
+            families: Some(Vec::new(alloc)),
+            refused: FirstRefusal { error: None },
+            encoder: collector::for_samples(alloc)?,
+            name: String::new(alloc),
+        })
     }
 
     // An encoder that appends the lines of families and has none, in a registry with no namespace and no labels.
@@ -111,7 +91,14 @@ impl<'a> MetricFamilyEncoder<'a> {
         ensures { result
             ≡ record { namespace = None; labels = []; families = []; lines = Some []; refused = None } }
     {
-        MetricFamilyEncoder::over(alloc, collector::for_lines(alloc), None)
+        MetricFamilyEncoder {
+            alloc,
+            namespace: None,
+            families: None,
+            refused: FirstRefusal { error: None },
+            encoder: collector::for_lines(alloc),
+            name: String::new(alloc),
+        }
     }
 
     // Goes on to a registry: the families that come next have its namespace and its constant labels. Fails with `Memory` if memory runs

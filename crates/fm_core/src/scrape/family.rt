@@ -1,13 +1,12 @@
 // The family of one metric, taken by an encoder: its samples are kept, or its lines are appended to a text.
-ghost use Rattle.std.specs.Prelude.{◌≡◌, ◌⊎◌, ◌∷◌, ◌++◌, [], None, Some, MatchResult, IfErr, IfOk, IfSome, OnOk, string_bytes};
-ghost use Rattle.std.specs.Option.{option_map, option_copied};
+ghost use Rattle.std.specs.Prelude.{◌≡◌, ◌⊎◌, ◌∷◌, [], None, MatchResult, IfOk, string_bytes};
+ghost use Rattle.std.specs.Option.{option_map};
 ghost use Rattle.fm_grammar.specs.Names.{IsSnakeCase};
-ghost use Rattle.fm_grammar.specs.WellFormed.{AreMillis};
 ghost use Rattle.fm_raw.specs.Units.{seen_unit};
 ghost use Rattle.fm_raw.specs.declared.encode_error.EncodeError.{EncodeError};
 ghost use Rattle.fm_registry_rules.specs.Registration.{printed_unit};
 ghost use Rattle.fm_writer.specs.Output.{with_lines};
-ghost use Rattle.fm_encoder.specs.Offers.{MetricHasFault, context_at};
+ghost use Rattle.fm_encoder.specs.Offers.{MetricHasFault};
 ghost use Rattle.fm_core.specs.inside.Collected.{collected_in, with_families, family_of};
 ghost use Rattle.fm_core.specs.inside.Offered.{Offered, Formed, IsReady, rows_before};
 
@@ -18,36 +17,8 @@ use fm_raw::{EncodeError, Metadata};
 use fm_writer::FamilyHead;
 use std::alloc::{AllocError, Global};
 
-// Goes on to the family of a metric with this printed name and this metadata, in the encoder's registry. A text gets the lines that come
-// before its samples.
-fn begin_family(
-    encoder: &mut MetricEncoder,
-    alloc: Global,
-    name: &mut String,
-    metadata: &Metadata,
-    time: Option<u128>,
-) -> Result<(), EncodeError>
-    requires name { IsSnakeCase (string_bytes name.old) }
-    requires time { IfSome time AreMillis }
-    requires accepting { encoder.old.refused ≡ None }
-    ensures constants { encoder.new.context.constants ≡ encoder.old.context.constants }
-    ensures begun { OnOk result (encoder.new ≡ record {
-      context = context_at (string_bytes name.old) metadata.now.metric_type encoder.old.context.constants time;
-      output = with_lines encoder.old.output (rows_before (string_bytes name.old) metadata.now);
-      refused = None;
-    }) }
-    ensures memory { IfErr result (λ k. k ≡ EncodeError.Memory) }
-{
-    let head = FamilyHead {
-        metric_type: metadata.metric_type(),
-        help: metadata.help(),
-        unit: text_of(metadata.unit()),
-    };
-    collector::begin_family(encoder, alloc, name, head, time)
-}
-
-// Takes the family of a metric with this printed name and this metadata, in the encoder's registry, or returns the first refusal. The
-// name is swapped with that of the family before.
+// Takes the family of a metric with this printed name and this metadata, in the encoder's registry, or returns the first refusal. A text
+// gets the lines that come before its samples, too. The name is swapped with that of the family before.
 fn take_family<M: EncodeMetric>(
     encoder: &mut MetricEncoder,
     alloc: Global,
@@ -69,7 +40,12 @@ fn take_family<M: EncodeMetric>(
         (string_bytes name.old) metadata.now.metric_type encoder.old.context.constants) }
 {
     let time = whole_millis(metric.timestamp());
-    begin_family(encoder, alloc, name, metadata, time)?;
+    let head = FamilyHead {
+        metric_type: metadata.metric_type(),
+        help: metadata.help(),
+        unit: text_of(metadata.unit()),
+    };
+    collector::begin_family(encoder, alloc, name, head, time)?;
     let visited = metric.encode(encoder);
     collector::outcome(encoder, visited)
 }
@@ -85,39 +61,8 @@ fn owned_unit(alloc: Global, metadata: &Metadata) -> Result<Option<String>, Allo
     }
 }
 
-// Takes the family of a metric as `take_family` does, with an encoder that keeps samples, and adds it to those before.
-fn keep_family<M: EncodeMetric>(
-    encoder: &mut MetricEncoder,
-    alloc: Global,
-    families: &mut Vec<FamilySamples>,
-    name: &mut String,
-    metadata: &Metadata,
-    metric: &M,
-) -> Result<(), EncodeError>
-    requires name { IsSnakeCase (string_bytes name.old) }
-    requires ready { IsReady (Some families.old) encoder.old }
-    ensures constants { encoder.new.context.constants ≡ encoder.old.context.constants }
-    ensures kept { MatchResult result
-        (λ _. IsReady (Some families.new) encoder.new
-        × ((samples : _) × Formed (M.offers metric.now) (M.stamps metric.now)
-        (string_bytes name.old) metadata.now.metric_type encoder.old.context.constants samples
-        × (families.new.items ≡ families.old.items
-        ++ family_of (string_bytes name.old) metadata.now samples ∷ [])))
-        (λ k. (k ≡ EncodeError.Memory)
-        ⊎ MetricHasFault k (M.offers metric.now) (M.stamps metric.now) (M.may_fault metric.now)
-        (string_bytes name.old) metadata.now.metric_type encoder.old.context.constants) }
-{
-    let printed = String::from_str(alloc, name.as_str())?;
-    let help = String::from_str(alloc, metadata.help())?;
-    let unit = owned_unit(alloc, metadata)?;
-    take_family(encoder, alloc, name, metadata, metric)?;
-    let samples = collector::take_samples(encoder)?;
-    let family = make::family(printed, metadata.metric_type(), help, unit, samples);
-    Ok(families.push(family)?)
-}
-
-// Takes the family of a metric with this printed name and this metadata, in the encoder's registry, or returns the first refusal: adds it
-// to those before if families are kept. The name is swapped with that of the family before.
+// Takes the family of a metric as `take_family` does. If families are kept, the encoder keeps samples, and the family is added to those
+// before.
 pub(crate) fn add_family<M: EncodeMetric>(
     encoder: &mut MetricEncoder,
     alloc: Global,
@@ -140,8 +85,14 @@ pub(crate) fn add_family<M: EncodeMetric>(
         ⊎ MetricHasFault k (M.offers metric.now) (M.stamps metric.now) (M.may_fault metric.now)
         (string_bytes name.old) metadata.now.metric_type encoder.old.context.constants) }
 {
-    match families {
-        Some(families) => keep_family(encoder, alloc, families, name, metadata, metric),
-        None => take_family(encoder, alloc, name, metadata, metric),
-    }
+    let Some(families) = families else {
+        return take_family(encoder, alloc, name, metadata, metric);
+    };
+    let printed = String::from_str(alloc, name.as_str())?;
+    let help = String::from_str(alloc, metadata.help())?;
+    let unit = owned_unit(alloc, metadata)?;
+    take_family(encoder, alloc, name, metadata, metric)?;
+    let samples = collector::take_samples(encoder)?;
+    let family = make::family(printed, metadata.metric_type(), help, unit, samples);
+    Ok(families.push(family)?)
 }

@@ -1,4 +1,4 @@
-use Rattle.std.proofs.Common.{◌≡◌, ◌≤◌, length, arith, inl, inr, refl, sym, ap, ◌∙◌}
+use Rattle.std.proofs.Common.{◌≤◌, length, arith, inl, inr, refl, sym, ◌∙◌}
 use Rattle.fm_registry_rules.specs.Listing.{own_metrics, IsListable}
 use Rattle.fm_core.specs.Seen.{seen_listed}
 use Rattle.fm_core.specs.inside.Collected.{collected}

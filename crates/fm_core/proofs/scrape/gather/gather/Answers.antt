@@ -1,4 +1,4 @@
-use Rattle.std.proofs.Common.{◌≡◌, ◌<◌, List, length, take, arith, inl, inr, subst, ap, sym, ◌∙◌}
+use Rattle.std.proofs.Common.{◌≡◌, ◌<◌, List, length, take, arith, subst, ap, sym, ◌∙◌}
 use Rattle.std.specs.List.{AllByRecursion}
 use Rattle.std.proofs.lemmas.List.{take_all}
 use Rattle.std.proofs.lemmas.Result.{err_from_is_err_and}
@@ -7,7 +7,6 @@ use Rattle.fm_registry_rules.proofs.OrderLemmas.{listed_tree-fits}
 use Rattle.fm_core.specs.Seen.{listed_in}
 use Rattle.fm_core.specs.Admits.{Admits, FaultOf, FaultNamed, HasFaultNamed}
 use Rattle.fm_core.specs.inside.Collected.{collected, Adds}
-use Rattle.fm_core.specs.inside.Stops.{StopsAt}
 use Rattle.fm_core.proofs.CollectLemmas.{names_differ, one-in, IsListable-in, listed_in-next}
 use Rattle.fm_core.proofs.CollectedLemmas.{Adds-++, exposition_of}
 use Rattle.fm_core.proofs.StopLemmas.{StopsAt-wider}
