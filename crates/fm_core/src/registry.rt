@@ -3,15 +3,17 @@
 
 mod global;
 mod listed;
+mod registering;
 mod texts;
 mod tree;
 
 pub use fm_raw::{MetricType, Unit};
 pub use fm_registry_rules::RegistryError;
 pub use global::{
-    GlobalRegistry, Register, SetRegistryError, register, register_global, register_metric,
+    GlobalRegistry, SetRegistryError, register, register_global, register_metric,
     register_with_unit, set_global_registry, with_global_registry, with_global_registry_mut,
 };
 pub use listed::ListedMetric;
+pub use registering::Register;
 pub use texts::{add, add_with_unit};
 pub use tree::{Registry, RegistryBuilder, RegistryCall, RegistrySubsystemBuilder, Subsystem};

@@ -1,5 +1,5 @@
 //! The registry that a whole program shares, protected by a lock: reading and changing it, and registering in it.
-ghost use Rattle.std.specs.Prelude.{◌≡◌, Result, ⊤, Some, None};
+ghost use Rattle.std.specs.Prelude.{◌≡◌, Some, None};
 ghost use Rattle.std.specs.Fn.{FnOnceTakesAt, FnOnceTakesAtMut, FnOnceReturnsAt, FnOnceReturnsAtMut};
 ghost use Rattle.fm_registry_rules.specs.Tree.{Tree};
 ghost use Rattle.fm_registry_rules.specs.declared.error.RegistryError.{RegistryError as Refusal};
@@ -8,7 +8,7 @@ ghost use Rattle.fm_core.specs.HasHistory.{HasHistory};
 ghost use Rattle.fm_core.specs.Registers.{Registers};
 ghost use Rattle.fm_core.specs.Locked.{RegistersLocked};
 
-use crate::registry::{MetricType, Registry, RegistryError, Unit};
+use crate::registry::{MetricType, Register, Registry, RegistryError, Unit};
 use fm_encoder::EncodeMetric;
 use fm_encoder::metric::type_of;
 use std::alloc::Global;
@@ -196,23 +196,6 @@ pub fn register<R: Wait>(
         (asked_metric name help None metric)) result }
 {
     register_metric(rt, global, name, help, None, metric)
-}
-
-/// A value that registers its metrics itself, in a registry of metrics of the type `M`, which is `Box<dyn
-/// EncodeMetric>` where a program boxes them.
-///
-/// Implement it for each `M`, as `impl<M: Drop> Register<M> for MyMetrics<M>`, with metrics that `main` boxed: a method
-/// that boxes them itself, or a type with boxes, can't be proved.
-pub trait Register<M> {
-    ghost use Rattle.fm_core.specs.HasHistory.{HasHistory};
-
-    /// Holds of the registry before and after a call, and of its result. By default it holds of all.
-    ghost registers: { Self → Tree M → Tree M → Result (Unit {0}) Refusal → Type 0 } = { λ _ _ _ _. ⊤ };
-
-    /// Registers the metrics. The implementation says which of them are registered after an error.
-    fn register(&self, alloc: Global, registry: &mut Registry<M>) -> Result<(), RegistryError>
-        ensures sound { HasHistory registry.old → HasHistory registry.new }
-        ensures registers { registers self.now registry.old registry.new result };
 }
 
 /// Registers the metrics of `metrics` in the global registry. It waits for the lock.
