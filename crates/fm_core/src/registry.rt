@@ -3,6 +3,7 @@
 
 mod global;
 mod listed;
+mod listing;
 mod registering;
 mod texts;
 mod tree;

@@ -7,7 +7,8 @@ mod run;
 mod subsystem_builder;
 mod subsystems;
 
-use crate::registry::listed::{ListedMetric, metric_in};
+use crate::registry::listed::ListedMetric;
+use crate::registry::listing::metric_in;
 pub use builder::RegistryBuilder;
 use fm_encoder::EncodeMetric;
 use fm_registry_rules::RegistryError;
