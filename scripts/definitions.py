@@ -176,7 +176,7 @@ def imports_of_source(text):
 
 
 def starts():
-    text = (TOP / "crates/fm_core/src/scrape.rt").read_text()
+    text = (TOP / "crates/fm_core/src/scrape/encode.rt").read_text()
     imports = imports_of_source(text)
     words = {word for clauses in clauses_of(text, "encode") for word in words_of(clauses.split("\n"))}
     # What the clauses see of a registry, and what a metric declares.

@@ -1,13 +1,12 @@
 -- One metric more in a collection.
-use Rattle.std.proofs.Common.{◌≡◌, ◌≢◌, ℕ, ◌<◌, ◌≤◌, ◌+◌, zero, suc, List, [], ◌∷◌, ◌++◌, map, Option, None, Some, Result, Ok, Err, MatchResult, OnOk, IfOk, IfErr, ◌⊎◌, Bor, length, get_or, slice_get, take, inl, inr, refl, sym, ap, subst, ◌∙◌, append_assoc, append-nil, arith, true≢false, is_some}
+use Rattle.std.proofs.Common.{◌≡◌, ◌≢◌, ℕ, ◌<◌, ◌≤◌, ◌+◌, zero, suc, List, [], ◌∷◌, ◌++◌, map, Option, None, Some, Result, Ok, Err, OnOk, ◌⊎◌, Bor, length, get_or, slice_get, take, inl, inr, refl, sym, ap, subst, ◌∙◌, arith, true≢false, is_some}
 use Rattle.std.specs.List.{AllByRecursion}
 use Rattle.std.specs.Option.{option_map}
-use Rattle.std.proofs.lemmas.List.{take_more, map-append}
+use Rattle.std.proofs.lemmas.List.{take_more}
 use Rattle.std.proofs.lemmas.Grind.{flat_map-append}
 use Rattle.std.proofs.lemmas.Option.{get_or_from_slice_get, slice_get_within, slice_get_cases}
 use Rattle.fm_grammar.specs.Names.{AllDifferent}
 use Rattle.fm_grammar.specs.Exposition.{Text, Exposition}
-use Rattle.fm_grammar.specs.Reading.{IsNewName}
 use Rattle.fm_grammar.specs.WellFormed.{AreLabels}
 use Rattle.fm_grammar.proofs.Runs.{all_append}
 use Rattle.fm_raw.specs.declared.encode_error.EncodeError.{EncodeError}
@@ -19,12 +18,10 @@ use Rattle.fm_registry_rules.specs.Tree.{Facts, Tree, Reads}
 use Rattle.fm_registry_rules.specs.Listing.{Listed, listed_name, listed_with, own_metrics, IsListable, order}
 use Rattle.fm_registry_rules.proofs.NameLemmas.{printed_names-different}
 use Rattle.fm_encoder.specs.declared.metric.EncodeMetric.{Ghosts}
-use Rattle.fm_labels.specs.Refusals.{result_of}
 use Rattle.fm_encoder.proofs.FaultLemmas.{MetricHasFault-not_writing}
 use Rattle.fm_core.specs.Seen.{listed_in}
 use Rattle.fm_core.proofs.ListingLemmas.{listed_in-push}
-use Rattle.fm_core.specs.Admits.{Admits, AdmitsNext, HoldsOfOne, FaultOf, Fault}
-use Rattle.fm_core.specs.inside.Documents.{AddsFamilies}
+use Rattle.fm_core.specs.Admits.{Admits, HoldsOfOne, Fault}
 
 all_left : {A : Type 0} (P : A → Type 0) (xs ys : List A) → AllByRecursion P (xs ++ ys) → AllByRecursion P xs
 all_left P [] ys h = tt
@@ -33,20 +30,6 @@ all_left P (x ∷ xs) ys h = (h.0, all_left P xs ys h.1)
 all_right : {A : Type 0} (P : A → Type 0) (xs ys : List A) → AllByRecursion P (xs ++ ys) → AllByRecursion P ys
 all_right P [] ys h = h
 all_right P (x ∷ xs) ys h = all_right P xs ys h.1
-
--- names that all differ, without the last ones
-differ_left : (xs ys : List Text) → AllDifferent (xs ++ ys) → AllDifferent xs
-differ_left [] ys h = tt
-differ_left (x ∷ xs) ys h = (all_left _ xs ys h.0, differ_left xs ys h.1)
-
--- if all names differ, each is new to those before it
-before_next : (names : List Text) (n : Text) (rest : List Text) → AllDifferent (names ++ n ∷ rest) → AllByRecursion (λ m. m ≢ n) names
-before_next [] n rest h = tt
-before_next (m ∷ names) n rest h = ((λ same. at names h.0 (sym same)), before_next names n rest h.1)
-  where
-    at : (ms : List Text) → AllByRecursion (λ other. other ≢ m) (ms ++ n ∷ rest) → n ≢ m
-    at [] k = k.0
-    at (x ∷ ms) k = at ms k.1
 
 -- the list before an element, and after it
 split_at : {A : Type 0} (xs : List A) (i : ℕ) (x : A) → i < length xs → x ≡ get_or xs i x → (rest : List A) × (xs ≡ take i xs ++ x ∷ rest)
@@ -78,19 +61,6 @@ module _ {M : Type 0} (declared : Ghosts M) where
   Admits-++ (x ∷ ls) ms d e (inl h) more = inl (h.0, Admits-++ ls ms d e h.1 more)
   Admits-++ (x ∷ ls) ms d e (inr (f, rest, is, own, h)) more = inr (f, rest ++ e, ap (λ (fs : Exposition). fs ++ e) is, own, Admits-++ ls ms rest e h more)
 
-  AddsFamilies-one : (l : Listed M) (old new : Exposition) → AdmitsNext declared l old new → AddsFamilies declared (l ∷ []) old new
-  AddsFamilies-one l old new (inl (empty, same)) = ([], inl (empty, refl), same ∙ sym (append-nil old))
-  AddsFamilies-one l old new (inr (f, longer, own)) = (f ∷ [], inr (f, [], refl, own, refl), longer)
-
-  pub AddsFamilies-++ : (ls ms : List (Listed M)) (a b c : Exposition) → AddsFamilies declared ls a b → AddsFamilies declared ms b c → AddsFamilies declared (ls ++ ms) a c
-  AddsFamilies-++ ls ms a b c (d, first, is) (e, second, longer) =
-      (d ++ e, Admits-++ ls ms d e first second, longer ∙ ap (λ (fs : Exposition). fs ++ e) is ∙ append_assoc a d e)
-
-  -- the next metric of a list
-  pub AddsFamilies-next : (ls : List (Listed M)) (i : ℕ) (l : Listed M) (a b c : Exposition) → slice_get ls i ≡ Some l → AddsFamilies declared (take i ls) a b → AdmitsNext declared l b c → AddsFamilies declared (take (i + 1) ls) a c
-  AddsFamilies-next ls i l a b c at before next =
-      subst (λ ms. AddsFamilies declared ms a c) (sym (take_at ls i l at)) (AddsFamilies-++ (take i ls) (l ∷ []) a b c before (AddsFamilies-one l b c next))
-
   -- what holds of each listed name holds of each family's
   collected_all : (P : Text → Type 0) (ls : List (Listed M)) (e : Exposition) → AllByRecursion P (map listed_name ls) → Admits declared ls e → AllByRecursion P (map (λ family. family.name) e)
   collected_all P [] e h admits = subst (λ (fs : Exposition). AllByRecursion P (map (λ family. family.name) fs)) (sym admits) tt
@@ -107,27 +77,6 @@ module _ {M : Type 0} (declared : Ghosts M) where
       all_append Other (map (λ family. family.name) rest) further (collected_all Other ls rest (all_left Other (map listed_name ls) further differ.0) admits) (all_right Other (map listed_name ls) further differ.0) in
       subst (λ (fs : Exposition). AllDifferent (map (λ family. family.name) fs ++ further)) (sym is)
       (subst (λ (n : Text). AllByRecursion (λ other. other ≢ n) (map (λ family. family.name) rest ++ further)) (sym own.0) others, families_differ ls rest further admits differ.1)
-
-  -- a name that no family has
-  is_new : (n : Text) (e : Exposition) → AllByRecursion (λ m. m ≢ n) (map (λ family. family.name) e) → IsNewName n e
-  is_new n [] h = tt
-  is_new n (f ∷ e) h = (h.0, is_new n e h.1)
-
-  -- if all names differ, the next one is that of no family so far
-  pub next_new : (ls : List (Listed M)) (i : ℕ) (l : Listed M) (old e : Exposition) → slice_get ls i ≡ Some l → AllDifferent (map (λ family. family.name) old ++ map listed_name ls) → AddsFamilies declared (take i ls) old e
-      → IsNewName (listed_name l) e
-  next_new ls i l old e at differ (added, admits, is) =
-      let split = split_at ls i l (slice_get_within ls i l at) (sym (get_or_from_slice_get ls i l l at)) in
-      let olds = map (λ family. family.name) old in
-      let befores = map listed_name (take i ls) in
-      let rest = map listed_name split.0 in
-      let Other : Text → Type 0 = λ m. m ≢ listed_name l in
-      let parts : olds ++ map listed_name ls ≡ (olds ++ befores) ++ listed_name l ∷ rest =
-      ap (λ (ms : List Text). olds ++ ms) (ap (map listed_name) split.1 ∙ map-append listed_name (take i ls) (l ∷ split.0)) ∙ sym (append_assoc olds befores (listed_name l ∷ rest)) in
-      let new : AllByRecursion Other (olds ++ befores) = before_next (olds ++ befores) (listed_name l) rest (subst AllDifferent parts differ) in
-      let all : AllByRecursion Other (olds ++ map (λ family. family.name) added) =
-      all_append Other olds (map (λ family. family.name) added) (all_left Other olds befores new) (collected_all Other (take i ls) added (all_right Other olds befores new) admits) in
-      is_new (listed_name l) e (subst (AllByRecursion Other) (sym (ap (map (λ family. family.name)) is ∙ map-append (λ family. family.name) old added)) all)
 
 module _ {M : Type 0} where
   -- the metrics of the registries before one, its own, and the rest
@@ -163,19 +112,6 @@ module _ {M : Type 0} where
   IsListable-in registries i r within is all =
       let split = registry_at registries i r within is in
       all_left IsListable (own_metrics r.now.facts) split.0 (all_right IsListable (listed_in (take i registries)) (own_metrics r.now.facts ++ split.0) (subst (AllByRecursion IsListable) split.1 all))
-
-  -- the names of the next registry's metrics differ, and no family so far has one of them
-  pub next_names : (declared : Ghosts M) (registries : List (Bor (Tree M))) (i : ℕ) (r : Bor (Tree M)) (e : Exposition) → i < length registries → r ≡ get_or registries i r
-      → AllDifferent (map listed_name (listed_in registries)) → Admits declared (listed_in (take i registries)) e → AllDifferent (map (λ family. family.name) e ++ map listed_name (own_metrics r.now.facts))
-  next_names declared registries i r e within is differ admits =
-      let split = registry_at registries i r within is in
-      let befores = map listed_name (listed_in (take i registries)) in
-      let own = map listed_name (own_metrics r.now.facts) in
-      let rest = map listed_name split.0 in
-      let parts : map listed_name (listed_in registries) ≡ (befores ++ own) ++ rest =
-      ap (map listed_name) split.1 ∙ map-append listed_name (listed_in (take i registries)) (own_metrics r.now.facts ++ split.0)
-      ∙ ap (λ (ms : List Text). befores ++ ms) (map-append listed_name (own_metrics r.now.facts) split.0) ∙ sym (append_assoc befores own rest) in
-      families_differ declared (listed_in (take i registries)) e own admits (differ_left (befores ++ own) rest (subst AllDifferent parts differ))
 
 module _ {M : Type 0} (P : Listed M → Type 0) where
   one-left : (ls ms : List (Listed M)) → HoldsOfOne P ls → HoldsOfOne P (ls ++ ms)
@@ -214,16 +150,6 @@ on_ok (Err e) not h = absurd (not e refl)
 pub names_differ : {M : Type 0} (t : Tree M) (b : History M) (ls : List (Listed M)) → Reads t b → ls ≡ order b → AllDifferent (map listed_name ls)
 names_differ t b ls reads is = subst (λ (ms : List (Listed _)). AllDifferent (map listed_name ms)) (sym is) (printed_names-different b reads.history)
 
--- what holds of the kept refusal holds of the one that is returned
-refused_answer : (r : Result (Unit {0}) EncodeError) (refused : Option EncodeError) (P : EncodeError → Type 0) → r ≡ result_of refused → ((k : EncodeError) → refused ≡ Some k → P k) → IfErr r P
-refused_answer r None P is h = subst (λ s. IfErr s P) (sym is) tt
-refused_answer r (Some k) P is h = subst (λ s. IfErr s P) (sym is) (h k refl)
-
-pub refused_under : {M : Type 0} (declared : Ghosts M) (above listed : Listed M) (r : Result (Unit {0}) EncodeError) (refused : Option EncodeError) → above ≡ listed → r ≡ result_of refused
-    → ((k : EncodeError) → refused ≡ Some k → (k ≡ Memory) ⊎ FaultOf declared k above) → IfErr r (λ k. (k ≡ Memory) ⊎ FaultOf declared k listed)
-refused_under declared above listed r refused same is faults =
-    refused_answer r refused (λ k. (k ≡ Memory) ⊎ FaultOf declared k listed) is (λ k e. subst (λ d. (k ≡ Memory) ⊎ FaultOf declared k d) same (faults k e))
-
 -- no refusal in collecting is the writer's
 pub refusal-not_writing : {M : Type 0} (declared : Ghosts M) (k : EncodeError) (ls : List (Listed M)) → (k ≡ Memory) ⊎ Fault declared k ls → ¬ (IsWritersFault k)
 refusal-not_writing declared k ls (inl memory) writing = subst IsWritersFault memory writing
@@ -232,8 +158,3 @@ refusal-not_writing declared k (l ∷ ls) (inr (inl fault)) writing =
     let r = l.registration in
     MetricHasFault-not_writing k (declared.offers r.metric) (declared.stamps r.metric) (declared.may_fault r.metric) (listed_name l) r.metric_type l.labels fault writing
 refusal-not_writing declared k (l ∷ ls) (inr (inr faults)) writing = refusal-not_writing declared k ls (inr faults) writing
-
--- what holds of the families holds of what a collection ends in
-pub if_ended : {A : Type 0} (r : Result A EncodeError) (families : A) (refused : Option EncodeError) (P : A → Type 0) → MatchResult r (λ e. (refused ≡ None) × (e ≡ families)) (λ k. refused ≡ Some k) → P families → IfOk r P
-if_ended (Ok e) families refused P h holds = subst P (sym h.1) holds
-if_ended (Err k) families refused P h holds = tt

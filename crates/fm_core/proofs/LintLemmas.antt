@@ -1,5 +1,5 @@
 -- The warnings of one metric more.
-use Rattle.std.proofs.Common.{◌≡◌, ℕ, ◌+◌, ◌<◌, List, [], ◌∷◌, ◌++◌, Option, Some, Bor, length, get_or, slice_get, take, refl, sym, ap, ◌∙◌, append_assoc, append-nil}
+use Rattle.std.proofs.Common.{◌≡◌, ℕ, ◌+◌, ◌<◌, List, [], ◌∷◌, ◌++◌, Option, Some, Bor, length, get_or, slice_get, take, sym, ap, ◌∙◌, append_assoc, append-nil}
 use Rattle.std.specs.List.{flat_map}
 use Rattle.std.proofs.lemmas.Grind.{flat_map-append}
 use Rattle.fm_grammar.specs.Exposition.{Text}
@@ -8,8 +8,7 @@ use Rattle.fm_registry_rules.specs.Registration.{printed_unit}
 use Rattle.fm_registry_rules.specs.Tree.{Tree}
 use Rattle.fm_registry_rules.specs.Listing.{Listed, listed_name, own_metrics}
 use Rattle.fm_core.specs.Seen.{listed_in}
-use Rattle.fm_core.specs.Lint.{all_advice, warnings_among, warnings_of, warnings_of_all}
-use Rattle.fm_core.specs.declared.lint.Advice.{Advice}
+use Rattle.fm_core.specs.Lint.{all_advice, warnings_among, warnings_of}
 use Rattle.fm_core.proofs.CollectLemmas.{take_at, listed_in-next}
 
 -- the warnings under a heading are those of the metric that has it

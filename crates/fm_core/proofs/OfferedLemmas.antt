@@ -37,8 +37,7 @@ module _ (Offers : Option ℕ → List Member → Type 0) (Stamps : Option ℕ �
         h.0,
         record {
           samples = members_samples context x.0;
-          admitted = (x.0, stamp, stamped, x.1, x.2, refl);
-          formed = MembersValid-formed context x.0 x.2;
+          formed = record { admitted = (x.0, stamp, stamped, x.1, x.2, refl); formed = MembersValid-formed context x.0 x.2 };
           is = x.3;
         },
       )

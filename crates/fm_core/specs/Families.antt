@@ -1,4 +1,4 @@
--- What the encoder of families has gathered, and what it does with one metric more.
+-- What an encoder of families has gathered, and what it does with one metric more.
 use Rattle.std.specs.Prelude.{◌≡◌, Option, Some, None, ◌⊎◌}
 use Rattle.fm_grammar.specs.Exposition.{Exposition}
 use Rattle.fm_raw.specs.declared.metadata.Metadata.{Metadata}
@@ -10,11 +10,12 @@ use Rattle.fm_encoder.specs.declared.metric.EncodeMetric.{Ghosts}
 use Rattle.fm_core.specs.View.{seen_metric}
 use Rattle.fm_core.specs.Admits.{AdmitsNext, FaultOf}
 
--- the namespace and the labels of the current registry, the families so far, and the refusal
+-- the namespace and the labels of the current registry, the families so far, or their lines if it keeps no families, and the refusal
 pub record GatheredFamilies : Type 0 where
   pub namespace : Option Text
   pub labels : Labels
   pub families : Exposition
+  pub lines : Option Text
   pub refused : Option EncodeError
 
 module _ {M : Type 0} where
@@ -32,5 +33,5 @@ pub record EncodesFamily {M : Type 0} (declared : Ghosts M) (listed : Listed M) 
   pub same_namespace : new.namespace ≡ old.namespace
   pub same_labels : new.labels ≡ old.labels
   pub kept : (k : EncodeError) → old.refused ≡ Some k → new ≡ old
-  pub added : old.refused ≡ None → new.refused ≡ None → AdmitsNext declared listed old.families new.families
+  pub added : old.lines ≡ None → old.refused ≡ None → new.refused ≡ None → AdmitsNext declared listed old.families new.families
   pub refused : (k : EncodeError) → old.refused ≡ None → new.refused ≡ Some k → (k ≡ Memory) ⊎ FaultOf declared k listed

@@ -11,7 +11,9 @@
 //! encode_exposition(alloc, &mut body, &exposition)?;
 //! ```
 
-pub use crate::scrape::{FamilyFault, collect, encode, fault};
+pub use crate::scrape::collect::collect;
+pub use crate::scrape::encode::encode;
+pub use crate::scrape::{FamilyFault, fault};
 pub use fm_exposition::{Exemplar, Exposition, FamilySamples, Sample, Value};
 pub use fm_grammar::SampleKind;
 pub use fm_raw::EncodeError;

@@ -8,9 +8,9 @@ ghost use Rattle.fm_core.specs.HasHistory.{HasHistory};
 ghost use Rattle.fm_core.specs.Admits.{AdmittedBy, HasFaultNamed};
 
 use crate::registry::{ListedMetric, Registry};
-use crate::scrape::document::print_name;
-use crate::scrape::family::MetricFamilyEncoder;
-use crate::scrape::gather;
+use crate::scrape::collector::MetricFamilyEncoder;
+use crate::scrape::gather::gather;
+use crate::scrape::name::print_name;
 use fm_encoder::EncodeMetric;
 use fm_raw::EncodeError;
 use std::alloc::{AllocError, Global};
@@ -47,17 +47,17 @@ pub fn fault<M: EncodeMetric>(
     ensures none { IfOk result (λ found. found ≡ None → (e : Exposition)
         × AdmittedBy M.EncodeMetric registry.now e) }
 {
-    let Ok(registries) = registry.listing(alloc) else {
-        return Err(AllocError);
-    };
-    let mut encoder = MetricFamilyEncoder::new(alloc)?;
-    let Err(stop) = gather(&mut encoder, &registries) else {
+    let mut encoder = MetricFamilyEncoder::for_families(alloc)?;
+    let Err(stop) = gather(alloc, &mut encoder, registry) else {
         return Ok(None);
+    };
+    let Some(listed) = stop.listed else {
+        return Err(AllocError);
     };
     match stop.error {
         EncodeError::Memory => Err(AllocError),
         error => {
-            let name = name_of(alloc, &stop.listed)?;
+            let name = name_of(alloc, &listed)?;
             Ok(Some(FamilyFault { name, error }))
         }
     }

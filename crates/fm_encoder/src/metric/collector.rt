@@ -25,6 +25,7 @@ use std::alloc::{AllocError, Global};
 // An encoder that puts samples into this sink.
 fn over(alloc: Global, sink: Sink) -> MetricEncoder
     requires shared { AreShared [] sink.shared }
+    ensures constants { result.context.constants ≡ [] }
     ensures output { result.output ≡ sink.output }
     ensures accepting { result.refused ≡ None }
 {
@@ -38,13 +39,15 @@ fn over(alloc: Global, sink: Sink) -> MetricEncoder
 /// if memory runs out.
 pub fn for_samples(alloc: Global) -> Result<MetricEncoder, AllocError>
     ensures made { IfOk result
-        (λ encoder. (encoder.output ≡ OutputSamples []) × (encoder.refused ≡ None)) }
+        (λ encoder. (encoder.context.constants ≡ [])
+        × (encoder.output ≡ OutputSamples []) × (encoder.refused ≡ None)) }
 {
     Ok(over(alloc, Sink::samples(alloc)?))
 }
 
 /// An encoder that appends the lines of families, each of which begins with `begin_family`.
 pub fn for_lines(alloc: Global) -> MetricEncoder
+    ensures constants { result.context.constants ≡ [] }
     ensures output { result.output ≡ OutputText [] }
     ensures accepting { result.refused ≡ None }
 {
@@ -96,6 +99,7 @@ pub fn begin_family(
           (head_rows (headed (string_bytes name.old) head.entry));
       refused = None;
     }) }
+    ensures constants { encoder.new.context.constants ≡ encoder.old.context.constants }
     ensures kept { (k : EncodeError) → encoder.old.refused ≡ Some k
         → (encoder.new ≡ encoder.old) × (name.new ≡ name.old) × (result ≡ Err k) }
     ensures returned { result ≡ result_of encoder.new.refused }
