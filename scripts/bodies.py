@@ -35,7 +35,7 @@ def main():
     words.add_argument("--right", action="store_true")
     words.add_argument("--full", action="store_true")
     words.add_argument("crates", nargs="*")
-    given = words.parse_args()
+    given = words.parse_intermixed_args()
     if given.what == "check":
         return check.tried_all(given.crates, given.follow, given.right, given.full)
     if given.what == "tests":
