@@ -1,34 +1,40 @@
 #!/usr/bin/env bash
-# Runs the scenes of bench/. Their program is proved and built in a scratch copy, over the libraries that `rt ci` left in this repository (`bash
-# .ci/run`, or `rt ci fastmetrics`, comes first): the libraries are not proved again.
+# Runs the scenes of bench/. Their program is proved and built in a scratch copy, over the libraries that `rt ci` left in this
+# repository (`bash .ci/run`, or `rt ci fastmetrics`, comes first): the libraries are not proved again.
 #
-#   scripts/bench.sh [-d FOLDER] [SCENE..]      scenes: hand counters named labeled histograms gauges updates lookup lookup_sip values values_fixed series
-#                                               observe register read; all without one
+#   scripts/bench.sh [-d FOLDER] [SCENE..]      scenes: hand counters named labeled histograms gauges updates lookup lookup_sip
+#                                               values values_fixed series observe register read; all without one
 #
-# The folder (else /tmp/fastmetrics-bench) is kept, so that only what changed is proved again. Prints a line for each figure: scene, members
-# (threads for `inc` and `set`), what was measured, nanoseconds a sample line or a call; of one `encode` also the requests for memory, a line, and the most bytes
-# at once, over those of the document; of a look-up that finds its member the requests too. docs/PERFORMANCE.md says how to compare. Run it on a machine that
-# does nothing else.
+# The folder (else /tmp/fastmetrics-bench) is kept, so that only what changed is proved again. Prints a line for each figure:
+# scene, members (threads for `inc` and `set`), what was measured, nanoseconds a sample line or a call; of one `encode` also the
+# requests for memory, a line, and the most bytes at once, over those of the document; of a look-up that finds its member the
+# requests too. docs/PERFORMANCE.md says how to compare. Run it on a machine that does nothing else.
 set -eu
 top=$(cd "$(dirname "$0")/.." && pwd)
 folder=/tmp/fastmetrics-bench
 [[ ${1:-} == -d ]] && { folder=$2; shift 2; }
-[[ $# -gt 0 ]] || set -- hand counters named labeled histograms gauges updates lookup lookup_sip values values_fixed series observe register read
+scenes="hand counters named labeled histograms gauges updates lookup lookup_sip values values_fixed series observe register read"
+# shellcheck disable=SC2086
+[[ $# -gt 0 ]] || set -- $scenes
 
-. "$top/scripts/scratch.sh"
-. "$top/scripts/memory.sh"
-lay_out "$top" "$folder"
+"$top/scripts/crates.py" "$folder" bench
 "$top/scripts/prove.py" --build --crates "$folder" bench_support bench || exit 1
 cd "$folder/crates/bench"
 
-# How often a scene asks for memory, and the most bytes at once, with so many members and rounds: what is asked for after so many requests counts.
+# A second program counts its requests for memory (scripts/memory.c).
+kit=${RATTLE_KIT:-$(dirname "$(rt doc | head -n 1)")}
+"${CC:-cc}" -o "$folder/counted" out/bench.o "$top/scripts/memory.c" "$kit/c/libos_c.a" "$kit/c/liblibc_c.a" \
+    -Wl,--wrap=malloc,--wrap=realloc,--wrap=free,--wrap=_exit -lpthread
+
+# How often a scene asks for memory, and the most bytes at once, with so many members and rounds: what is asked for after so many
+# requests counts.
 count() {
     REFUSE_COUNT="$folder/count" REFUSE_SINCE="${4:-}" "$folder/counted" "$1" "$2" "$3" >"$folder/bytes"
     read -r asked most _ <"$folder/count"
 }
 
-# What one `encode` of a scene asks for, by a program that is linked with the counter of requests: of so many members, and lines a member. It is the second
-# one of its program, so that the writer has its memory already.
+# What one `encode` of a scene asks for, by a program that is linked with the counter of requests: of so many members, and lines a
+# member. It is the second one of its program, so that the writer has its memory already.
 count_memory() {
     local before bytes
     count "$1" "$2" 1
@@ -48,7 +54,6 @@ count_hits() {
     awk -v n="$((asked - before))" -v of="$1 $2" -v hits="$((100 * $2))" 'BEGIN { printf "%s requests %.3f\n", of, n / hits }'
 }
 
-link_counted out/bench.o "$folder/counted" || exit 1
 for scene; do
     sizes=1000 lines=0
     case $scene in

@@ -3,18 +3,17 @@
 
     scripts/cases.py [CRATE..]        the programs of all crates that have such a file, or of these
 
-A case has a name, the program's words (`args`) and its input (`stdin`), and what it then writes: `stdout`, `stderr` and `status`, which are empty and
-0 where they are left out. `encoding` is that of its texts, in place of UTF-8; `to` is a file that standard output goes to. The run that `rt ci`
-makes, whose words, input and output are the files `args`, `stdin`, `stdout` and `status` beside cases.toml, is a case too, named `beside`. Then, in
-each case with status 0, each request for memory is refused, one a run, by scripts/memory.c, which is loaded before the C library: each time the
-program ends with status 1, writes nothing to standard output, and one line to standard error, which is one of the lines that `no_memory` at the
-file's head matches. Where that is left out, the program goes on, and no request is refused. With `scripts = [FOLDER..]` each NAME.script of these
-folders is a case too: the input, beside what is then written, NAME.printed.
+A case has a name, the program's words (`args`) and its input (`stdin`), and what it then writes: `stdout`, `stderr` and `status`,
+which are empty and 0 where they are left out. `encoding` is that of its texts, in place of UTF-8; `to` is a file that standard
+output goes to. The run that `rt ci` makes, whose words, input and output are the files `args`, `stdin`, `stdout` and `status`
+beside cases.toml, is a case too, named `beside`. Then, in each case with status 0, each request for memory is refused, one a run,
+by scripts/memory.c, which is loaded before the C library: each time the program ends with status 1, writes nothing to standard
+output, and one line to standard error, which is one of the lines that `no_memory` at the file's head matches.
 
-It runs the programs as they were proved and built (`rt ci` and `rt run` leave crates/NAME/out/NAME); PROGRAMS=FOLDER takes FOLDER/NAME instead. Prints
-a line for each program and for each failure, and last 'N cases passed, M failed'; the status is 0 if M is 0.
+It runs the programs as they were proved and built (`rt ci` and `rt run` leave crates/NAME/out/NAME); PROGRAMS=FOLDER takes
+FOLDER/NAME instead. Prints a line for each program and for each failure, and last 'N cases passed, M failed'; the status is 0 if
+M is 0.
 """
-import glob
 import os
 import re
 import subprocess
@@ -24,15 +23,16 @@ import tomllib
 from concurrent.futures import ThreadPoolExecutor
 
 import unproved
+from crates import TOP
 
-TOP = os.path.dirname(os.path.dirname(os.path.realpath(__file__)))
 ONE_RUN = 60
 
 
 def whole(told):
     """A text, or the one that a list of pieces describes."""
     pieces = [told] if isinstance(told, str) else told
-    return "".join(it if isinstance(it, str) else "".join(it[0].replace("%", str(number)) for number in range(it[1])) for it in pieces)
+    repeated = lambda text, times: "".join(text.replace("%", str(number)) for number in range(times))
+    return "".join(it if isinstance(it, str) else repeated(*it) for it in pieces)
 
 
 class Case:
@@ -75,20 +75,12 @@ def text_at(path):
         return file.read()
 
 
-def scripts_in(folder):
-    """The scripts of a folder as cases."""
-    for path in sorted(glob.glob(f"{TOP}/{folder}/*.script")):
-        front = path.removesuffix(".script")
-        yield Case(os.path.basename(front), {"stdin": text_at(path), "stdout": text_at(f"{front}.printed")})
-
-
 def cases_of(crate):
     """A crate's cases, and what a want of memory writes to standard error, if it ends the program."""
     with open(f"{TOP}/crates/{crate}/cases.toml", "rb") as file:
         told = tomllib.load(file)
-    no_memory, folders = told.pop("no_memory", None), told.pop("scripts", [])
-    cases = [beside(crate), *(Case(name, it) for name, it in told.items()), *(it for folder in folders for it in scripts_in(folder))]
-    return cases, no_memory and re.compile(no_memory.encode())
+    no_memory = re.compile(told.pop("no_memory").encode())
+    return [beside(crate), *(Case(name, it) for name, it in told.items())], no_memory
 
 
 def crates_with_cases():
@@ -96,7 +88,8 @@ def crates_with_cases():
 
 
 def failing(crate, folder):
-    """The cases of a crate that another copy of it in this folder fails, compiled with run-time checks and not proved, and what was said."""
+    """The cases of a crate that another copy of it in this folder fails, compiled with run-time checks and not proved, and what
+    was said."""
     cases, _ = cases_of(crate)
     with tempfile.TemporaryDirectory(prefix="cases-") as files:
         for case in cases:
@@ -136,22 +129,24 @@ def tried(crate, counter, scratch, pool):
         if answer != (case.status, case.stdout, case.stderr):
             print(f"FAILED: {crate}, {case.name}: {answer}", flush=True)
             wrong.add(case.name)
-    for case in (it for it in cases if no_memory and it.status == 0 and it.name not in wrong):
+    for case in (it for it in cases if it.status == 0 and it.name not in wrong):
         count = requests_of(program, case, counter, scratch)
-        said = [it for it in pool.map(lambda request: refused(program, case, no_memory, counter, request), range(1, count + 1)) if it]
+        one = lambda request: refused(program, case, no_memory, counter, request)
+        said = [it for it in pool.map(one, range(1, count + 1)) if it]
         if said or not count:
             print("\n".join(said) or f"FAILED: {crate}, {case.name} asks for no memory", flush=True)
             wrong.add(case.name)
         requests += count
-    refusals = f", and {requests} requests for memory refused in turn" if no_memory else ""
-    print(f"{crate}: {len(cases)} cases{refusals}{', FAILED' if wrong else ''}", flush=True)
+    refusals = f"{requests} requests for memory refused in turn"
+    print(f"{crate}: {len(cases)} cases, and {refusals}{', FAILED' if wrong else ''}", flush=True)
     return len(cases), len(wrong)
 
 
 def main():
     with tempfile.TemporaryDirectory(prefix="cases-") as scratch, ThreadPoolExecutor(len(os.sched_getaffinity(0))) as pool:
         counter = f"{scratch}/counter.so"
-        subprocess.run([os.environ.get("CC", "cc"), "-shared", "-fPIC", "-O1", "-DPRELOADED", "-o", counter, f"{TOP}/scripts/memory.c"], check=True)
+        compiler = [os.environ.get("CC", "cc"), "-shared", "-fPIC", "-O1", "-DPRELOADED"]
+        subprocess.run([*compiler, "-o", counter, f"{TOP}/scripts/memory.c"], check=True)
         counts = [tried(it, counter, scratch, pool) for it in sys.argv[1:] or crates_with_cases()]
     passed, failed = sum(all_ - wrong for all_, wrong in counts), sum(wrong for _, wrong in counts)
     print(f"{passed} cases passed, {failed} failed")

@@ -1,19 +1,18 @@
 #!/usr/bin/env python3
-"""Prints what the clauses of `text::encode` reach: each file of definitions with its lines, and their sum; then what those of the calls that
-register reach besides; and what the metrics of the library declare, which these clauses take from them: the ghost members of each impl of an `Encode`
-trait and of a histogram's sign, and the definitions that only these reach.
+"""Prints what the clauses of `text::encode` reach: each file of definitions with its lines, and their sum; then what those of the
+calls that register reach besides; and what the metrics of the library declare, which these clauses take from them: the ghost
+members of each impl of an `Encode` trait and of a histogram's sign, and the definitions that only these reach.
 
     scripts/definitions.py [--names]
 
-Lines are counted without comments, imports and blank lines, and only those of definitions that are reached. It fails where one of the three has more
-than it may (MOST), or where one of the first two reaches a definition of an `inside` folder.
+Lines are counted without comments, imports and blank lines, and only those of definitions that are reached. It fails where one of
+the three has more than it may (MOST), where one of the first two reaches a definition of an `inside` folder, or where no public
+clause (sources.py) of a library reaches a definition that stands outside of one: it belongs into specs/inside/.
 """
 import re
 import sys
-from pathlib import Path
 
-TOP = Path(__file__).resolve().parent.parent
-WORD = re.compile(r"[^\s(){}\[\],;.→λ←]+")
+from sources import TOP, cited, clauses_of, home, imports_of_source, module, reach, words_of
 
 # The most lines of each: what `encode` promises, what a registration does, and what metrics declare.
 MOST = {"encode": 740, "registering": 340, "declared": 600}
@@ -26,153 +25,6 @@ REGISTERING = {
     "crates/fastmetrics/src/registry/root/constants.rt": "(keep|info)",
     "crates/fastmetrics/src/registry/paths.rt": r"\w+",
 }
-
-
-def strip_comment(line):
-    at = line.find("--")
-    while at >= 0:
-        before = line[:at]
-        if (at == 0 or line[at - 1] in " \t") and before.count('"') % 2 == 0:
-            return before.rstrip()
-        at = line.find("--", at + 2)
-    return line.rstrip()
-
-
-def import_of(text):
-    """The module and the names of a `use` line."""
-    found = re.match(r"(?:pub )?(?:ghost )?use Rattle\.([\w.]+?)(?:\.\{(.*)\})?;?\s*$", text.strip())
-    if not found:
-        return None
-    module, names = found.group(1), found.group(2)
-    if names is None:
-        return module, None
-    pairs = []
-    for name in names.split(","):
-        name = name.strip()
-        if " as " in name:
-            real, shown = name.split(" as ")
-            pairs.append((real.strip(), shown.strip()))
-        elif name:
-            pairs.append((name, name))
-    return module, pairs
-
-
-class Module:
-    """A file of definitions: what it imports, and each definition's lines and words."""
-
-    def __init__(self, path):
-        self.path = path
-        self.imports = {}
-        self.definitions = {}
-        self.owner = {}
-        self.heads = {}
-        self.read(path.read_text().split("\n"))
-
-    def read(self, lines):
-        current, head, head_indent = None, None, -1
-        for raw in lines:
-            line = strip_comment(raw)
-            if not line.strip():
-                continue
-            found = import_of(line)
-            if found or re.match(r"\s*(pub )?(use|mod) ", line):
-                if found and found[1]:
-                    for real, shown in found[1]:
-                        self.imports[shown] = (found[0], real)
-                current = None
-                continue
-            indent = len(line) - len(line.lstrip())
-            text = line.strip()
-            if text.startswith("module "):
-                head, head_indent, current = text, indent, None
-                continue
-            if head is not None and indent <= head_indent:
-                head, head_indent = None, -1
-            level = head_indent + 2 if head is not None else 0
-            if indent == level:
-                name = self.name_of(text)
-                if name != current:
-                    current = name
-                    self.definitions.setdefault(name, [])
-                    if head is not None:
-                        self.heads[name] = head
-            if current is None:
-                continue
-            self.definitions[current].append(text)
-            if indent > level and "data" in self.definitions[current][0].split()[:2]:
-                self.note_part(text, current)
-
-    def name_of(self, text):
-        words = [w for w in re.split(r"\s+", text) if w not in ("abbrev", "unfoldable", "pub", "data", "record", "ghost", "opaque")]
-        return words[0]
-
-    def note_part(self, text, current):
-        found = re.match(r"(?:pub )?([^\s(){}:]+) :", text)
-        if found:
-            self.owner.setdefault(found.group(1), current)
-
-
-def module_path(name):
-    crate, _, rest = name.partition(".")
-    return TOP / "crates" / crate / (rest.replace(".", "/") + ".antt")
-
-
-MODULES = {}
-
-
-def module(name):
-    if name not in MODULES:
-        path = module_path(name)
-        MODULES[name] = Module(path) if path.exists() else None
-    return MODULES[name]
-
-
-def words_of(lines):
-    for line in lines:
-        yield from WORD.findall(re.sub(r'"(\\.|[^"\\])*"', "", line))
-
-
-def reach(starts):
-    """The definitions that these (module, name) reach."""
-    found, left = set(), list(starts)
-    while left:
-        name, word = left.pop()
-        here = module(name)
-        if here is None:
-            continue
-        if word not in here.definitions:
-            word = here.owner.get(word, word)
-        if (name, word) in found or word not in here.definitions:
-            continue
-        found.add((name, word))
-        lines = list(here.definitions[word])
-        if word in here.heads:
-            lines.append(here.heads[word])
-        for other in set(words_of(lines)):
-            if other in here.imports:
-                left.append(here.imports[other])
-            elif other in here.definitions or other in here.owner:
-                left.append((name, other))
-    return found
-
-
-def clauses_of(text, function):
-    """The clauses of the public functions of this name in a source."""
-    for found in re.finditer(rf"^( *)pub fn {function}\b", text, re.M):
-        head = text[found.end() : text.index(f"\n{found[1]}{{", found.end())]
-        clauses = re.search(r"^ *(requires|ensures)\b", head, re.M)
-        if clauses:
-            yield head[clauses.start() :]
-
-
-def imports_of_source(text):
-    imports = {}
-    for line in text.split("\n"):
-        found = import_of(line) if "ghost use" in line else None
-        if found and found[1]:
-            for real, shown in found[1]:
-                imports[shown] = (found[0], real)
-    return imports
 
 
 def starts():
@@ -238,7 +90,7 @@ def print_reached(found):
     for name, word in found:
         by_file.setdefault(name, []).append(word)
     inside = []
-    for name in sorted(by_file, key=lambda it: -size_of([(it, word) for word in by_file[it]])):
+    for name in sorted(by_file, key=lambda it: (-size_of([(it, word) for word in by_file[it]]), it)):
         here = module(name)
         print(f"{size_of([(name, word) for word in by_file[name]]):5} {here.path.relative_to(TOP)}")
         if "--names" in sys.argv:
@@ -256,6 +108,18 @@ def print_declared(lines, more):
         print("      " + " ".join(sorted(f"{name}.{word}" for name, word in more)))
 
 
+def misplaced():
+    """The definitions of libraries that no public clause reaches, and that stand in no folder `inside`."""
+    crates = sorted(it for it in (TOP / "crates").iterdir() if (it / "src").is_dir())
+    public = reach({home(it) for crate in crates for path in crate.glob("src/**/*.rt") for it in cited(path)})
+    specs = sorted(path for it in crates if (it / "src/lib.rt").exists() for path in it.glob("specs/**/*.antt"))
+    for path in (it for it in specs if "/inside/" not in str(it)):
+        name = str(path.relative_to(TOP / "crates"))[: -len(".antt")].replace("/", ".")
+        for word in module(name).definitions:
+            if word != "mutual" and word.isidentifier() and (name, word) not in public:
+                yield f"belongs into specs/inside: {name} {word}"
+
+
 def main():
     headline = reach(starts())
     calls = reach(registering()) - headline
@@ -270,6 +134,7 @@ def main():
     print_declared(lines, more)
     print(", ".join(f"{name} {size}" for name, size in sizes.items()), "lines")
     wrong += [f"{name}: more than {MOST[name]} lines" for name, size in sizes.items() if size > MOST[name]]
+    wrong += misplaced()
     print("\n".join(wrong), end="\n" * bool(wrong), file=sys.stderr)
     sys.exit(1 if wrong else 0)
 

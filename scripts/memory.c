@@ -1,6 +1,6 @@
-// Stands between a program and its memory: counts the requests, refuses one of them, and keeps the peak. It is linked to the program's
-// object by `--wrap`, or compiled with PRELOADED as a library that is loaded before the C library; then the program's own requests count
-// alone, as they do by `--wrap`, and none of the C library's.
+// Stands between a program and its memory: counts the requests, refuses one of them, and keeps the peak. It is linked to the
+// program's object by `--wrap`, or compiled with PRELOADED as a library that is loaded before the C library; then the program's
+// own requests count alone, as they do by `--wrap`, and none of the C library's.
 //
 //   REFUSE=N            the Nth request is refused
 //   REFUSE_COUNT=FILE   the number of requests, the greatest number of bytes at once, and the bytes that are held are written
@@ -68,7 +68,8 @@ static void say(void) {
     if (count) {
         FILE *file = fopen(count, "w");
         if (file) {
-            fprintf(file, "%lu %ld %ld\n", atomic_load(&made), atomic_load(&peak) - atomic_load(&held_before), atomic_load(&held));
+            long most = atomic_load(&peak) - atomic_load(&held_before);
+            fprintf(file, "%lu %ld %ld\n", atomic_load(&made), most, atomic_load(&held));
             fclose(file);
         }
     }

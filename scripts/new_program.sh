@@ -45,7 +45,8 @@ end_line
 grep '^first_use' "$top/crates.txt" | sed "s/^first_use/$name/" >>"$folder/crates.txt"
 
 grep -q Wait "$folder/HANDLES" || echo "$folder/HANDLES doesn't allow Wait, which the program needs" >&2
-grep -q Net "$folder/HANDLES" || echo "A server that opens sockets adds Net to $folder/HANDLES; the library is then proved anew, 20 to 40 minutes on four cores"
+grep -q Net "$folder/HANDLES" || echo "A server that opens sockets adds Net to $folder/HANDLES; the library is then proved" \
+    "anew, 20 to 40 minutes on four cores"
 cat <<END
 $folder/crates/$name/src/main.rt is a copy of crates/first_use. Next:
 

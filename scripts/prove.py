@@ -1,13 +1,15 @@
 #!/usr/bin/env python3
-"""Proves crates over the libraries that `rt ci` kept, which are not proved again, and keeps what it proved of each function: a function that didn't
-change, and calls none that did, isn't proved again. `rt ci` proves a changed crate as a whole, and alone counts for the gate.
+"""Proves crates over the libraries that `rt ci` kept, which are not proved again, and keeps what it proved of each function: a
+function that didn't change, and calls none that did, isn't proved again. `rt ci` proves a changed crate as a whole, and alone
+counts for the gate.
 
-    scripts/prove.py [--build] [--crates FOLDER] CRATE..        crates of this repository, or of FOLDER/crates, in the order of what they are built on
+    scripts/prove.py [--build] [--crates FOLDER] CRATE..      crates of this repository, or of FOLDER/crates, in the order of what
+                                                              they are built on
 
-Libraries that aren't in their out/rlib are taken from a run of `rt ci`, which proves what of them it didn't keep. That the source of one
-changed since isn't seen: remove its out/rlib, or run `rt ci`. What is kept of a crate lies in its
-out/proved. A library is written to its out/rlib, and with --build a program to out/NAME. Prints how far a check is, what
-isn't proved and what to write, and for each crate how many functions it has and how many seconds it took. The status is 0 if each is proved.
+Libraries that aren't in their out/rlib are taken from a run of `rt ci`, which proves what of them it didn't keep. That the source
+of one changed since isn't seen: remove its out/rlib, or run `rt ci`. What is kept of a crate lies in its out/proved. A library is
+written to its out/rlib, and with --build a program to out/NAME. Prints how far a check is, what isn't proved and what to write,
+and for each crate how many functions it has and how many seconds it took. The status is 0 if each is proved.
 """
 import argparse
 import glob
@@ -19,17 +21,19 @@ import sys
 import tempfile
 import time
 
-from wrong_bodies import KIT, TOP, Crate, Run, crates_of, text_of
+from crates import KIT, TOP, Crate, crates_of, lines_of
+from crates import files_in as files_below
 
 # What a check says of all that it reads and that is well.
-QUIET = re.compile(r"(?:statements|library|logic|axioms|crate|linked|logic=|by-macro:|hides|note: only the first) ?|(?:fn|impl|struct|enum|trait) \S+: (?:proved|no holes)")
+QUIET = re.compile(
+    r"(?:statements|library|logic|axioms|crate|linked|logic=|by-macro:|hides|note: only the first) ?"
+    r"|(?:fn|impl|struct|enum|trait) \S+: (?:proved|no holes)"
+)
 
 
 def words_of(crate, crates, target):
     """The words of a check of a crate that keeps what it proves, or of a build, if there is a target."""
-    words = crate.words(crates, Run(None, None))
-    # Where functions are left out a check names what they call; a crate that is whole calls no such thing.
-    words[words.index("--links") + 1] = f"{crate.name}="
+    words = crate.words(crates, lambda it: f"{it.folder}/out/rlib")
     words[words.index("--jobs") + 1] = str(len(os.sched_getaffinity(0)))
     words += ["--incremental", f"{crate.folder}/out/proved"]
     if target:
@@ -40,8 +44,8 @@ def words_of(crate, crates, target):
 
 def linked(target):
     """Links a program."""
-    link = [f"{KIT}/bin/rattle-link", "--target", "x86_64-unknown-linux-gnu", "--toolchain", f"{KIT}/toolchain", "-o", target[:-2], target]
-    return subprocess.run([*link, f"{KIT}/c/libos_c.a", f"{KIT}/c/liblibc_c.a"]).returncode == 0
+    link = [f"{KIT}/bin/rattle-link", "--target", "x86_64-unknown-linux-gnu", "--toolchain", f"{KIT}/toolchain"]
+    return subprocess.run([*link, "-o", target[:-2], target, f"{KIT}/c/libos_c.a", f"{KIT}/c/liblibc_c.a"]).returncode == 0
 
 
 def rlib_of(library, folder=None):
@@ -55,7 +59,7 @@ def is_there(rlib):
 
 def files_in(folder):
     """The files below a folder, with their sizes."""
-    return sorted((os.path.relpath(at, folder), name, os.path.getsize(f"{at}/{name}")) for at, _, names in os.walk(folder) for name in names)
+    return sorted((os.path.relpath(it, folder), os.path.getsize(it)) for it in files_below([folder]))
 
 
 def link(rlib, target):
@@ -74,12 +78,14 @@ def link(rlib, target):
 
 
 def take(libraries):
-    """Has `rt ci` prove libraries, or take what it kept of them, and links them as they come: it works on a copy, and removes that at its end."""
+    """Has `rt ci` prove libraries, or take what it kept of them, and links them as they come: it works on a copy, and removes
+    that at its end."""
     if not libraries:
         return
     print(f"rt ci {' '.join(it.name for it in libraries)}", flush=True)
     with tempfile.TemporaryDirectory(prefix="libraries-", dir=f"{TOP}/.git" if os.path.isdir(f"{TOP}/.git") else None) as room:
-        how = {"stdin": subprocess.DEVNULL, "stdout": subprocess.DEVNULL, "stderr": subprocess.STDOUT, "env": {**os.environ, "TMPDIR": room}}
+        how = {"stdin": subprocess.DEVNULL, "stdout": subprocess.DEVNULL, "stderr": subprocess.STDOUT}
+        how["env"] = {**os.environ, "TMPDIR": room}
         with subprocess.Popen(["rt", "ci", *(it.name for it in libraries)], cwd=TOP, **how) as run:
             while run.poll() is None:
                 for library, copy in ((it, copy) for it in libraries for copy in glob.glob(f"{room}/*/repo")):
@@ -109,20 +115,15 @@ def proved(crate, crates, builds):
             if not QUIET.match(line):
                 print(line, end="", flush=True)
     is_proved = check.returncode == 0 and (not target.endswith(".o") or linked(target))
-    print(f"{crate.name}: {'proved' if is_proved else 'NOT PROVED'}, {functions} functions, {time.monotonic() - begun:.0f} seconds", flush=True)
+    verdict, seconds = "proved" if is_proved else "NOT PROVED", time.monotonic() - begun
+    print(f"{crate.name}: {verdict}, {functions} functions, {seconds:.0f} seconds", flush=True)
     return is_proved
 
 
 def crates_in(folder, names):
     """The crates here, and those of these names in a folder in their place."""
-    crates = crates_of()
-    for line in text_of(f"{folder}/crates.txt").split("\n"):
-        head, colon, libraries = line.partition("#")[0].partition(":")
-        name = head.split()[0] if colon else ""
-        if name in names:
-            crates[name] = Crate(name, libraries.split())
-            crates[name].folder = f"{folder}/crates/{name}"
-    return crates
+    lines = lines_of(f"{folder}/crates.txt").items()
+    return crates_of() | {name: Crate(name, libraries, f"{folder}/crates/{name}") for name, libraries in lines if name in names}
 
 
 def main():

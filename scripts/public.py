@@ -1,17 +1,20 @@
 #!/usr/bin/env python3
-"""Compares what two pages have of the library's public names and calls with the sources, or writes it, and finds public calls that nothing makes.
+"""Compares what two pages have of the library's public names and calls with the sources, or writes it, and finds public calls
+that nothing makes.
 
     scripts/public.py [--write]
 
-A name is public if `fastmetrics` has it, by itself or in a module that it re-exports. A public call is a public function, a `pub fn` of a public type, or a
-function of a public trait. Looked at are
+A name is public if `fastmetrics` has it, by itself or in a module that it re-exports. A public call is a public function, a `pub
+fn` of a public type, or a function of a public trait. Looked at are
 
 - the list of public names in docs/ARCHITECTURE.md, by the crate that declares them;
-- the blocks of docs/CALLS.md, each after a line `<!-- calls: MODULE .. -->`: the `use` lines of these modules of `fastmetrics`, and the signatures of what they
-  have. A name that several modules have stands in the first block alone. The block of `std` has the `use` lines of its names in all others;
-- the text of docs/CALLS.md, which names each public name and call; one is enough of those with a unit, with a description, and for each whole number;
-- the tests, the programs without their functions that nothing calls, and the one that replays scripts: one of their files makes each public call, and names
-  its type.
+- the blocks of docs/CALLS.md, each after a line `<!-- calls: MODULE .. -->`: the `use` lines of these modules of `fastmetrics`,
+  and the signatures of what they have. A name that several modules have stands in the first block alone. The block of `std` has
+  the `use` lines of its names in all others;
+- the text of docs/CALLS.md, which names each public name and call; one is enough of those with a unit, with a description, and
+  for each whole number;
+- the tests, the programs without their functions that nothing calls, and the one that replays scripts: one of their files makes
+  each public call, and names its type.
 
 --write renews the list and the blocks. Prints a line for each difference; the status is 0 if there is none.
 """
@@ -19,80 +22,38 @@ import difflib
 import re
 import sys
 import textwrap
-from collections import Counter, namedtuple
+from collections import Counter
 from fnmatch import fnmatchcase
 from functools import cache
-from pathlib import Path
 
-TOP = Path(__file__).resolve().parent.parent
+from sources import END, KINDS, TICKED, TOP, items, joined, libraries, source
+
 LIST, PAGE = TOP / "docs/ARCHITECTURE.md", TOP / "docs/CALLS.md"
 LISTED = re.compile(r"(?<=Every public name stands in the crate that declares it:\n\n```text\n).*?(?=```\n)", re.S)
 BLOCK = re.compile(r"(?<=^<!-- calls: )([\w: ]+)( -->\n```rust\n)(.*?)(?=^```\n)", re.M | re.S)
-TICKED = re.compile(r"(?<!`)(`+)(?!`)(.+?)(?<!`)\1(?!`)", re.S)
 WIDTH = 130
 
 # Traits that a block shows at each type that has them.
 TRAITS = {"TryDefault", "Default", "Iterator", "Deref"}
-# The head of a file whose calls are for other crates of the library alone, and functions for these that stand beside public ones.
-INTERNAL = re.compile(r"//! What .* call[^\n]*, and no ")
+# Functions for other crates of the library that stand beside public ones.
 HIDDEN = {"encode_all", "encode_written", "whole_millis"}
 # Calls of which docs/CALLS.md names one.
 TOGETHER = re.compile(r"\w+_with_unit|\w*(counter|gauge|histogram)s?_with|encode_[iu](\d+|size)(_value)?")
-# Made by the library itself, so that tests see what they do by what calls them: by `collect`, `encode` and families, by roots, and by `find_bucket` and
-# `observe_all`.
+# Made by the library itself, so that tests see what they do by what calls them: by `collect`, `encode` and families, by roots,
+# and by `find_bucket` and `observe_all`.
 INSIDE = """
-    Collected::names Collector::* Holds::* Made::* MetricFamilyEncoder::* Encode*Value::encode EncodeLabelName::encode ValueEncoder::*
-    LabelSetEncoder::encode_named StateSetValue::* ExemplarLabels::are_taken Probe::* Gate::*
+    Collected::names Collector::* Holds::* Made::* MetricFamilyEncoder::* Encode*Value::encode EncodeLabelName::encode
+    ValueEncoder::* LabelSetEncoder::encode_named StateSetValue::* ExemplarLabels::are_taken Probe::* Gate::*
 """.split()
 # What stands for the name of a type where its calls are made: the call that gives one.
 GIVEN_BY = {"RegistryBuilder": "builder", "RegistrySubsystemBuilder": "subsystem_builder", "Subsystem": "subsystem"}
 
-KINDS = "struct|enum|trait|const fn|fn|const|type"
-# Where the head of an item ends: before its body, its clauses, or a semicolon.
-END = r"(?=\s*\{\}?$|;$|\s*\n\s+(?:requires|ensures|ghost)\b)"
 REEXPORT = re.compile(r"^ *pub use (\w+)((?:::\w+)*)(?:::\{([^}]*)\})?(?: as (\w+))?;", re.M)
 OF_STD = re.compile(r"^use (std(?:::[a-z_]+)*)::(?:\{([^}]*)\}|(\w+));", re.M)
 # A call by a value, by a path, and by the name alone.
 CALLED = re.compile(r"(\.\s*)?(::)?\b(\w+)(?:::<[^()]*?>)?\s*\(|(::)(\w+)\b")
 # What stays in one line where a signature is wrapped.
 WHOLE = re.compile(r"<[^<>:]*>|\[[^\[\]]*\]|\w \{ [^{}]{,60} \}|'\w+ |\w: |-> |mut |for |dyn ")
-# A public declaration, or an `impl`: its head in one line, and what stands below it.
-Item = namedtuple("Item", "crate path kind name head body")
-
-
-@cache
-def source(path):
-    """A file without its comments and attributes."""
-    return re.sub(r"^\s*#!?\[.*\n|\s*//.*", "", path.read_text(), flags=re.M)
-
-
-@cache
-def libraries():
-    """The crates that `fastmetrics` is made of, in the order of crates.txt, and it, each with its files."""
-    crates = dict(re.findall(r"^(\w+)[^:\n]*:(.*)$", (TOP / "crates.txt").read_text(), re.M))
-    names = [it for it in crates if it in [*crates["fastmetrics"].split(), "fastmetrics"]]
-    return {it: sorted((TOP / "crates" / it).glob("src/**/*.rt")) for it in names}
-
-
-def joined(text):
-    """A text in one line, without `pub`, what only a body needs, and the value of a constant if it is no literal."""
-    text = re.sub(r"\bpub |\b(?:mut |_)(?=\w+: )", "", " ".join(text.split()))
-    text = re.sub(r"(?<=[(<\[]) |, (?=[)>\]])|,(?= \}|$)", "", text)
-    return re.sub(r'^(const \w+: [^=]*?) = (?!\d+$|"|true$|false$).*', r"\1", text)
-
-
-@cache
-def items():
-    """Each public declaration and each `impl` of the libraries, file by file."""
-    found = []
-    for crate, path in ((crate, path) for crate, paths in libraries().items() for path in paths if not INTERNAL.match(path.read_text())):
-        for text in re.split(r"^(?=[a-z])(?!where\b)", source(path), flags=re.M):
-            kind = re.match(rf"pub ({KINDS}) (\w+)|(impl)\b", text)
-            if kind:
-                head = re.match(rf".*?{END}", text, re.S | re.M)[0]
-                found.append(Item(crate, path, kind[1] or kind[3], kind[2], joined(head), text[len(head) :]))
-    return found
-
 
 def reexported(crate, text):
     """Each name that a text re-exports, with its crate and its name there, which is empty for a crate."""
@@ -202,7 +163,8 @@ def declared_as(item):
 
 def of_trait(item):
     """The lines on which types have a trait. Private ones are left out."""
-    private = {it for paths in libraries().values() for path in paths for it in re.findall(r"^(?:struct|enum) (\w+)", source(path), re.M)}
+    paths = [path for paths in libraries().values() for path in paths]
+    private = {it for path in paths for it in re.findall(r"^(?:struct|enum) (\w+)", source(path), re.M)}
     by_trait = {}
     for it in implementations()[1].get(item.name, []):
         generics, trait, type_ = parts(it)
@@ -283,20 +245,23 @@ def by_crate():
     """The list of public names by the crate that declares them."""
     lines = []
     for crate in libraries():
-        names = sorted({it.name for its in by_meaning().values() for it in its if it.crate == crate}, key=lambda it: (it.lower(), it))
+        names = {it.name for its in by_meaning().values() for it in its if it.crate == crate}
+        names = sorted(names, key=lambda it: (it.lower(), it))
         if names:
-            lines += textwrap.wrap(f"{crate + ':':19} {' '.join(names)}", WIDTH, subsequent_indent=" " * 20, break_long_words=False)
+            text = f"{crate + ':':19} {' '.join(names)}"
+            lines += textwrap.wrap(text, WIDTH, subsequent_indent=" " * 20, break_long_words=False)
     return "\n".join(lines) + "\n"
 
 
 def calls():
-    """Each public call, as `TYPE::CALL` or as the name of a function, with the names of its type, its file, and the ways in which it can be made: `.` by
-    a value, `::` by a path, or by its name alone."""
+    """Each public call, as `TYPE::CALL` or as the name of a function, with the names of its type, its file, and the ways in which
+    it can be made: `.` by a value, `::` by a path, or by its name alone."""
     for type_, its in by_meaning().items():
         if type_.kind.endswith("fn"):
             yield type_.name, set(), type_.path, {"", "::"}
         for it in [type_] if type_.kind == "trait" else [it for it in implementations()[0].get(type_, []) if not parts(it)[1]]:
-            for found in re.finditer(r"^(?:const )?fn (\w+)(?:<.*?>)?\((&?(?:'\w+ )?(?:mut )?self\b)?", "\n".join(members(it)), re.M):
+            heads = re.compile(r"^(?:const )?fn (\w+)(?:<.*?>)?\((&?(?:'\w+ )?(?:mut )?self\b)?", re.M)
+            for found in heads.finditer("\n".join(members(it))):
                 names = {type_.name, GIVEN_BY.get(type_.name, type_.name), *(it.name for it in its)}
                 yield f"{type_.name}::{found[1]}", names, it.path, {".", "::"} if found[2] else {"::"}
 
@@ -305,7 +270,8 @@ def unnamed(text):
     """The public names and calls that the page's own text doesn't name."""
     prose = re.sub(r"^```.*?^```$", "", text, flags=re.M | re.S)
     words = {word for _, ticked in TICKED.findall(prose) for word in re.findall(r"\w+", ticked)}
-    names = {it.name: it.path for its in by_meaning().values() for it in its} | {call.split("::")[-1]: path for call, _, path, _ in calls()}
+    names = {it.name: it.path for its in by_meaning().values() for it in its}
+    names |= {call.split("::")[-1]: path for call, _, path, _ in calls()}
     for name, path in names.items():
         if name not in words and not TOGETHER.fullmatch(name):
             yield f"docs/CALLS.md doesn't name {name}: {path.relative_to(TOP)}"
@@ -313,7 +279,7 @@ def unnamed(text):
 
 def sources():
     """The files of libraries, programs and tests, each without the functions of programs that no program names a second time."""
-    tests = [*TOP.glob("bench/replay/src/**/*.rt.in"), *TOP.glob("bench/tests/src/**/*.rt.in")]
+    tests = [*TOP.glob("tests/scripts/src/**/*.rt.in"), *TOP.glob("tests/unit/src/**/*.rt.in")]
     crates = {path: path.relative_to(TOP).parts[1] for path in TOP.glob("crates/*/src/**/*.rt")}
     programs = [path for path, crate in crates.items() if crate not in libraries()]
     words = Counter(word for path in [*programs, *tests] for word in re.findall(r"\w+", source(path)))
@@ -328,7 +294,8 @@ def uncalled():
     """The public calls that nothing makes."""
     files = []
     for path, text in sources():
-        made = {(by_value.strip() or before or other, name or named) for by_value, before, name, other, named in CALLED.findall(re.sub(r"\bfn \w+", "", text))}
+        calls_in = CALLED.findall(re.sub(r"\bfn \w+", "", text))
+        made = {(by_value.strip() or before or other, name or named) for by_value, before, name, other, named in calls_in}
         files.append((path.relative_to(TOP).parts[1] in libraries(), made, set(re.findall(r"\w+", text))))
     for call, names, path, ways in calls():
         is_inside = any(fnmatchcase(call, it) for it in INSIDE)
@@ -343,7 +310,8 @@ def uncalled():
 
 def main():
     shown, wrong = set(), []
-    for path, renewed in (LIST, lambda text: LISTED.sub(lambda _: by_crate(), text)), (PAGE, lambda text: with_blocks(text, shown)):
+    listed = lambda text: LISTED.sub(lambda _: by_crate(), text)
+    for path, renewed in (LIST, listed), (PAGE, lambda text: with_blocks(text, shown)):
         text, name = path.read_text(), str(path.relative_to(TOP))
         fresh = renewed(text)
         if "--write" in sys.argv[1:]:
@@ -351,7 +319,8 @@ def main():
         elif fresh != text:
             wrong += difflib.unified_diff(text.split("\n"), fresh.split("\n"), name, "sources", n=0, lineterm="")
             wrong.append(f"{name} differs from the sources (scripts/public.py --write mends it)")
-    wrong += [f"no block of docs/CALLS.md has {it.name}: {it.path.relative_to(TOP)}" for its in by_meaning().values() for it in its if it not in shown]
+    left = [it for its in by_meaning().values() for it in its if it not in shown]
+    wrong += [f"no block of docs/CALLS.md has {it.name}: {it.path.relative_to(TOP)}" for it in left]
     wrong += [] if LISTED.search(LIST.read_text()) else ["docs/ARCHITECTURE.md has no list of public names"]
     wrong += [*unnamed(PAGE.read_text()), *uncalled()]
     print("\n".join(wrong), end="\n" if wrong else "")

@@ -3,22 +3,24 @@
 # 2,000 requests while Prometheus scrapes it each second by prometheus.yml, and compares what both say of its metrics. Then it
 # sends heads that are wrong, cut short or long, and compares when the server ends clients that are slow or many, and how long
 # scrapes beside them take. Prints a line for each comparison. Its last line says whether all is well; its status is then 0, else
-# 1. It is no part of the gate.
+# 1. The gate runs it with --alone and 100 requests.
 #
-#   scripts/try_server.sh [REQUESTS]       at least 100
+#   scripts/try_server.sh [--alone] [REQUESTS]       at least 100; with --alone no Prometheus takes part
 #   scripts/try_server.sh --bodies         plants each body of bodies.md in the server instead, and makes these comparisons, but
 #                                          for those of Prometheus: one must differ. The last line is 'N refused, M not refused',
 #                                          and the status is 0 if M is 0
 #   scripts/try_server.sh --prove          proves the server by `rt ci` instead, and the library under the server's HANDLES
 #
-# The server is compiled with run-time checks by `rt try`, in a scratch folder with copies of the library's crates, and else not
-# proved. Where no `prometheus` is installed, its part is left out with a line that begins with SKIP. All listen on the loopback
-# address alone.
+# The server is compiled with run-time checks (scripts/unproved.py), in a scratch folder with copies of the library's crates, and
+# else not proved. Where no `prometheus` is installed, its part is left out with a line that begins with SKIP. All listen on the
+# loopback address alone.
 set -u
 
 top=$(cd "$(dirname "$0")/.." && pwd) || exit 1
+is_alone=
+[[ ${1:-} == --alone ]] && { is_alone=yes; shift; }
 requests=${1:-2000}
-# How long the server may run: `rt try` ends it then.
+# How long the server may run.
 seconds=600
 example=$top/examples/server
 scratch=$(mktemp -d) || exit 1
@@ -45,21 +47,9 @@ fail() {
     exit 1
 }
 
-# The library's crates and the server's, as a repository of its own, whose files get their true endings.
+# The crates and the server's, as a repository of its own.
 lay_out() {
-    local folder=$1 crate file
-    mkdir -p "$folder/crates"
-    cp "$example/HANDLES" "$folder/"
-    grep -E '^(fm_|fastmetrics)' "$top/crates.txt" |
-        cat - "$example/crates.in" >"$folder/crates.txt"
-    sed 's/[: ].*//' "$folder/crates.txt" | while read -r crate; do
-        [[ -d $top/crates/$crate ]] || continue
-        tar -C "$top/crates" --exclude="$crate/out" -cf - "$crate" | tar -C "$folder/crates" -xf -
-    done
-    (cd "$example" && find . -mindepth 2 -name '*.in') | while read -r file; do
-        install -D -m 644 "$example/$file" "$folder/crates/${file%.in}"
-    done
-    git -C "$folder" init -q
+    "$top/scripts/crates.py" "$scratch/repository" examples/server
 }
 
 # Two ports that are free at this moment.
@@ -82,7 +72,8 @@ wait_for() {
 
 start_server() {
     read -r port its_port < <(free_ports)
-    (cd "$scratch/repository/crates/web_server" && exec rt try --seconds "$seconds" -- "$port") >"$scratch/server" 2>&1 &
+    "$top/scripts/unproved.py" --crates "$scratch/repository" web_server --seconds "$seconds" --arg "$port" \
+        >"$scratch/server" 2>&1 &
     server=$!
     wait_for "$server" "http://127.0.0.1:$port/metrics" || { cat "$scratch/server"; fail "the server didn't start"; }
 }
@@ -119,7 +110,7 @@ try_bodies() {
     local titles title refused=0 missed=0
     mapfile -t titles < <(sed -n 's/^## //p' "$example/bodies.md")
     for title in "${titles[@]}"; do
-        lay_out "$scratch/repository"
+        lay_out
         python3 "$example/plant.py" "$title" "$scratch/repository/crates" || fail "a body can't be planted"
         start_server
         if (try_requests && try_limits) >"$scratch/said" 2>&1; then
@@ -152,7 +143,7 @@ end_server() {
     grep -E '^checked: ' "$scratch/server"
 }
 
-lay_out "$scratch/repository"
+lay_out
 if [[ $requests == --prove ]]; then
     (cd "$scratch/repository" && rt ci web_server) | tail -n 1
     exit "${PIPESTATUS[0]}"
@@ -165,7 +156,9 @@ if [[ $requests == --bodies ]]; then
 fi
 python3 "$example/names.py" || fail "the alerts or the dashboard don't fit the server"
 start_server
-if command -v prometheus >"$scratch/first"; then
+if [[ $is_alone ]]; then
+    echo "no Prometheus takes part"
+elif command -v prometheus >"$scratch/first"; then
     scrapers=prometheus
     start_prometheus
 else

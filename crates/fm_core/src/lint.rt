@@ -39,7 +39,7 @@ static ALL: [Advice; 6] = [
 
 /// What is advised of a family.
 ///
-/// <!-- cut: bench/tests/src/documents/advice.rt.in -->
+/// <!-- cut: tests/unit/src/fastmetrics_lint.rt.in -->
 /// ```rust
 /// let sum = Box::new(alloc, ConstCounter::<u64>::new(1))?;
 /// add(alloc, &mut registry, "sum", "S", sum)?;

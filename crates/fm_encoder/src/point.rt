@@ -44,7 +44,7 @@ mod totals;
 
 /// What emits the points of a member: mostly one, such as the total of a counter.
 ///
-/// <!-- cut: crates/replay_metrics/src/live.rt -->
+/// <!-- cut: tests/scripts/src/metrics/live.rt.in -->
 /// ```rust
 /// impl<H: Wait + Drop> EncodePoint for Live<H> {
 ///     // ..
@@ -72,7 +72,7 @@ pub trait EncodePoint {
 
 /// What a source of points passes them to: it makes their samples, under the labels of one member.
 ///
-/// <!-- cut: bench/replay/src/own/point.rt.in -->
+/// <!-- cut: tests/scripts/src/own/point.rt.in -->
 /// ```rust
 /// Content::Gauge(value) => encoder.encode_gauge(value),
 /// Content::Unknown(value) => encoder.encode_unknown(value),

@@ -48,7 +48,7 @@ impl<M, F: Fn() -> Result<M, MetricError>> MetricFactory<M> for F {
 
 /// Makes metrics by `try_default`. It keeps the arguments of that: a `Wait` handle and the allocator.
 ///
-/// <!-- cut: bench/tests/src/metrics/keys.rt.in -->
+/// <!-- cut: tests/unit/src/fm_family_label_sets.rt.in -->
 /// ```rust
 /// type Counters<S> = Family<Path, Counter, DefaultFactory<Counter, HostRuntime>, S, HostRuntime>;
 /// // ..

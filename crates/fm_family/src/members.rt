@@ -35,7 +35,7 @@ use std::marker::Model;
 ///
 /// By statuses, with a function `add` that calls `get_or_new` for each:
 ///
-/// <!-- cut: bench/tests/src/documents/direct.rt.in -->
+/// <!-- cut: tests/unit/src/fm_labels_values.rt.in -->
 /// ```rust
 /// type Members = FamilyCore<Status, ConstGauge<i64>, BuildHasherDefault<FoldHasher>>;
 /// // ..

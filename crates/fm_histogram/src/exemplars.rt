@@ -134,7 +134,7 @@ struct Shared {
 ///
 /// A call that observes or encodes waits while another thread has the lock. Making one, cloning and encoding take memory.
 ///
-/// <!-- cut: bench/tests/src/documents/own.rt.in -->
+/// <!-- cut: tests/unit/src/fastmetrics_own_types.rt.in -->
 /// ```rust
 /// type Own = OneOf<ExemplarCounter<HostRuntime>, OneOf<ExemplarHistogram<HostRuntime>, Unknown<i64>>>;
 /// // ..

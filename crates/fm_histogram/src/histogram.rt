@@ -68,7 +68,7 @@ pub type Histogram<H> = HistogramOf<NotNegative, H>;
 /// A call that observes, reads or encodes waits while another thread has the lock. Making one, cloning and encoding take
 /// memory.
 ///
-/// <!-- cut: crates/replay_metrics/src/histograms.rt -->
+/// <!-- cut: tests/scripts/src/metrics/histograms.rt.in -->
 /// ```rust
 /// pub fn make_gauge_histogram<H: Wait + Drop>(
 ///     wait: H,

@@ -50,7 +50,7 @@ pub type HistogramSnapshot = SnapshotOf<NotNegative>;
 /// How many observed values lie in each bucket, how many there are, and their sum.
 /// Negative values and bounds are taken too. Cloning takes memory.
 ///
-/// <!-- cut: crates/replay_metrics/src/histograms.rt -->
+/// <!-- cut: tests/scripts/src/metrics/histograms.rt.in -->
 /// ```rust
 /// pub fn show_gauge_histogram<H: Wait + Drop>(
 ///     histogram: &GaugeHistogram<H>,

@@ -15,7 +15,7 @@ use thiserror::Error;
 ///
 /// By a clock that tells two times and then fails:
 ///
-/// <!-- cut: bench/tests/src/metrics/timers.rt.in -->
+/// <!-- cut: tests/unit/src/fm_histogram_timers.rt.in -->
 /// ```rust
 /// let clock = Told::new([1, 2]);
 /// let first = histogram.start_timer(&clock)?;
@@ -40,7 +40,7 @@ pub enum TimerError {
 ///
 /// By a clock that tells a quarter of a second more each time:
 ///
-/// <!-- cut: bench/tests/src/metrics/timers.rt.in -->
+/// <!-- cut: tests/unit/src/fm_histogram_timers.rt.in -->
 /// ```rust
 /// let clock = Quarters::new();
 /// let timer = histogram.start_timer(&clock)?;

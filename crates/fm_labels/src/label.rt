@@ -75,7 +75,7 @@ pub trait EncodeLabelValue {
 
 /// A source of a label.
 ///
-/// <!-- cut: bench/replay/src/own/labels.rt.in -->
+/// <!-- cut: tests/scripts/src/own/labels.rt.in -->
 /// ```rust
 /// for piece in &self.pieces {
 ///     match piece {
@@ -101,7 +101,7 @@ pub trait EncodeLabel {
 
 /// Gathers the pieces of one label, which follows the labels before it.
 ///
-/// <!-- cut: bench/tests/src/documents/direct.rt.in -->
+/// <!-- cut: tests/unit/src/fm_labels_values.rt.in -->
 /// ```rust
 /// 9 => encoder.encode_u64_value(u64::MAX),
 /// 10 => encoder.encode_u128_value(u128::MAX),
@@ -224,7 +224,7 @@ impl LabelEncoder {
 
 /// Gathers the labels of a label set.
 ///
-/// <!-- cut: bench/replay/src/own/labels.rt.in -->
+/// <!-- cut: tests/scripts/src/own/labels.rt.in -->
 /// ```rust
 /// for label in &self.labels {
 ///     encoder.encode(label)?;

@@ -12,7 +12,7 @@ use fm_raw::fixed::{Fixed, FixedBuffer, FixedSum};
 
 /// Borrows a text as a name or a value of a label.
 ///
-/// <!-- cut: bench/tests/src/metrics/keys.rt.in -->
+/// <!-- cut: tests/unit/src/fm_family_label_sets.rt.in -->
 /// ```rust
 /// fn encode(&self, encoder: &mut LabelSetEncoder) -> Result<(), EncodeError> {
 ///     encoder.encode(&(LabelStr("path"), &self.path))

@@ -71,7 +71,7 @@ fn text_of(value: &[u8]) -> &str
 
 /// Values of labels, in the order of their names.
 ///
-/// <!-- cut: bench/tests/src/documents/named.rt.in -->
+/// <!-- cut: tests/unit/src/fm_family_by_label_names.rt.in -->
 /// ```rust
 /// let load = root.gauges("load", "H", &["host", "core"])?;
 /// // ..

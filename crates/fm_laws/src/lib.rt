@@ -1,6 +1,6 @@
 //! Laws: functions that do nothing and whose contracts are theorems. A function has a theorem where it calls its law.
 //!
-//! <!-- cut: bench/tests/src/metrics/laws.rt.in -->
+//! <!-- cut: tests/unit/src/fm_laws_calls.rt.in -->
 //! ```rust
 //! laws::counts_add_up();
 //! laws::merging_is_lawful();

@@ -24,7 +24,7 @@ use std::time::Duration;
 /// The total is that of [`Counter`]. The exemplar is under a lock: passing one and encoding wait while another thread has it. Making
 /// one and cloning it take memory.
 ///
-/// <!-- cut: bench/tests/src/documents/own.rt.in -->
+/// <!-- cut: tests/unit/src/fastmetrics_own_types.rt.in -->
 /// ```rust
 /// let mut root = Root::<_, ExemplarCounter<_>>::built(Registry::builder(), rt)?;
 /// let routes: ExemplarCounter<HostRuntime> = root.own("routes", "H")?;

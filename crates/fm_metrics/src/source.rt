@@ -170,7 +170,7 @@ impl<N: EncodeGaugeValue + Send + Sync + Drop, R: NumberSource<N> + Send + Sync 
 /// The source is asked as that of a `SourceGauge` is, and tells a `u32`, `u64`, `usize` or `Fixed`. The source itself has to
 /// see to it that the total is not negative and never falls: nothing tests it.
 ///
-/// <!-- cut: bench/tests/src/documents/sources.rt.in -->
+/// <!-- cut: tests/unit/src/fm_metrics_sources.rt.in -->
 /// ```rust
 /// let hits = Arc::new(alloc, AtomicU64::new(3))?;
 /// let registry = registry_of(alloc, "hits", SourceCounter::new(hits.clone()?))?;

@@ -262,7 +262,7 @@ impl<T: StateSetValue + 'static> EncodeMetric for StateSet<T> {
 
 /// A state set that keeps the state it was made with.
 ///
-/// <!-- cut: crates/replay_metrics/src/const_states.rt -->
+/// <!-- cut: tests/scripts/src/metrics/const_states.rt.in -->
 /// ```rust
 /// fn states<T: StateSetValue + Named + 'static>(
 ///     alloc: Global,

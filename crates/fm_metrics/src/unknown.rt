@@ -13,7 +13,7 @@ use std::time::Duration;
 ///
 /// `T` is `i32`, `i64`, `isize`, `u32` or `Fixed`.
 ///
-/// <!-- cut: crates/replay_metrics/src/constant.rt -->
+/// <!-- cut: tests/scripts/src/metrics/constant.rt.in -->
 /// ```rust
 /// fn unknown<N: Told + UnknownValue>(line: &Line) -> Result<Unknown<N>, Stop> {
 ///     Ok(Unknown::new(N::read(line.argument(0)?)?))

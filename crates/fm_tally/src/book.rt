@@ -10,7 +10,7 @@ use std::marker::Model;
 
 /// What a caller of a tally does.
 ///
-/// <!-- cut: bench/replay/src/tallies.rt.in -->
+/// <!-- cut: tests/scripts/src/tallies.rt.in -->
 /// ```rust
 /// Some(("read", who)) => Ok(Event::Read { who: whole(who)? }),
 /// Some((who, number)) => Ok(Event::Add {
@@ -28,7 +28,7 @@ pub enum Event {
 
 /// What a tally replies to an event.
 ///
-/// <!-- cut: bench/replay/src/tallies.rt.in -->
+/// <!-- cut: tests/scripts/src/tallies.rt.in -->
 /// ```rust
 /// let told = match reply {
 ///     Reply::Added => String::from_str(alloc, "added ")?,
@@ -48,7 +48,7 @@ pub enum Reply {
 
 /// The sum of the values that were added so far. It never passes 2^64 - 1.
 ///
-/// <!-- cut: bench/tests/src/metrics/tallies.rt.in -->
+/// <!-- cut: tests/unit/src/fm_tally_book.rt.in -->
 /// ```rust
 /// let events = vec![in alloc; Event::Add { who: 0, v: 1 }; 70_000]?;
 /// let mut book = Book::new();

@@ -5,7 +5,7 @@ ghost use Rattle.std.specs.Prelude.{◌≡◌, ℕ, false};
 ///
 /// A gate that refuses all pieces from one on:
 ///
-/// <!-- cut: bench/tests/src/metrics/pieces.rt.in -->
+/// <!-- cut: tests/unit/src/fm_tally_observe_all.rt.in -->
 /// ```rust
 /// impl Gate for RefusesFrom {
 ///     // ..
@@ -26,7 +26,7 @@ pub trait Gate: Sync {
 
 /// A gate that lets every piece through.
 ///
-/// <!-- cut: bench/replay/src/tallies.rt.in -->
+/// <!-- cut: tests/scripts/src/tallies.rt.in -->
 /// ```rust
 /// let bounds = bounds_of(alloc, line.word(1))?;
 /// let pieces = pieces_of(alloc, line.word(2))?;

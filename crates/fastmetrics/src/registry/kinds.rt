@@ -39,7 +39,7 @@ use std::time::Duration;
 ///
 /// It declares and offers what the metric in it does.
 ///
-/// <!-- cut: crates/replay/src/world.rt -->
+/// <!-- cut: tests/scripts/src/world.rt.in -->
 /// ```rust
 /// let metric = Metric::Own(own);
 /// match unit_of(self.alloc, line.word(5)) {

@@ -7,7 +7,7 @@ use fm_raw::Metadata;
 
 /// A metric as a collector receives it: with its metadata, and with the namespace and the labels of its registry.
 ///
-/// <!-- cut: bench/tests/src/documents/listing.rt.in -->
+/// <!-- cut: tests/unit/src/fm_core_registry_listing.rt.in -->
 /// ```rust
 /// listed.namespace == Some("db")
 ///     && (key.as_str(), value.as_str()) == ("k", "v")

@@ -18,7 +18,7 @@ use std::marker::Model;
 /// Labels that an exemplar may have: their names are valid and different, and names and values together have at most 128
 /// code points. No encoder refuses them as those of an exemplar.
 ///
-/// <!-- cut: bench/replay/src/traced.rt.in -->
+/// <!-- cut: tests/scripts/src/traced.rt.in -->
 /// ```rust
 /// Ok(LabeledExemplar {
 ///     labels: ExemplarLabels::new(alloc, labels)?,

@@ -30,7 +30,7 @@ pub type CounterVec<H> = VecOf<Counter<u64>, H>;
 
 /// Counters of millionths with the same label names.
 ///
-/// <!-- cut: bench/tests/src/documents/named.rt.in -->
+/// <!-- cut: tests/unit/src/fm_family_by_label_names.rt.in -->
 /// ```rust
 /// let starts = root.fixed_counters_with(
 ///     Description::new("starts", "H")
@@ -46,7 +46,7 @@ pub type FixedCounterVec<H> = VecOf<Counter<Fixed>, H>;
 
 /// Gauges of whole numbers with the same label names.
 ///
-/// <!-- cut: bench/tests/src/documents/named.rt.in -->
+/// <!-- cut: tests/unit/src/fm_family_by_label_names.rt.in -->
 /// ```rust
 /// let load = root.gauges("load", "H", &["host", "core"])?;
 /// // ..

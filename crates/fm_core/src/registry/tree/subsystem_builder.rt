@@ -21,7 +21,7 @@ use fm_registry_rules::labels::tested_labels;
 
 /// Sets up a subsystem of a registry. It borrows the registry until the subsystem is built.
 ///
-/// <!-- cut: bench/replay/src/boxes.rt.in -->
+/// <!-- cut: tests/scripts/src/boxes.rt.in -->
 /// ```rust
 /// self.registry
 ///     .subsystem_builder(name)?

@@ -1,2 +1,0 @@
-pub mod AnyMembers
-pub mod SameLabels
