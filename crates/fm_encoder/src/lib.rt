@@ -14,7 +14,7 @@ pub mod collector {
     //! What the collector and families call, and no metric.
     pub use crate::metric::collector::{
         begin_family, encode_member, enter, for_lines, for_samples, into_sink, outcome,
-        take_samples,
+        take_samples, type_of,
     };
     pub use fm_labels::WrittenLabels;
 }

@@ -295,10 +295,3 @@ impl MetricEncoder {
         self.points.time()
     }
 }
-
-/// The type that a boxed metric declares.
-pub fn type_of(metric: &Box<dyn EncodeMetric>) -> MetricType
-    ensures { types metric.now result }
-{
-    metric.metric_type()
-}

@@ -8,7 +8,7 @@ ghost use Rattle.fm_core.specs.Locked.{RegistersLocked};
 
 use crate::registry::{MetricType, Registry, RegistryError, Unit};
 use fm_encoder::EncodeMetric;
-use fm_encoder::metric::type_of;
+use fm_encoder::collector::type_of;
 use std::alloc::Global;
 use std::marker::Model;
 use std::sync::atomic::AtomicBool;

@@ -171,3 +171,10 @@ pub fn into_sink(encoder: MetricEncoder) -> Sink
 {
     encoder.into_points().into_sink()
 }
+
+/// The type that a boxed metric declares.
+pub fn type_of(metric: &Box<dyn EncodeMetric>) -> MetricType
+    ensures { types metric.now result }
+{
+    metric.metric_type()
+}
