@@ -42,9 +42,11 @@ TOGETHER = re.compile(r"\w+_with_unit|\w*(counter|gauge|histogram)s?_with|encode
 # Made by the library itself, so that tests see what they do by what calls them: by `collect`, `encode` and families, by roots,
 # and by `find_bucket` and `observe_all`.
 INSIDE = """
-    Collected::names Collector::* Holds::* Made::* MetricFamilyEncoder::* Encode*Value::encode EncodeLabelName::encode
+    Collected::names Collector::* Holds::* Made::* Encode*Value::encode EncodeLabelName::encode
     ValueEncoder::* LabelSetEncoder::encode_named StateSetValue::* ExemplarLabels::are_taken Probe::* Gate::*
 """.split()
+# What no program can call, since none can get the value, and what the library calls in another form: a listed metric.
+NEVER = {"MetricFamilyEncoder::encode"}
 # What stands for the name of a type where its calls are made: the call that gives one.
 GIVEN_BY = {"RegistryBuilder": "builder", "RegistrySubsystemBuilder": "subsystem_builder", "Subsystem": "subsystem"}
 
@@ -301,7 +303,7 @@ def uncalled():
         is_inside = any(fnmatchcase(call, it) for it in INSIDE)
         forms = {(way, call.split("::")[-1]) for way in ways}
         makers = [words for is_library, made, words in files if forms & made and (is_inside or not is_library)]
-        if not any(not names or names & words for words in makers):
+        if call not in NEVER and not any(not names or names & words for words in makers):
             yield f"no test and no program calls {call}: {path.relative_to(TOP)}"
     for it in INSIDE:
         if not any(fnmatchcase(call, it) for call, _, _, _ in calls()):

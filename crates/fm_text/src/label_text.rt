@@ -88,7 +88,8 @@ fn push_span(
 {
     match (name, value) {
         (Some(name), Some(value)) => {
-            // The numbers are not copied as a pair: one load of both would wait for the stores of each.
+            // A part ends where it starts, or later, so `max` changes nothing. It keeps the numbers from being copied as a pair: one load
+            // of both would wait for the stores of each.
             let value = Part {
                 start: value.start,
                 end: value.end.max(value.start),
@@ -100,8 +101,7 @@ fn push_span(
     }
 }
 
-// Whether a text that is the labels' list, with these parts of the current label, is still that list after a further name.
-// Then it may also take further labels.
+// Whether a text that is the labels' list stays so after a further name: no part of the current label is there yet.
 fn may_take_name(is_listed: bool, name: Option<Part>, value: Option<Part>) -> bool
     ensures { IsTrue result → (is_listed ≡ true) × (name ≡ None) × (value ≡ None) }
 {

@@ -40,7 +40,7 @@ fn str_at(text: &[u8], part: Part) -> &str
     }
 }
 
-// Whether one of the labels has this name.
+// Whether the label at this span has this name.
 fn is_named(text: &[u8], span: &LabelSpan, name: &[u8]) -> bool
     requires { IsSpan text.now span.now }
     ensures { IsTrue result ↔ ((label_in text.now span.now).name ≡ name.now) }
