@@ -1,4 +1,5 @@
-//! A server's metrics, some twenty families, with two workers that count, and a scrape in memory. It has no clause and no proof.
+//! A server's metrics, some twenty families, with two workers that count, one of which scrapes too, and a scrape in memory; and
+//! plugins that register by themselves in a root under a lock. It has no clause and no proof.
 #![tactic(auto)]
 
 use fastmetrics::metrics::counter::Counter;
@@ -14,7 +15,7 @@ use fastmetrics::registry::{Description, Registry, RegistryError, Root, Waiter};
 use std::io::Write;
 use std::sync::atomic::AtomicI64;
 use std::sync::atomic::Ordering::SeqCst;
-use std::sync::{Arc, Wait};
+use std::sync::{Arc, Mutex, Wait};
 use std::thread;
 use std::thread::Threads;
 
@@ -123,12 +124,41 @@ fn run_job<H: Waiter>(server: &Server<H>) -> Result<(), MetricError> {
     Ok(())
 }
 
-// Counts by two workers. It stands apart, since the check proves that `join` may send what it is passed only where little else is
-// known of it.
-fn run<R: Threads + Waiter>(rt: &R, server: &Server<R>) -> Result<(), MetricError> {
-    let (served, done) = thread::join(rt, || serve(server), || run_job(server));
+// What is counted of one job, and a scrape while the other worker counts.
+fn run_job_and_scrape<H: Waiter>(root: &Root<H, Own>, server: &Server<H>) -> anyhow::Result<()> {
+    run_job(server)?;
+    root.document()?;
+    Ok(())
+}
+
+// Counts by two workers. It stands apart, and the root comes by itself: the check proves that `join` may send what it is passed only
+// where little else is known of it, and where the root is no part of a larger value.
+fn run<R: Threads + Waiter>(rt: &R, root: &Root<R, Own>, server: &Server<R>) -> anyhow::Result<()> {
+    let (served, done) = thread::join(rt, || serve(server), || run_job_and_scrape(root, server));
     served?;
     done
+}
+
+// Registers the metric of a plugin.
+fn load_plugin<R: Waiter>(
+    rt: &R,
+    root: &Mutex<Root<R>>,
+    name: &'static str,
+) -> Result<Counter, RegistryError> {
+    root.lock(rt).counter(name, "Calls of a plugin")
+}
+
+// Loads plugins by two threads, which share the root under a lock.
+fn load_plugins<R: Threads + Waiter>(
+    rt: &R,
+    root: &Mutex<Root<R>>,
+) -> Result<(Counter, Counter), RegistryError> {
+    let (maps, mail) = thread::join(
+        rt,
+        || load_plugin(rt, root, "maps"),
+        || load_plugin(rt, root, "mail"),
+    );
+    Ok((maps?, mail?))
 }
 
 // The document, without what the process tells, which is another at each run.
@@ -160,7 +190,10 @@ fn main(rt: HostRuntime) -> anyhow::Result<()> {
 
     queues.mail.store(3, SeqCst);
     load.set(Fixed::from_millionths(500_000));
-    run(&rt, &server)?;
+    run(&rt, &root, &server)?;
+    let plugins = Mutex::new(Root::new(rt)?);
+    let (maps, mail) = load_plugins(&rt, &plugins)?;
+    maps.inc_by(mail.inc())?;
     process.read(&rt)?;
     rt.stdout().write_all(scrape(&root)?.as_bytes())?;
     Ok(())
