@@ -10,7 +10,7 @@ use Rattle.fm_encoder.specs.declared.metric.EncodeMetric.{Ghosts}
 use Rattle.fm_core.specs.View.{seen_metric}
 use Rattle.fm_core.specs.Admits.{AdmitsNext, FaultOf}
 
--- the namespace and the labels of the current registry, the families so far, or their lines if it keeps no families, and the refusal
+-- the namespace and the labels of the current registry, the families so far or, where none are kept, their lines, and the refusal
 pub record GatheredFamilies : Type 0 where
   pub namespace : Option Text
   pub labels : Labels
