@@ -12,13 +12,13 @@ ghost use Rattle.fm_labels.specs.WrittenLabels.{AreWritten};
 ghost use Rattle.fm_encoder.specs.Emits.{MembersOf};
 ghost use Rattle.fm_encoder.specs.Takes.{TakesMembers};
 
-use crate::metric::MetricEncoder;
+use crate::metric::{EncodeMetric, MetricEncoder};
 use crate::point::{EncodePoint, PointEncoder};
 use fm_exposition::SampleStore;
 use fm_labels::collecting::constants::ConstantLabels;
 use fm_labels::collecting::written::WrittenLabels;
 use fm_labels::label_set::EncodeLabelSet;
-use fm_raw::EncodeError;
+use fm_raw::{EncodeError, MetricType};
 use fm_writer::{FamilyHead, Sink, TextBlocks};
 use std::alloc::{AllocError, Global};
 
