@@ -1,13 +1,13 @@
 #!/usr/bin/env python3
-"""Compares README.md, CONTRIBUTING.md and docs/*.md with the files that they quote and name, and doc comments with those that they
-quote.
+"""Compares README.md, CONTRIBUTING.md and docs/*.md with the files that they quote and name, and doc comments with those that
+they quote.
 
     scripts/pages.py [--write]
 
 - The fenced block after a line `<!-- cut: FILE -->` is that file, whole; after a line `<!-- cut: FILE | FIRST | LAST -->` it is
   the part from the line that begins with FIRST to the next one that ends with LAST, without the indentation of its first line; a
-  LAST of `}` is one that stands no deeper than that first line. Each block of Rattle is such a one, or one after a line `<!--
-  calls: .. -->`, which scripts/public.py compares. --write puts the files' text there.
+  LAST of `}` is one that stands no deeper than that first line. Each block of Rattle is such a one. --write puts the files' text
+  there.
 - Each link has its file, and each `docs/NAME.md`, also outside of backticks. In backticks each path is there, which has a `/` and
   an ending, or begins with a folder of the repository or with a crate's name; it may begin at the top, in crates/ or in some
   crate, and a file of definitions may be without its ending. So is each crate, `fm_..`, and each call, a word before a
@@ -28,7 +28,7 @@ from sources import TICKED, TOP
 FOLDERS = sorted(it.name for it in TOP.iterdir() if it.is_dir() and it.name != ".git")
 CRATES = {it.name for part in ("crates", "bench", "tests") for it in (TOP / part).iterdir() if it.is_dir()}
 FENCED = re.compile(r"^```.*?^```$", re.M | re.S)
-QUOTED = re.compile(r"^(?:<!-- (cut|calls): ([^\n]*) -->\n)?(```)(\w*)\n(.*?)^```$", re.M | re.S)
+QUOTED = re.compile(r"^(?:<!-- cut: ([^\n]*) -->\n)?```(\w*)\n(.*?)^```$", re.M | re.S)
 LINK = re.compile(r"\[[^\]]*\]\(([^)\s]+)\)")
 PAGE = re.compile(r"\bdocs/\w+\.md\b")
 CALL = re.compile(r"\b(\w+)(?=\()")
@@ -63,11 +63,11 @@ def cut_again(text):
     """A page with its blocks as they should be."""
 
     def renewed(found):
-        kind, cut, ticks, language, _ = found.groups()
-        if kind == "cut":
-            return f"<!-- cut: {cut} -->\n{ticks}{language}\n" + "".join(f"{line}\n" for line in part_of(cut)) + ticks
-        if kind is None and language == "rust":
-            raise ValueError(f"a block is cut from no file: {found[5][:40]!r}")
+        cut, language, text = found.groups()
+        if cut:
+            return "\n".join([f"<!-- cut: {cut} -->", f"```{language}", *part_of(cut), "```"])
+        if language == "rust":
+            raise ValueError(f"a block is cut from no file: {text[:40]!r}")
         return found[0]
 
     return QUOTED.sub(renewed, text)
@@ -75,10 +75,8 @@ def cut_again(text):
 
 def declared():
     """What the crates' sources declare, with the variants of enums."""
-    found = set(FOREIGN)
-    for path in TOP.glob("crates/*/src/**/*.rt"):
-        found |= {first or second for first, second in DECLARED.findall(path.read_text())}
-    return found
+    texts = (path.read_text() for path in TOP.glob("crates/*/src/**/*.rt"))
+    return FOREIGN | {first or second for text in texts for first, second in DECLARED.findall(text)}
 
 
 def is_path(word):
@@ -130,44 +128,28 @@ def faults_of(page, calls):
     yield from (f"{name}, line {i}: more than {WIDTH} columns" for i, line in enumerate(text.split("\n"), 1) if len(line) > WIDTH)
 
 
-def examples_in(source):
-    """The blocks of code in the doc comments of a source: where each begins, its language, its file, and its lines."""
-    file, block = "", None
-    for number, line in enumerate(source.read_text().split("\n"), 1):
-        comment = re.match(r" *//[/!] ?(.*)$", line)
-        text = comment[1].strip() if comment else ""
-        if block and (not comment or text == "```"):
-            yield block
-            file, block = "", None
-        elif block:
-            block[3].append(text)
-        elif text.startswith("```"):
-            block = (number, text[3:], file, [])
-        else:
-            cut = re.match(r"<!-- cut: (.*) -->$", text)
-            file = cut[1] if cut else ""
-
-
-def is_example(lines, file):
+def is_example(example, file):
     """Whether the lines of an example stand in a file."""
-    place, pieces = 0, "\n".join("" if it == "// .." else it for it in lines).strip("\n").split("\n\n")
-    for piece in (it.strip("\n").split("\n") for it in pieces if it.strip("\n")):
-        ends = (at + len(piece) for at in range(place, len(file) - len(piece) + 1) if file[at : at + len(piece)] == piece)
-        place = next(ends, None)
-        if place is None:
-            return False
-    return place > 0
+    pieces = [it.strip("\n") for it in re.split(r"\n\n|^// \.\.$", example, flags=re.M) if it.strip("\n")]
+    rest = "\n" + re.sub(r"^ +| +$", "", file, flags=re.M) + "\n"
+    for piece in pieces:
+        rest = "\n" + rest.partition(f"\n{piece}\n")[2] if f"\n{piece}\n" in rest else ""
+    return bool(pieces and rest)
 
 
 def faults_of_examples(source):
     """What is wrong with the examples in the doc comments of a source."""
-    for number, language, name, lines in examples_in(source):
-        here = f"{source.relative_to(TOP)}, line {number}"
+    comments = (re.match(r" *//[/!] ?(.*)$", line) for line in source.read_text().split("\n"))
+    text = "\n".join(comment[1].strip() if comment else "" for comment in comments)
+    for found in QUOTED.finditer(text):
+        name, language, example = found.groups()
+        here = f"{source.relative_to(TOP)}, line {text.count(chr(10), 0, found.start()) + 1}"
+        is_file = bool(name) and (TOP / name).is_file()
         if not language:
             yield f"{here}: a block says in which language it is"
-        elif language == "rust" and not (name and (TOP / name).is_file()):
+        elif language == "rust" and not is_file:
             yield f"{here}: the example is cut from no file"
-        elif language == "rust" and not is_example(lines, [it.strip() for it in (TOP / name).read_text().split("\n")]):
+        elif language == "rust" and not is_example(example, (TOP / name).read_text()):
             yield f"{here}: {name} has not these lines, or not next to each other"
 
 

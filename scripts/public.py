@@ -1,22 +1,20 @@
 #!/usr/bin/env python3
-"""Compares what two pages have of the library's public names and calls with the sources, or writes it, and finds public calls
-that nothing makes.
+"""Compares docs/public_api.txt with the sources, or writes it, and finds public calls that docs/CALLS.md doesn't name, or that
+nothing makes.
 
     scripts/public.py [--write]
 
 A name is public if `fastmetrics` has it, by itself or in a module that it re-exports. A public call is a public function, a `pub
 fn` of a public type, or a function of a public trait. Looked at are
 
-- the list of public names in docs/ARCHITECTURE.md, by the crate that declares them;
-- the blocks of docs/CALLS.md, each after a line `<!-- calls: MODULE .. -->`: the `use` lines of these modules of `fastmetrics`,
-  and the signatures of what they have. A name that several modules have stands in the first block alone. The block of `std` has
-  the `use` lines of its names in all others;
-- the text of docs/CALLS.md, which names each public name and call; one is enough of those with a unit, with a description, and
-  for each whole number;
+- docs/public_api.txt, which --write renews: of each module its names by the crate that declares them, and the signatures of what
+  they have, which stand in the first module of those that have the name;
+- the words of docs/CALLS.md: they name each public name and call, of those with a unit, with a description, and for each whole
+  number one. What they have in backticks stands in docs/public_api.txt;
 - the tests, the programs without their functions that nothing calls, and the one that replays scripts: one of their files makes
   each public call, and names its type.
 
---write renews the list and the blocks. Prints a line for each difference; the status is 0 if there is none.
+Prints a line for each difference; the status is 0 if there is none.
 """
 import difflib
 import re
@@ -28,12 +26,14 @@ from functools import cache
 
 from sources import END, KINDS, TICKED, TOP, items, joined, libraries, source
 
-LIST, PAGE = TOP / "docs/ARCHITECTURE.md", TOP / "docs/CALLS.md"
-LISTED = re.compile(r"(?<=Every public name stands in the crate that declares it:\n\n```text\n).*?(?=```\n)", re.S)
-BLOCK = re.compile(r"(?<=^<!-- calls: )([\w: ]+)( -->\n```rust\n)(.*?)(?=^```\n)", re.M | re.S)
-WIDTH = 130
-
-# Traits that a block shows at each type that has them.
+LISTING, PAGE = TOP / "docs/public_api.txt", TOP / "docs/CALLS.md"
+# The head of the listing.
+HEAD = """\
+// The public names of fastmetrics, by module and the crate that declares them, and their signatures. scripts/public.py --write
+// writes this file; docs/CALLS.md says what the calls do. In a trait `{ .. }` marks a function that is given. A type without a
+// `use` line, such as `HistogramOf`, can't be named.
+"""
+# Traits of std that stand at each type that has them.
 TRAITS = {"TryDefault", "Default", "Iterator", "Deref"}
 # Functions for other crates of the library that stand beside public ones.
 HIDDEN = {"encode_all", "encode_written", "whole_millis"}
@@ -45,17 +45,25 @@ INSIDE = """
     Collected::names Collector::* Holds::* Made::* Encode*Value::encode EncodeLabelName::encode
     ValueEncoder::* LabelSetEncoder::encode_named StateSetValue::* ExemplarLabels::are_taken Probe::* Gate::*
 """.split()
+# What the words of docs/CALLS.md have from elsewhere: from std, and from definitions.
+FOREIGN = {"None", "as_slice", "default", "proc", "HasHistory", "is_document"}
 # What no program can call, since none can get the value, and what the library calls in another form: a listed metric.
 NEVER = {"MetricFamilyEncoder::encode"}
 # What stands for the name of a type where its calls are made: the call that gives one.
 GIVEN_BY = {"RegistryBuilder": "builder", "RegistrySubsystemBuilder": "subsystem_builder", "Subsystem": "subsystem"}
 
 REEXPORT = re.compile(r"^ *pub use (\w+)((?:::\w+)*)(?:::\{([^}]*)\})?(?: as (\w+))?;", re.M)
+HEAD_OF_CALL = re.compile(r"^(?:const )?fn (\w+)(?:<.*?>)?\((&?(?:'\w+ )?(?:mut )?self\b)?", re.M)
+# Where a line of the listing is cut.
+LONG = re.compile(r"(?=.{119})(.{40,115}(?:[,{]|(?= ->))) ")
 OF_STD = re.compile(r"^use (std(?:::[a-z_]+)*)::(?:\{([^}]*)\}|(\w+));", re.M)
 # A call by a value, by a path, and by the name alone.
 CALLED = re.compile(r"(\.\s*)?(::)?\b(\w+)(?:::<[^()]*?>)?\s*\(|(::)(\w+)\b")
-# What stays in one line where a signature is wrapped.
-WHOLE = re.compile(r"<[^<>:]*>|\[[^\[\]]*\]|\w \{ [^{}]{,60} \}|'\w+ |\w: |-> |mut |for |dyn ")
+
+# The files of the libraries, and the types that these keep to themselves.
+TEXT = "".join(source(path) for paths in libraries().values() for path in paths)
+PRIVATE = set(re.findall(r"^(?:struct|enum) (\w+)", TEXT, re.M))
+
 
 def reexported(crate, text):
     """Each name that a text re-exports, with its crate and its name there, which is empty for a crate."""
@@ -119,31 +127,24 @@ def by_meaning():
     return found
 
 
+@cache
 def parts(item):
-    """The generic parameters, the trait and the type of an `impl`."""
-    text, depth = item.head.removeprefix("impl"), 0
-    for at, sign in enumerate(text):
-        depth += (sign == "<") - (sign == ">" and text[at - 1] != "-")
-        if depth == 0:
-            break
-    trait, _, type_ = text[at + 1 :].strip().rpartition(" for ")
-    return text[: at + 1], trait, type_
-
-
-def first_word(text):
-    return re.match(r"\W*(\w*)", text)[1]
+    """The name of the trait, which may be empty, and of the type of an `impl`."""
+    head = item.head.removeprefix("impl").replace("->", "")
+    while "<" in head:
+        head = re.sub(r"<[^<>]*>", "", head)
+    trait, _, type_ = head.rpartition(" for ")
+    return [re.match(r"\W*(\w*)", it)[1] for it in (trait, type_)]
 
 
 @cache
 def implementations():
-    """The `impl` blocks of each type, those beside its declaration first, and those of each trait, by its name."""
-    of_types, of_traits = {}, {}
+    """The `impl` blocks of each type, those beside its declaration first."""
+    found = {}
     for item in (it for it in items() if it.kind == "impl"):
-        _, trait, type_ = parts(item)
-        its = declaration(item.crate, first_word(type_))
-        of_types.setdefault(its and meant(its), []).append(item)
-        of_traits.setdefault(first_word(trait), []).append(item)
-    return {it: sorted(found, key=lambda other: not it or other.path != it.path) for it, found in of_types.items()}, of_traits
+        its = declaration(item.crate, parts(item)[1])
+        found.setdefault(its and meant(its), []).append(item)
+    return {it: sorted(its, key=lambda other: not it or other.path != it.path) for it, its in found.items()}
 
 
 def members(item):
@@ -163,96 +164,51 @@ def declared_as(item):
     return item.head + (f" {{ {', '.join(map(joined, fields))} }}" if fields else "")
 
 
-def of_trait(item):
-    """The lines on which types have a trait. Private ones are left out."""
-    paths = [path for paths in libraries().values() for path in paths]
-    private = {it for path in paths for it in re.findall(r"^(?:struct|enum) (\w+)", source(path), re.M)}
-    by_trait = {}
-    for it in implementations()[1].get(item.name, []):
-        generics, trait, type_ = parts(it)
-        if re.search(rf"[<,] ?{re.escape(type_)}[:,>]", generics):
-            yield it.head
-        elif first_word(type_) not in private:
-            by_trait.setdefault(trait, []).append(type_)
-    for trait, types in by_trait.items():
-        if len(types) > 1 or "<" not in trait:
-            yield f"impl {trait} for {', '.join(types)}"
-
-
 def group(type_, its):
     """The lines of declarations that mean the same type, and of what it has, if its declaration is among them or has no path."""
-    heads = {}
-    for it in implementations()[0].get(type_, []) if type_ in its or type_ not in by_meaning()[type_] else []:
-        trait, found = parts(it)[1], list(members(it))
-        if first_word(trait) in TRAITS or found and not trait:
-            heads.setdefault(it.head, []).extend([] if trait else found)
     for it in its:
-        line = declared_as(it)
-        if it.kind != "struct" or not heads or re.search(r" [={] |\(", line):
-            yield line
+        yield declared_as(it)
         if it.kind == "trait":
-            yield from (*(f"    {member}" for member in members(it)), *of_trait(it))
-    for head, found in heads.items():
-        yield from (head, *(f"    {member}" for member in found))
+            blocks = [other for other in items() if other.kind == "impl" and parts(other)[0] == it.name]
+            yield from (f"    {member}" for member in members(it))
+            yield from (block.head for block in blocks if parts(block)[1] not in PRIVATE)
+    for it in implementations().get(type_, []) if type_ in its or type_ not in by_meaning()[type_] else []:
+        trait, found = parts(it)[0], list(members(it))
+        if trait in TRAITS or found and not trait:
+            yield from (it.head, *(f"    {member}" for member in found if not trait))
 
 
-def wrapped(line):
-    """A line, in several if it is too long."""
-    text, indent = WHOLE.sub(lambda it: it[0].replace(" ", "\0"), line), " " * (len(line) - len(line.lstrip()) + 8)
-    lines = textwrap.wrap(text, WIDTH, subsequent_indent=indent, break_long_words=False, break_on_hyphens=False)
-    return "\n".join(lines).replace("\0", " ") + "\n"
-
-
-def use_line(path, names):
+def use_lines(path, names, ending=""):
     listed = ", ".join(sorted(names))
-    return wrapped(f"use {path}::{{{listed}}};" if len(names) > 1 else f"use {path}::{listed};")
+    return [f"use {path}::{f'{{{listed}}}' if len(names) > 1 else listed};{ending}"] if names else []
 
 
-def block(paths, shown):
-    """The block of these modules, without what was shown before."""
-    uses, groups = "", {}
-    for path in paths:
-        found = {name: it for name, it in public()[path].items() if it not in shown}
-        shown |= set(found.values())
-        uses += use_line(f"fastmetrics::{path}", found)
-        for _, it in sorted(found.items()):
-            groups.setdefault(meant(it), []).append(it)
-    return uses + "\n" + "".join(wrapped(line) for type_, its in groups.items() for line in group(type_, its))
+def lines_of(path, names, shown):
+    """The lines of a module: its names by the crates that declare them, and the signatures of what wasn't shown before."""
+    groups = {}
+    for crate in libraries():
+        yield from use_lines(f"fastmetrics::{path}", {name for name, it in names.items() if it.crate == crate}, f" // {crate}")
+    for _, it in sorted(names.items()):
+        groups.setdefault(meant(it), []).extend([it] if it not in shown else [])
+    for type_, its in groups.items():
+        yield from group(type_, its) if its else []
 
 
-def std_block(text):
+def lines_of_std(text):
     """The `use` lines of std's names that a text has."""
     words, found = set(re.findall(r"\b[A-Z]\w*|\bio\b", text)) - {name for names in public().values() for name in names}, {}
-    for path in (path for paths in libraries().values() for path in paths):
-        for module, listed, single in OF_STD.findall(source(path)):
-            found.setdefault(module, set()).update({it.strip() for it in (listed or single).split(",")} & words)
-    return "".join(use_line(module, names) for module, names in sorted(found.items()) if names)
+    for module, listed, single in OF_STD.findall(TEXT):
+        found.setdefault(module, set()).update({it.strip() for it in (listed or single).split(",")} & words)
+    return [line for module, names in sorted(found.items()) for line in use_lines(module, names)]
 
 
-def with_blocks(text, shown):
-    """The page with its blocks as they should be."""
-
-    def filled(found):
-        paths = found[1].split()
-        for path in set(paths) - {"std", *public()}:
-            sys.exit(f"docs/CALLS.md: fastmetrics has no module {path}")
-        return found[1] + found[2] + (found[3] if paths == ["std"] else block(paths, shown))
-
-    text = BLOCK.sub(filled, text)
-    others = "".join(it[3] for it in BLOCK.finditer(text) if it[1] != "std")
-    return BLOCK.sub(lambda it: it[1] + it[2] + (std_block(others) if it[1] == "std" else it[3]), text)
-
-
-def by_crate():
-    """The list of public names by the crate that declares them."""
-    lines = []
-    for crate in libraries():
-        names = {it.name for its in by_meaning().values() for it in its if it.crate == crate}
-        names = sorted(names, key=lambda it: (it.lower(), it))
-        if names:
-            text = f"{crate + ':':19} {' '.join(names)}"
-            lines += textwrap.wrap(text, WIDTH, subsequent_indent=" " * 20, break_long_words=False)
-    return "\n".join(lines) + "\n"
+def listing():
+    shown, lines = set(), []
+    for path, names in public().items():
+        lines += ["", *lines_of(path, names, shown)] if names else []
+        shown |= set(names.values())
+    lines = ["", *lines_of_std("\n".join(lines)), *lines]
+    return HEAD + "".join(LONG.sub(r"\1\n            ", line) + "\n" for line in lines)
 
 
 def calls():
@@ -261,22 +217,22 @@ def calls():
     for type_, its in by_meaning().items():
         if type_.kind.endswith("fn"):
             yield type_.name, set(), type_.path, {"", "::"}
-        for it in [type_] if type_.kind == "trait" else [it for it in implementations()[0].get(type_, []) if not parts(it)[1]]:
-            heads = re.compile(r"^(?:const )?fn (\w+)(?:<.*?>)?\((&?(?:'\w+ )?(?:mut )?self\b)?", re.M)
-            for found in heads.finditer("\n".join(members(it))):
-                names = {type_.name, GIVEN_BY.get(type_.name, type_.name), *(it.name for it in its)}
+        names = {type_.name, GIVEN_BY.get(type_.name, type_.name), *(it.name for it in its)}
+        for it in [type_] if type_.kind == "trait" else [it for it in implementations().get(type_, []) if not parts(it)[0]]:
+            for found in HEAD_OF_CALL.finditer("\n".join(members(it))):
                 yield f"{type_.name}::{found[1]}", names, it.path, {".", "::"} if found[2] else {"::"}
 
 
-def unnamed(text):
-    """The public names and calls that the page's own text doesn't name."""
-    prose = re.sub(r"^```.*?^```$", "", text, flags=re.M | re.S)
-    words = {word for _, ticked in TICKED.findall(prose) for word in re.findall(r"\w+", ticked)}
+def misnamed(text, listed):
+    """The public names and calls that the words of a page don't name, and what they name and isn't listed."""
+    words = {word for _, ticked in TICKED.findall(text) for word in re.findall(r"[A-Za-z_]\w*", ticked)}
     names = {it.name: it.path for its in by_meaning().values() for it in its}
     names |= {call.split("::")[-1]: path for call, _, path, _ in calls()}
     for name, path in names.items():
         if name not in words and not TOGETHER.fullmatch(name):
             yield f"docs/CALLS.md doesn't name {name}: {path.relative_to(TOP)}"
+    unknown = sorted(words - set(re.findall(r"\w+", listed)) - FOREIGN)
+    yield from (f"docs/CALLS.md names {it}, and no public name or signature has it" for it in unknown)
 
 
 def sources():
@@ -300,31 +256,23 @@ def uncalled():
         made = {(by_value.strip() or before or other, name or named) for by_value, before, name, other, named in calls_in}
         files.append((path.relative_to(TOP).parts[1] in libraries(), made, set(re.findall(r"\w+", text))))
     for call, names, path, ways in calls():
-        is_inside = any(fnmatchcase(call, it) for it in INSIDE)
-        forms = {(way, call.split("::")[-1]) for way in ways}
+        is_inside, forms = any(fnmatchcase(call, it) for it in INSIDE), {(way, call.split("::")[-1]) for way in ways}
         makers = [words for is_library, made, words in files if forms & made and (is_inside or not is_library)]
         if call not in NEVER and not any(not names or names & words for words in makers):
             yield f"no test and no program calls {call}: {path.relative_to(TOP)}"
-    for it in INSIDE:
-        if not any(fnmatchcase(call, it) for call, _, _, _ in calls()):
-            yield f"there is no public call {it}, which scripts/public.py lists"
+    gone = (it for it in INSIDE if not any(fnmatchcase(call, it) for call, _, _, _ in calls()))
+    yield from (f"there is no public call {it}, which scripts/public.py lists" for it in gone)
 
 
 def main():
-    shown, wrong = set(), []
-    listed = lambda text: LISTED.sub(lambda _: by_crate(), text)
-    for path, renewed in (LIST, listed), (PAGE, lambda text: with_blocks(text, shown)):
-        text, name = path.read_text(), str(path.relative_to(TOP))
-        fresh = renewed(text)
-        if "--write" in sys.argv[1:]:
-            path.write_text(fresh)
-        elif fresh != text:
-            wrong += difflib.unified_diff(text.split("\n"), fresh.split("\n"), name, "sources", n=0, lineterm="")
-            wrong.append(f"{name} differs from the sources (scripts/public.py --write mends it)")
-    left = [it for its in by_meaning().values() for it in its if it not in shown]
-    wrong += [f"no block of docs/CALLS.md has {it.name}: {it.path.relative_to(TOP)}" for it in left]
-    wrong += [] if LISTED.search(LIST.read_text()) else ["docs/ARCHITECTURE.md has no list of public names"]
-    wrong += [*unnamed(PAGE.read_text()), *uncalled()]
+    fresh, wrong = listing(), []
+    if "--write" in sys.argv[1:]:
+        LISTING.write_text(fresh)
+    if LISTING.read_text() != fresh:
+        kept = LISTING.read_text().split("\n")
+        wrong += difflib.unified_diff(kept, fresh.split("\n"), "docs/public_api.txt", "sources", n=0, lineterm="")
+        wrong.append("docs/public_api.txt differs from the sources (scripts/public.py --write mends it)")
+    wrong += [*misnamed(PAGE.read_text(), fresh), *uncalled()]
     print("\n".join(wrong), end="\n" if wrong else "")
     return 1 if wrong else 0
 
