@@ -131,8 +131,8 @@ fn run_job_and_scrape<H: Waiter>(root: &Root<H, Own>, server: &Server<H>) -> any
     Ok(())
 }
 
-// Counts by two workers. It stands apart, and the root comes by itself: the check proves that `join` may send what it is passed only
-// where little else is known of it, and where the root is no part of a larger value.
+// Counts by two workers. It stands apart: the check proves that `join` may send what it is passed only where little else is known
+// of it. The root comes by itself: in one struct with a struct of metrics and a listener `join` isn't proved.
 fn run<R: Threads + Waiter>(rt: &R, root: &Root<R, Own>, server: &Server<R>) -> anyhow::Result<()> {
     let (served, done) = thread::join(rt, || serve(server), || run_job_and_scrape(root, server));
     served?;
