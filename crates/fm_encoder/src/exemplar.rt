@@ -39,6 +39,13 @@ pub use exemplar_labels::ExemplarLabels;
 pub use labeled::LabeledExemplar;
 
 /// A source of an exemplar, or of none.
+///
+/// <!-- cut: tests/scripts/src/own/exemplar.rt.in -->
+/// ```rust
+/// impl EncodeExemplar for OwnExemplar {
+///     // ..
+///     fn encode(&self, encoder: &mut ExemplarEncoder) -> Result<(), EncodeError> {
+/// ```
 pub trait EncodeExemplar {
     /// The exemplars that `encode` emits. A point whose source emits more than one is refused.
     ghost exemplars: { Self → List EmittedExemplar };
@@ -63,6 +70,13 @@ impl EncodeExemplar for () {
 }
 
 /// Takes the exemplar of a sample.
+///
+/// <!-- cut: tests/scripts/src/own/exemplar.rt.in -->
+/// ```rust
+/// for (labels, value) in &self.all {
+///     encoder.encode(labels, *value, self.time)?;
+/// }
+/// ```
 #[derive(Drop)]
 pub struct ExemplarEncoder {
     alloc: Global,

@@ -1,4 +1,13 @@
 //! Points: what emits them, and the encoder that takes them.
+//!
+//! <!-- cut: tests/unit/src/fastmetrics_memory_of_documents.rt.in -->
+//! ```rust
+//! impl EncodePoint for ThreeQuantiles {
+//!     // ..
+//!     fn encode(&self, encoder: &mut PointEncoder) -> Result<(), EncodeError> {
+//!     // ..
+//!         encoder.encode_summary(&quantiles, FixedSum::from(one), 3, None)
+//! ```
 ghost use Rattle.std.specs.Prelude.{◌≡◌, ◌++◌, List, [], None, Some, Err, OnOk, OnErr, IfOk, IfErr, IfSome, IsSome, string_bytes};
 ghost use Rattle.std.specs.Option.{option_map};
 ghost use Rattle.fm_grammar.specs.Names.{IsSnakeCase};

@@ -16,6 +16,15 @@ use std::sync::Arc;
 pub type CommonLabels = Arc<LabelList>;
 
 /// The value of a sample.
+///
+/// <!-- cut: tests/unit/src/fastmetrics_this_process.rt.in -->
+/// ```rust
+/// match sample.value() {
+///     Value::Fixed(value) => value.millionths(),
+///     Value::Whole(value) => value.saturating_mul(1_000_000),
+///     Value::Millis(_) => -1,
+/// }
+/// ```
 #[derive(Clone, Copy, Debug)]
 pub enum Value {
     /// A whole number.
@@ -27,6 +36,12 @@ pub enum Value {
 }
 
 /// An observation that is an example of a sample (OpenMetrics, Exemplars): its labels, its value and its time.
+///
+/// <!-- cut: tests/scripts/src/parts.rt.in -->
+/// ```rust
+/// let value = buffer.format(FixedSum::from(exemplar.value()));
+/// let (time, count) = (exemplar.timestamp_millis(), exemplar.labels().len());
+/// ```
 #[derive(Debug)]
 pub struct Exemplar {
     pub(crate) labels: Vec<(String, String)>,
@@ -45,6 +60,12 @@ impl Drop for Exemplar {
 }
 
 /// One line of a family. The labels that it shares with its point's other samples come before the others.
+///
+/// <!-- cut: tests/scripts/src/parts.rt.in -->
+/// ```rust
+/// let (kind, value) = (sample.kind(), told(alloc, sample.value())?);
+/// let (time, traced) = (sample.timestamp_millis(), sample.exemplar().is_some());
+/// ```
 #[derive(Debug)]
 pub struct Sample {
     pub(crate) kind: SampleKind,
@@ -70,6 +91,12 @@ impl Drop for Sample {
 }
 
 /// A family with its samples.
+///
+/// <!-- cut: tests/scripts/src/parts.rt.in -->
+/// ```rust
+/// let (name, metric_type) = (family.name(), family.metric_type().as_str());
+/// let (help, unit) = (family.help(), family.unit());
+/// ```
 #[derive(Debug)]
 pub struct FamilySamples {
     pub(crate) name: String,
@@ -102,6 +129,14 @@ impl Model for FamilySamples {
 }
 
 /// Families of samples. Each exposition is well formed: its families are, and no two of them have the same name.
+///
+/// <!-- cut: crates/calling/src/documents.rt -->
+/// ```rust
+/// let exposition = collect(alloc, registry)?;
+/// if exposition.families().is_empty() {
+///     return Ok(None);
+/// }
+/// ```
 #[derive(Debug)]
 pub struct Exposition {
     pub(crate) families: Vec<FamilySamples>,

@@ -27,6 +27,11 @@ pub(crate) mod gathering;
 mod named;
 
 /// A source of the name of a label.
+///
+/// <!-- cut: crates/expose_io/src/tree.rt -->
+/// ```rust
+/// encoder.encode(&(LabelStr("status"), self.status))
+/// ```
 pub trait EncodeLabelName {
     /// The pieces that `encode` emits: mostly one name.
     ghost pieces: { Self → EmittedLabel };

@@ -78,6 +78,11 @@ pub fn encode_written(
 }
 
 /// Lends a slice as a label set.
+///
+/// <!-- cut: tests/scripts/src/sets.rt.in -->
+/// ```rust
+/// Container::Slice => emitted!(encoder, &LabelSlice(self.labels.as_slice())),
+/// ```
 #[derive(Clone, Copy, Debug)]
 pub struct LabelSlice<'a, T>(pub &'a [T]);
 

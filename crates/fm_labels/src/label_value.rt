@@ -1,4 +1,11 @@
 //! Values of labels, and labels by name and value, for label sets of a program's own.
+//!
+//! <!-- cut: crates/own_metric/src/lib.rt -->
+//! ```rust
+//! let name = LabelValue::Text(self.name.as_str());
+//! let priority = LabelValue::Whole(u64::from(self.priority));
+//! encode_labels(encoder, &[("queue", name), ("priority", priority)])
+//! ```
 ghost use Rattle.std.specs.Prelude.{[], ◌∷◌, true, false, map, codes, decimal, if◌then◌else◌};
 ghost use Rattle.std.specs.Fmt.{signed_decimal};
 ghost use Rattle.fm_grammar.specs.Numbers.{fixed_text};

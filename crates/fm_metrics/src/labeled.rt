@@ -1,4 +1,9 @@
 //! A metric that is a label set and a point.
+//!
+//! <!-- cut: crates/own_metric/src/lib.rt -->
+//! ```rust
+//! pub fn waiting_now(queue: Queue, requests: u64) -> Labeled<Queue, ConstGauge<u64>> {
+//! ```
 ghost use Rattle.std.specs.Prelude.{◌≡◌, ◌⊎◌};
 ghost use Rattle.fm_encoder.specs.Emits.{MembersOf};
 

@@ -1,4 +1,9 @@
 //! Metrics of unknown type.
+//!
+//! <!-- cut: tests/unit/src/fastmetrics_constant_metrics.rt.in -->
+//! ```rust
+//! root.register("c", "H", None, Unknown::<i64>::new(-4))?;
+//! ```
 ghost use Rattle.std.specs.Prelude.{◌≡◌, [], ◌∷◌};
 ghost use Rattle.fm_grammar.specs.declared.MetricType.TheVariants.{Unknown as UnknownType};
 ghost use Rattle.fm_encoder.specs.Points.{UnknownPoint};

@@ -1,4 +1,10 @@
 //! Atomics: numbers that threads change in single steps.
+//!
+//! <!-- cut: tests/unit/src/fm_raw_atomic.rt.in -->
+//! ```rust
+//! let word = word_of::<N, W>(value);
+//! let raises = word.raise(by) == value && word.get() == greater;
+//! ```
 ghost use Rattle.std.specs.Prelude.{⊤};
 
 use crate::fixed::Fixed;
@@ -10,6 +16,15 @@ use std::sync::atomic::{AtomicI32, AtomicI64, AtomicIsize, AtomicU32, AtomicU64,
 ///
 /// Each call is one step in the one order of all such steps. Sums and differences wrap at the ends of the type. No call
 /// takes memory or waits. Contracts promise a value's range only, since other threads may change it at any time.
+///
+/// <!-- cut: tests/unit/src/fm_raw_atomic.rt.in -->
+/// ```rust
+/// fn word_of<N: Number, W: Atomic<N>>(value: N) -> W {
+///     let word = W::default();
+///     word.set(value);
+///     word
+/// }
+/// ```
 pub trait Atomic<N: Number>: Default + Send + Sync + Drop {
     /// `raises word v before`: a call `word.raise(v)` returned `before`.
     ghost raises: { Self → N → N → Type 0 };

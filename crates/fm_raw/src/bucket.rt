@@ -1,4 +1,10 @@
 //! The buckets of histograms: their bounds, their counts, and the search for the bucket of a value.
+//!
+//! <!-- cut: tests/unit/src/fm_raw_buckets.rt.in -->
+//! ```rust
+//! let [first, .., last] = DEFAULT_BUCKETS;
+//! assert!(rt; default_buckets() == DEFAULT_BUCKETS);
+//! ```
 
 pub mod bound;
 pub mod error;

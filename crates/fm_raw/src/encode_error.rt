@@ -7,6 +7,13 @@ use std::alloc::{AllocError, AllocFailed};
 use thiserror::Error;
 
 /// Why an exposition was not collected or not written.
+///
+/// <!-- cut: crates/own_metric/src/readings.rt -->
+/// ```rust
+/// if encoder.timestamp() != Some(u128::from(reading.0)) {
+///     return Err(EncodeError::MetricFault);
+/// }
+/// ```
 #[derive(Clone, Copy, Debug, PartialEq, Eq, Hash, Drop, Error)]
 pub enum EncodeError {
     /// Memory could not be allocated.

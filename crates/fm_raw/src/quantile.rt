@@ -1,4 +1,10 @@
 //! Quantiles of summaries.
+//!
+//! <!-- cut: tests/unit/src/fm_laws_calls.rt.in -->
+//! ```rust
+//! let quantile = Quantile::new(median, value);
+//! assert!(rt; quantile.quantile() == median && quantile.value() == value);
+//! ```
 ghost use Rattle.std.specs.Prelude.{◌≡◌};
 
 use crate::fixed::Fixed;
@@ -7,6 +13,15 @@ use crate::fixed::Fixed;
 pub const QUANTILE_LABEL: &str = "quantile";
 
 /// A quantile of observed values, mostly from 0 to 1, and its value. Neither is tested.
+///
+/// <!-- cut: tests/unit/src/fastmetrics_memory_of_documents.rt.in -->
+/// ```rust
+/// let quantiles = [
+///     Quantile::new(Fixed::from_millionths(500_000), one),
+///     // ..
+/// ];
+/// encoder.encode_summary(&quantiles, FixedSum::from(one), 3, None)
+/// ```
 #[derive(Clone, Copy, Debug, PartialEq, Eq)]
 pub struct Quantile {
     pub(crate) quantile: Fixed,

@@ -1,4 +1,10 @@
 //! Default values of types that allocate.
+//!
+//! <!-- cut: crates/expose_io/src/tree.rt -->
+//! ```rust
+//! let requests = Counter::try_default(wait, alloc)?;
+//! requests.inc();
+//! ```
 ghost use Rattle.std.specs.Prelude.{◌≡◌, IfOk, IfErr, ⊤};
 ghost use Rattle.fm_raw.specs.declared.error.MetricError.{MetricError as Refusal};
 ghost use Rattle.fm_raw.specs.declared.error.MetricError.TheVariants.{Memory};
@@ -10,6 +16,13 @@ use std::sync::Wait;
 /// A fallible `Default`, for types that allocate.
 ///
 /// A value with a lock keeps the `Wait` handle. Others drop it.
+///
+/// <!-- cut: crates/calling/src/globals.rt -->
+/// ```rust
+/// use fastmetrics::raw::TryDefault;
+/// // ..
+/// let requests = Counter::<u64>::try_default(rt, alloc)?;
+/// ```
 pub trait TryDefault<H: Wait>: Sized {
     /// Holds of each value that `try_default` may return.
     ghost is_default: { Self → Type 0 } = { λ _. ⊤ };

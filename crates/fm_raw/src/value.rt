@@ -1,10 +1,24 @@
 //! The types of the numbers in counters, gauges and unknown metrics.
+//!
+//! <!-- cut: tests/unit/src/fm_metrics_atomic_steps.rt.in -->
+//! ```rust
+//! impl GaugeValue for Steps {
+//!     type Atomic = Counted;
+//! }
+//! ```
 use crate::atomic::Atomic;
 use crate::fixed::Fixed;
 use crate::number::Number;
 use std::sync::atomic::{AtomicI32, AtomicI64, AtomicIsize, AtomicU32, AtomicU64, AtomicUsize};
 
 /// A number that a counter may contain.
+///
+/// <!-- cut: tests/unit/src/fm_metrics_atomic_steps.rt.in -->
+/// ```rust
+/// impl CounterValue for Steps {
+///     type Atomic = Counted;
+/// }
+/// ```
 pub trait CounterValue: Number {
     /// The atomic that contains it.
     type Atomic: Atomic<Self>;
@@ -27,6 +41,14 @@ impl CounterValue for Fixed {
 }
 
 /// A number that a gauge may contain.
+///
+/// <!-- cut: tests/unit/src/fm_metrics_in_progress.rt.in -->
+/// ```rust
+/// fn meanwhile<N: GaugeValue>(gauge: &Gauge<N>) -> N {
+///     let _in_progress = gauge.track_in_progress();
+///     gauge.get()
+/// }
+/// ```
 pub trait GaugeValue: Number {
     /// The atomic that contains it.
     type Atomic: Atomic<Self>;
@@ -57,6 +79,11 @@ impl GaugeValue for Fixed {
 }
 
 /// A number that an unknown metric may contain.
+///
+/// <!-- cut: tests/unit/src/fastmetrics_own_types.rt.in -->
+/// ```rust
+/// root.add_own("ways", "H", Unknown::<i64>::new(-4))?;
+/// ```
 pub trait UnknownValue: Number {}
 
 impl UnknownValue for i32 {}

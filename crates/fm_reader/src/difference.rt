@@ -8,6 +8,15 @@ use crate::parts::cuts::split_line;
 use std::fmt::{self, Display, Formatter};
 
 /// The first line at which two texts differ. It is displayed as ``line 3: `a_total 1` on the left, and `a_total 2` on the right``.
+///
+/// <!-- cut: tests/unit/src/fm_reader_first_difference.rt.in -->
+/// ```rust
+/// let Some(difference) = first_difference(left, right) else {
+///     return Err(Fail::new("they are said to be the same"));
+/// };
+/// // ..
+/// let said = format!(in alloc; "{difference}")?;
+/// ```
 #[derive(Clone, Copy, Debug, PartialEq, Eq)]
 pub struct Difference<'a> {
     /// The number of the line, from 1.

@@ -8,6 +8,13 @@ use std::alloc::{AllocError, AllocFailed};
 use thiserror::Error;
 
 /// Why a registry refuses a call. Each kind except `Memory` and `NoRandomKeys` has the text that caused it.
+///
+/// <!-- cut: crates/calling/src/errors.rt -->
+/// ```rust
+/// fn make_jobs<H: Waiter>(root: &mut Root<H>) -> Result<Counter, RegistryError> {
+/// // ..
+/// let made = make_jobs(&mut root).map_err(|error| anyhow!("{error:?}"));
+/// ```
 #[derive(Clone, Debug, PartialEq, Eq, Drop, Error)]
 pub enum RegistryError {
     /// The name of a metric is not in snake case.

@@ -18,6 +18,13 @@ use std::time::Duration;
 
 /// What a root makes metrics with: the handle that they wait by, and the bounds of histograms and the time of creation, if
 /// these were given.
+///
+/// <!-- cut: crates/server/src/main.rt -->
+/// ```rust
+/// let waits = Description::new("waits", "Waits by queue and place").labels(&["queue", "place"]);
+/// // ..
+/// waits: root.histograms_with(waits.bounds(&bounds()).limit(100))?,
+/// ```
 pub struct Maker<H: Wait> {
     wait: H,
     alloc: Global,
@@ -77,6 +84,13 @@ fn histogram_of<H: Wait + Copy + Drop, I: Iterator<Item = Fixed> + Drop>(
 }
 
 /// A metric that a root makes.
+///
+/// <!-- cut: tests/scripts/src/by_names.rt.in -->
+/// ```rust
+/// fn handle_in<M: Made<H> + Clone + Drop, H: Waiter>(
+///     // ..
+///     Ok(family.with_label_values(values.as_slice())?)
+/// ```
 pub trait Made<H: Wait>: Sized {
     /// It is what is made for this time of creation.
     ghost is_made: { Option Time → Self → Type 0 } = { λ _ _. ⊤ };

@@ -17,6 +17,13 @@ use std::sync::{RwLock, Wait};
 use thiserror::Error;
 
 /// The registry can't be set: one was set or used before.
+///
+/// <!-- cut: tests/unit/src/fastmetrics_threads.rt.in -->
+/// ```rust
+/// if set_global_registry(rt, global, Registry::default()).is_ok() {
+///     set = set.saturating_add(1);
+/// }
+/// ```
 #[derive(Clone, Copy, Debug, PartialEq, Eq, Error)]
 #[error("Global registry has already been initialized")]
 pub struct SetRegistryError;

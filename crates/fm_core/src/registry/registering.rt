@@ -15,6 +15,14 @@ use std::sync::atomic::Ordering::SeqCst;
 ///
 /// Implement it for each `M`, as `impl<M: Drop> Register<M> for MyMetrics<M>`, with metrics that `main` boxed: a method
 /// that boxes them itself, or a type with boxes, can't be proved.
+///
+/// <!-- cut: tests/unit/src/fastmetrics_threads.rt.in -->
+/// ```rust
+/// impl Register<ConstGauge<i64>> for Slow<'_> {
+///     // ..
+///         let (name, help) = (String::from_str(alloc, "g")?, String::from_str(alloc, "H")?);
+///         registry.add_metric(name, help, MetricType::Gauge, None, ConstGauge::new(5i64))
+/// ```
 pub trait Register<M> {
     ghost use Rattle.fm_core.specs.HasHistory.{HasHistory};
 

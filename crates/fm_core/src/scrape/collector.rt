@@ -26,6 +26,11 @@ use std::marker::Model;
 
 /// Takes the families of a registry and all below it, one after the other: keeps them for `collect`, or appends their lines to a text
 /// for `encode`. These alone make it.
+///
+/// <!-- cut: crates/calling/src/documents.rt -->
+/// ```rust
+/// let exposition = collect(alloc, registry)?;
+/// ```
 pub struct MetricFamilyEncoder<'a> {
     alloc: Global,
     namespace: Option<&'a str>,

@@ -17,6 +17,14 @@ use std::alloc::{AllocError, Global};
 use thiserror::Error;
 
 /// A family that a document can't show, by the name under which it would be printed, and why.
+///
+/// <!-- cut: crates/calling/src/errors.rt -->
+/// ```rust
+/// match root.fault()? {
+///     Some(fault) => bail!("{fault}"),
+///     None => bail!(error),
+/// }
+/// ```
 #[derive(Debug, PartialEq, Eq, Drop, Error)]
 #[error("family '{name}': {error}")]
 pub struct FamilyFault {

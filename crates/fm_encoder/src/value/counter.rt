@@ -8,9 +8,23 @@ use fm_raw::EncodeError;
 use fm_raw::fixed::Fixed;
 
 /// Takes the value of a counter, which is one number.
+///
+/// <!-- cut: tests/scripts/src/own/value.rt.in -->
+/// ```rust
+/// fn encode(&self, encoder: &mut CounterValueEncoder) -> Result<(), EncodeError> {
+///     // ..
+///         encoder.encode_u32(*number)?;
+/// ```
 pub type CounterValueEncoder = ValueEncoder<OfCounter>;
 
 /// A source of the value of a counter.
+///
+/// <!-- cut: tests/scripts/src/own/value.rt.in -->
+/// ```rust
+/// impl EncodeCounterValue for OwnValue {
+///     // ..
+///     fn encode(&self, encoder: &mut CounterValueEncoder) -> Result<(), EncodeError> {
+/// ```
 pub trait EncodeCounterValue {
     /// The numbers that `encode` emits. A value with more or less than one is refused.
     ghost numbers: { Self → List Number };

@@ -8,9 +8,23 @@ use fm_raw::EncodeError;
 use fm_raw::fixed::Fixed;
 
 /// Takes the value of a gauge, which is one number.
+///
+/// <!-- cut: tests/scripts/src/own/value.rt.in -->
+/// ```rust
+/// fn encode(&self, encoder: &mut GaugeValueEncoder) -> Result<(), EncodeError> {
+///     // ..
+///         encoder.encode_u32(*number)?;
+/// ```
 pub type GaugeValueEncoder = ValueEncoder<OfGauge>;
 
 /// A source of the value of a gauge.
+///
+/// <!-- cut: tests/scripts/src/own/value.rt.in -->
+/// ```rust
+/// impl EncodeGaugeValue for OwnValue {
+///     // ..
+///     fn encode(&self, encoder: &mut GaugeValueEncoder) -> Result<(), EncodeError> {
+/// ```
 pub trait EncodeGaugeValue {
     /// The numbers that `encode` emits. A value with more or less than one is refused.
     ghost numbers: { Self → List Number };

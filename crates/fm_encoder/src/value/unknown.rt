@@ -8,9 +8,23 @@ use fm_raw::EncodeError;
 use fm_raw::fixed::Fixed;
 
 /// Takes the value of an unknown metric, which is one number.
+///
+/// <!-- cut: tests/scripts/src/own/value.rt.in -->
+/// ```rust
+/// fn encode(&self, encoder: &mut UnknownValueEncoder) -> Result<(), EncodeError> {
+///     // ..
+///         encoder.encode_u32(*number)?;
+/// ```
 pub type UnknownValueEncoder = ValueEncoder<OfUnknown>;
 
 /// A source of the value of an unknown metric.
+///
+/// <!-- cut: tests/scripts/src/own/value.rt.in -->
+/// ```rust
+/// impl EncodeUnknownValue for OwnValue {
+///     // ..
+///     fn encode(&self, encoder: &mut UnknownValueEncoder) -> Result<(), EncodeError> {
+/// ```
 pub trait EncodeUnknownValue {
     /// The numbers that `encode` emits. A value with more or less than one is refused.
     ghost numbers: { Self → List Number };

@@ -12,6 +12,16 @@ use indexmap::Equivalent;
 use std::hash::{BuildHasher, DefaultHasher, FoldHasher, Hash, Hasher, RandomState};
 
 /// How a family hashes the values of labels.
+///
+/// <!-- cut: tests/unit/src/fm_family_by_label_names.rt.in -->
+/// ```rust
+/// let description = Description::new("pages", "H").labels(&labels);
+/// let pages = root.counters_with(if is_fixed {
+///     description.fixed_hasher()
+/// } else {
+///     description
+/// })?;
+/// ```
 #[derive(Clone, Copy)]
 pub enum LabelHashing {
     /// With keys that the system gave at random: nobody outside can choose many values with the same hash, which would make look-ups

@@ -1,4 +1,11 @@
 //! Buckets and their bounds.
+//!
+//! <!-- cut: tests/unit/src/fm_laws_calls.rt.in -->
+//! ```rust
+//! let (low, high) = (Fixed::from_millionths(-1), Fixed::from_millionths(2));
+//! // ..
+//! assert!(rt; Bound::Finite(low) < Bound::Finite(high) && Bound::Finite(high) < Bound::Inf);
+//! ```
 ghost use Rattle.std.specs.Prelude.{◌≡◌, ◌+◌, ◌^◌, ◌↔◌, Ok, Err, IfErr, OnOk, OnErr};
 ghost use Rattle.fm_raw.specs.declared.error.MetricError.TheVariants.{CountFull};
 ghost use Rattle.fm_raw.specs.declared.bucket.bound.Bound.TheVariants.{Finite, Inf};
@@ -12,6 +19,14 @@ use crate::fixed::{DEFAULT_BUCKETS, Fixed, FixedBuffer, FixedSum};
 pub const BUCKET_LABEL: &str = "le";
 
 /// A bucket's upper bound: a number, or none (`Inf`). Bounds are ordered as their numbers, and `Inf` is the greatest.
+///
+/// <!-- cut: tests/scripts/src/language/bounds.rt.in -->
+/// ```rust
+/// let bound = match bound {
+///     "+Inf" => Bound::Inf,
+///     _ => Bound::Finite(fixed(bound)?),
+/// };
+/// ```
 #[derive(Clone, Copy, Debug, PartialEq, Eq, PartialOrd, Ord, Hash)]
 pub enum Bound {
     /// Values up to this one, inclusive.
@@ -21,6 +36,12 @@ pub enum Bound {
 }
 
 /// A bucket: its upper bound, and how many values are in the interval that ends with it.
+///
+/// <!-- cut: tests/unit/src/fm_raw_buckets.rt.in -->
+/// ```rust
+/// let mut bucket = Bucket::new(Bound::Inf, u64::MAX - 1);
+/// assert!(rt; bucket.inc() == Ok(()) && bucket.inc() == Err(MetricError::CountFull));
+/// ```
 #[derive(Clone, Copy, Debug, PartialEq, Eq)]
 pub struct Bucket {
     pub(crate) upper_bound: Bound,

@@ -1,10 +1,27 @@
 //! Why a call that makes bounds fails.
+//!
+//! <!-- cut: tests/unit/src/fm_raw_buckets.rt.in -->
+//! ```rust
+//! fn is_error(alloc: Global, error: BucketError, number: u8, text: &str) -> Result<bool, AllocError> {
+//!     Ok(error.number() == number && error.to_string(alloc)?.as_str() == text)
+//! }
+//! ```
 ghost use Rattle.std.specs.Prelude.{◌≡◌};
 ghost use Rattle.fm_raw.specs.BucketErrors.{error_number};
 
 use thiserror::Error;
 
 /// Why bounds could not be made: the first test that failed.
+///
+/// <!-- cut: crates/expose_io/src/output.rt -->
+/// ```rust
+/// fn from(error: BucketError) -> Fault {
+///     Fault::Refused {
+///         layer: "bucket",
+///         number: error.number(),
+///     }
+/// }
+/// ```
 #[derive(Clone, Copy, Debug, PartialEq, Eq, Hash, Drop, Error)]
 pub enum BucketError {
     /// The width is not above zero.

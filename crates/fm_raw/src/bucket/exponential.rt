@@ -1,4 +1,13 @@
 //! Bounds that grow by a factor.
+//!
+//! <!-- cut: tests/scripts/src/language/bounds.rt.in -->
+//! ```rust
+//! fn exponential(alloc: Global, bounds: ExponentialBuckets) -> Result<Vec<Fixed>, Stop> {
+//!     let mut all = Vec::new(alloc);
+//!     for bound in bounds {
+//!         all.push(bound)?;
+//!     }
+//! ```
 ghost use Rattle.std.specs.Prelude.{◌≡◌, ◌≢◌, ℕ, ◌+◌, ◌-◌, ◌*◌, ◌^◌, ◌<◌, ◌≤◌, ◌↔◌, pos, min, IsTrue, IsOk, IfOk, IfErr, IfSome, IfNone};
 ghost use Rattle.std.specs.Iterator.{YieldsFirst, item_count};
 ghost use Rattle.fm_raw.specs.Bounds.{exponential_bounds, IsExponential, IsExponentialFault, IsRange, IsRangeFault};
@@ -8,6 +17,11 @@ use crate::fixed::Fixed;
 use std::marker::Model;
 
 /// Bounds that grow by a factor. Contracts see it as the list of those that are left. It takes no memory.
+///
+/// <!-- cut: crates/expose_io/src/histogram.rt -->
+/// ```rust
+/// let histogram = Histogram::new(wait, alloc, exponential_buckets(Fixed::ONE, 2, 5)?)?;
+/// ```
 #[derive(Clone, Debug, Drop)]
 pub struct ExponentialBuckets {
     next: u64,

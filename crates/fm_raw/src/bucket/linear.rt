@@ -1,4 +1,11 @@
 //! Bounds with equal steps between them.
+//!
+//! <!-- cut: tests/scripts/src/language/bounds.rt.in -->
+//! ```rust
+//! fn linear(alloc: Global, start: Fixed, width: Fixed, count: usize) -> Result<Vec<Fixed>, Stop> {
+//!     let mut all = Vec::new(alloc);
+//!     for bound in linear_buckets(start, width, count)? {
+//! ```
 ghost use Rattle.std.specs.Prelude.{◌≡◌, ◌↔◌, IsOk, IfOk, IfErr};
 ghost use Rattle.std.specs.Iterator.{YieldsFirst, item_count};
 ghost use Rattle.fm_raw.specs.Bounds.{linear_bounds, IsLinear, IsLinearFault};
@@ -8,6 +15,13 @@ use crate::fixed::Fixed;
 use std::marker::Model;
 
 /// Bounds with equal steps between them. Contracts see it as the list of those that are left. It takes no memory.
+///
+/// <!-- cut: tests/scripts/src/language/bounds.rt.in -->
+/// ```rust
+/// for bound in linear_buckets(start, width, count)? {
+///     all.push(bound)?;
+/// }
+/// ```
 #[derive(Clone, Debug, Drop)]
 pub struct LinearBuckets {
     next: i64,

@@ -1,7 +1,21 @@
 //! The search for a bucket, with a bound on the number of tests.
+//!
+//! <!-- cut: tests/unit/src/fm_raw_bucket_search.rt.in -->
+//! ```rust
+//! let index = find_bucket(n, &mut probe);
+//! ```
 ghost use Rattle.std.specs.Prelude.{◌≡◌, ℕ, ◌+◌, ◌-◌, ◌*◌, ◌^◌, ◌≤◌, ◌↔◌, IsTrue, min};
 
 /// A test of indices: false below some index, true from it on. Each test is counted.
+///
+/// <!-- cut: tests/unit/src/fm_raw_bucket_search.rt.in -->
+/// ```rust
+/// impl<L: Ledger> Probe for Counting<L> {
+///     // ..
+///     fn reaches(&mut self, i: usize) -> bool {
+///     // ..
+///         self.first <= i
+/// ```
 pub trait Probe {
     /// The first index where the test is true.
     ghost first: { Self → ℕ };

@@ -13,6 +13,13 @@ use std::sync::Wait;
 use std::time::Duration;
 
 /// Metrics of one kind with the same label names, which a root makes.
+///
+/// <!-- cut: tests/scripts/src/by_names.rt.in -->
+/// ```rust
+/// fn has_member<M: Drop, H: Waiter>(family: &VecOf<M, H>, values: &[&str]) -> bool {
+///     // ..
+///     family.retain(|member: &LabelValues, _metric: &M| {
+/// ```
 pub type VecOf<M, H> = MetricVec<M, Maker<H>, H>;
 
 /// Counters of whole numbers with the same label names.
@@ -55,6 +62,12 @@ pub type FixedCounterVec<H> = VecOf<Counter<Fixed>, H>;
 pub type GaugeVec<H> = VecOf<Gauge<i64>, H>;
 
 /// Gauges of millionths with the same label names.
+///
+/// <!-- cut: tests/unit/src/fm_family_by_label_names.rt.in -->
+/// ```rust
+/// let busy = root.fixed_gauges("busy", "H", &[])?;
+/// busy.with(&[], |gauge| gauge.set(Fixed::from_millionths(-250_000)))?;
+/// ```
 pub type FixedGaugeVec<H> = VecOf<Gauge<Fixed>, H>;
 
 /// Histograms with the same label names.
@@ -71,11 +84,22 @@ pub type FixedGaugeVec<H> = VecOf<Gauge<Fixed>, H>;
 pub type HistogramVec<H> = VecOf<Histogram<H>, H>;
 
 /// Gauge histograms with the same label names.
+///
+/// <!-- cut: tests/scripts/src/made.rt.in -->
+/// ```rust
+/// root.gauge_histograms(name, help, labels),
+/// root.gauge_histograms_with(description)
+/// ```
 pub type GaugeHistogramVec<H> = VecOf<GaugeHistogram<H>, H>;
 
 /// A family by label names.
 ///
 /// It declares and offers what the family in it does.
+///
+/// <!-- cut: crates/server/src/main.rt -->
+/// ```rust
+/// requests: root.counters("requests", "Requests by method", &["method"])?,
+/// ```
 pub enum NamedFamily<H: Wait> {
     /// Counters of whole numbers.
     Counters(CounterVec<H>),

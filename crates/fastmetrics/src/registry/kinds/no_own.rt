@@ -7,6 +7,12 @@ use fm_raw::{EncodeError, MetricType};
 use std::time::Duration;
 
 /// Stands for a program's own metrics where it has none: a metric without samples, which no document shows.
+///
+/// <!-- cut: tests/unit/src/fastmetrics_own_types.rt.in -->
+/// ```rust
+/// let mut root = Root::new(rt)?;
+/// root.add_own("nothing", "H", NoOwn)?;
+/// ```
 #[derive(Clone, Copy)]
 pub struct NoOwn;
 

@@ -10,6 +10,12 @@ use std::time::Duration;
 /// A counter or a gauge.
 ///
 /// It declares and offers what the metric in it does.
+///
+/// <!-- cut: crates/server/src/main.rt -->
+/// ```rust
+/// jobs: root.counter("jobs", "Jobs that were done")?,
+/// busy: root.gauge("busy", "Workers that have a job")?,
+/// ```
 pub enum Scalar {
     /// A counter of whole numbers.
     Counter(Counter<u64>),
