@@ -5,9 +5,9 @@ they quote.
     scripts/pages.py [--write]
 
 - The fenced block after a line `<!-- cut: FILE -->` is that file, whole; after a line `<!-- cut: FILE | FIRST | LAST -->` it is
-  the part from the line that begins with FIRST to the next one that ends with LAST, without the indentation of its first line; a
-  LAST of `}` is one that stands no deeper than that first line. Each block of Rattle is such a one. --write puts the files' text
-  there.
+  the part from the line that begins with FIRST to the next one that ends with LAST, without the indentation of its first line.
+  Without a LAST that is a `}` which stands no deeper than that first line. Each block of Rattle is such a one. --write puts the
+  files' text there.
 - Each link has its file, and each `docs/NAME.md`, also outside of backticks. In backticks each path is there, which has a `/` and
   an ending, or begins with a folder of the repository or with a crate's name; it may begin at the top, in crates/ or in some
   crate, and a file of definitions may be without its ending. So is each crate, `fm_..`, and each call, a word before a
@@ -47,7 +47,7 @@ def part_of(cut):
     lines = (TOP / name).read_text().splitlines()
     if not ends:
         return lines
-    first, last = ends
+    first, last = (*ends, "}")[:2]
     begin = next((i for i, line in enumerate(lines) if line.lstrip(" ").startswith(first)), None)
     if begin is None:
         raise ValueError(f"no line of {name} begins with {first}")
