@@ -5,15 +5,13 @@ ghost use Rattle.std.specs.Str.{IsUtf8};
 ghost use Rattle.fm_grammar.specs.Spelling.{label_list_text, escaped};
 ghost use Rattle.fm_grammar.specs.LabelPairs.{labels_of, shown_label};
 ghost use Rattle.fm_text.specs.inside.Grown.{Grown};
-ghost use Rattle.fm_text.specs.inside.LabelTexts.{part_in, labels_in, IsPart, name_in_list, further_list, whole_label, whole_span};
+ghost use Rattle.fm_text.specs.inside.LabelTexts.{part_in, labels_in, IsPart, AreSpans, name_in_list, further_list, whole_label, whole_span};
 
 use crate::growing::GrowingText;
 use crate::labels::{LabelSource, append_labels_at};
 use crate::output::Output;
 use crate::plain::is_plain;
-use crate::spans::{
-    LabelSpan, Part, are_labels, are_of_list, has_name, has_name_of, list_at, pairs_at, push_after,
-};
+use crate::spans::{LabelSpan, LabelsAt, Part, push_after};
 use fm_grammar::LabelList;
 use std::alloc::{AllocError, Global};
 use std::marker::Model;
@@ -176,6 +174,19 @@ impl LabelText {
         }
     }
 
+    // The labels from an index on.
+    fn at(&self, from: usize) -> LabelsAt<'_>
+        requires { from ≤ length self.now.labels }
+        ensures spans { AreSpans result }
+        ensures labels { labels_in result.text.now result.spans.now
+            ≡ drop from self.now.labels }
+    {
+        LabelsAt {
+            text: self.text.as_slice(),
+            spans: &self.spans[from..],
+        }
+    }
+
     /// How many labels there are.
     pub fn len(&self) -> usize
         ensures { result ≡ length self.now.labels }
@@ -201,7 +212,7 @@ impl LabelText {
     pub fn has_name(&self, name: &str) -> bool
         ensures { IsTrue result ↔ Contains (map (λ label. label.name) self.now.labels) name.now }
     {
-        has_name(self.text.as_slice(), &self.spans, name.as_bytes())
+        self.at(0).has_name(name.as_bytes())
     }
 
     /// Whether one of its labels has the name of one of these.
@@ -209,22 +220,21 @@ impl LabelText {
         ensures { IsTrue result
             ↔ Any (Contains (map (λ label. label.name) self.now.labels)) (map (λ label. label.name) labels.now.labels) }
     {
-        let others = labels.text.as_slice();
-        has_name_of(self.text.as_slice(), &self.spans, others, &labels.spans)
+        self.at(0).has_name_of(labels.at(0))
     }
 
     /// Whether its labels are these, in this order.
     pub fn are(&self, labels: &[(String, String)]) -> bool
         ensures { IsTrue result → self.now.labels ≡ labels_of labels.now }
     {
-        are_labels(self.text.as_slice(), &self.spans, labels)
+        self.at(0).are(labels)
     }
 
     /// Whether its labels are those of a list.
     pub fn are_of_list(&self, list: &LabelList) -> bool
         ensures { IsTrue result → self.now.labels ≡ list.now }
     {
-        are_of_list(self.text.as_slice(), &self.spans, list)
+        self.at(0).are_of_list(list)
     }
 
     /// Removes all labels, and keeps the memory for later ones.
@@ -377,7 +387,7 @@ impl LabelText {
     pub fn to_list(&self, alloc: Global) -> Result<LabelList, AllocError>
         ensures { IfOk result (λ list. list ≡ self.now.labels) }
     {
-        list_at(alloc, self.text.as_slice(), &self.spans)
+        self.at(0).list(alloc)
     }
 
     /// The labels from an index on, as borrowed pairs. Fails if memory runs out.
@@ -385,7 +395,7 @@ impl LabelText {
         requires { from ≤ length self.now.labels }
         ensures { IfOk result (λ pairs. map shown_label pairs.items ≡ drop from self.now.labels) }
     {
-        pairs_at(alloc, self.text.as_slice(), &self.spans[from..])
+        self.at(from).pairs(alloc)
     }
 }
 
@@ -399,7 +409,7 @@ impl<O: Output> LabelSource<O> for LabelText {
     #[tactic(auto, using(crate::proofs::GrownLemmas::grown))]
     fn append_before(&self, text: &mut O, after: &[u8]) -> Result<(), AllocError> {
         if !self.is_listed || self.name.is_some() || self.value.is_some() {
-            append_labels_at(text, self.text.as_slice(), &self.spans)?;
+            append_labels_at(text, self.at(0))?;
             return text.put(after);
         }
         if self.spans.as_slice().is_empty() {

@@ -1,16 +1,15 @@
 // The labels of a sample's line, appended to an output.
 ghost use Rattle.std.specs.Prelude.{◌≡◌, ◌++◌, ◌⊎◌, ◌<◌, List, [], length, codes, OnOk};
-ghost use Rattle.std.specs.List.{AllByRecursion};
 ghost use Rattle.fm_grammar.specs.Exposition.{Label};
 ghost use Rattle.fm_grammar.specs.Spelling.{escaped, label_text, label_list_text, in_braces};
 ghost use Rattle.fm_grammar.specs.LabelPairs.{labels_of};
 ghost use Rattle.fm_text.specs.inside.Grown.{Grows};
-ghost use Rattle.fm_text.specs.inside.LabelTexts.{labels_in, IsSpan};
+ghost use Rattle.fm_text.specs.inside.LabelTexts.{labels_in, AreSpans};
 
 use crate::escaping::append_escaped;
 use crate::output::Output;
 use crate::plain::is_plain;
-use crate::spans::{LabelSpan, part_at};
+use crate::spans::LabelsAt;
 use fm_grammar::LabelList;
 use std::alloc::AllocError;
 
@@ -133,18 +132,15 @@ fn append_label_list<O: Output>(text: &mut O, labels: &[(String, String)]) -> Re
 }
 
 /// Appends labels that are kept in another text, with commas between them.
-pub fn append_labels_at<O: Output>(
-    text: &mut O,
-    raw: &[u8],
-    spans: &[LabelSpan],
-) -> Result<(), AllocError>
-    requires { AllByRecursion (IsSpan raw.now) spans.now }
+pub fn append_labels_at<O: Output>(text: &mut O, labels: LabelsAt<'_>) -> Result<(), AllocError>
+    requires { AreSpans labels }
     ensures { OnOk result (Grows (O.stands_for text.old) (O.stands_for text.new)
-        (label_list_text (labels_in raw.now spans.now))) }
+        (label_list_text (labels_in labels.entry.text.now labels.entry.spans.now))) }
 {
-    for i in 0..spans.len() {
-        let name = part_at(raw, spans[i].name);
-        append_separated(text, separator(i), name, part_at(raw, spans[i].value))?;
+    for i in 0..labels.spans.len() {
+        let span = &labels.spans[i];
+        let (name, value) = (labels.bytes(span.name), labels.bytes(span.value));
+        append_separated(text, separator(i), name, value)?;
     }
     Ok(())
 }

@@ -1,8 +1,8 @@
 // Where names and values are in a text.
 ghost use Rattle.std.specs.Prelude.{◌≡◌, ◌++◌, ◌+◌, ◌≤◌, ◌↔◌, IsTrue, Contains, OnOk, IfOk, drop, length, map};
 ghost use Rattle.std.specs.List.{AllByRecursion, Any};
-ghost use Rattle.fm_grammar.specs.LabelPairs.{label_of, labels_of, shown_label};
-ghost use Rattle.fm_text.specs.inside.LabelTexts.{part_in, label_in, labels_in, IsPart, IsSpan, names_in};
+ghost use Rattle.fm_grammar.specs.LabelPairs.{labels_of, shown_label};
+ghost use Rattle.fm_text.specs.inside.LabelTexts.{part_in, label_in, labels_in, IsPart, IsSpan, AreSpans, names_in};
 
 use fm_grammar::LabelList;
 use std::alloc::{AllocError, Global};
@@ -21,114 +21,136 @@ pub struct LabelSpan {
     pub value: Part,
 }
 
-/// The bytes of a name or a value.
-pub fn part_at(text: &[u8], part: Part) -> &[u8]
-    requires { IsPart text.now part }
-    ensures { result.now ≡ part_in text.now part }
-{
-    &text[part.start..part.end]
+/// Labels in a text: the text, and where they are.
+#[derive(Clone, Copy, Debug)]
+pub struct LabelsAt<'a> {
+    pub text: &'a [u8],
+    pub spans: &'a [LabelSpan],
 }
 
-// The text of a name or a value.
-fn str_at(text: &[u8], part: Part) -> &str
-    requires { IsPart text.now part }
-    ensures { result.now ≡ part_in text.now part }
-{
-    match str::from_utf8(part_at(text, part)) {
-        Ok(found) => found,
-        Err(_) => unreachable!(),
+impl<'a> LabelsAt<'a> {
+    /// The bytes of a name or a value.
+    pub fn bytes(self, part: Part) -> &'a [u8]
+        requires { IsPart self.text.now part }
+        ensures { result.now ≡ part_in self.entry.text.now part }
+    {
+        &self.text[part.start..part.end]
     }
-}
 
-// Whether the label at this span has this name.
-fn is_named(text: &[u8], span: &LabelSpan, name: &[u8]) -> bool
-    requires { IsSpan text.now span.now }
-    ensures { IsTrue result ↔ ((label_in text.now span.now).name ≡ name.now) }
-{
-    part_at(text, span.name) == name
-}
-
-/// Whether one of the labels has this name.
-pub fn has_name(text: &[u8], spans: &[LabelSpan], name: &[u8]) -> bool
-    requires { AllByRecursion (IsSpan text.now) spans.now }
-    ensures { IsTrue result ↔ Contains (names_in text.now spans.now) name.now }
-{
-    for span in spans {
-        if is_named(text, span, name) {
-            return true;
+    // The text of a name or a value.
+    fn text(self, part: Part) -> &'a str
+        requires { IsPart self.text.now part }
+        ensures { result.now ≡ part_in self.entry.text.now part }
+    {
+        match str::from_utf8(self.bytes(part)) {
+            Ok(found) => found,
+            Err(_) => unreachable!(),
         }
     }
-    false
-}
 
-/// Whether one of the labels has the name of one of the other labels.
-pub fn has_name_of(
-    text: &[u8],
-    spans: &[LabelSpan],
-    other_text: &[u8],
-    others: &[LabelSpan],
-) -> bool
-    requires spans { AllByRecursion (IsSpan text.now) spans.now }
-    requires others { AllByRecursion (IsSpan other_text.now) others.now }
-    ensures { IsTrue result
-        ↔ Any (Contains (names_in text.now spans.now)) (names_in other_text.now others.now) }
-{
-    for span in others {
-        if has_name(text, spans, part_at(other_text, span.name)) {
-            return true;
+    // Whether the label at this span has this name.
+    fn is_named(self, span: &LabelSpan, name: &[u8]) -> bool
+        requires { IsSpan self.text.now span.now }
+        ensures { IsTrue result ↔ ((label_in self.entry.text.now span.now).name ≡ name.now) }
+    {
+        self.bytes(span.name) == name
+    }
+
+    /// Whether one of the labels has this name.
+    pub fn has_name(self, name: &[u8]) -> bool
+        requires { AreSpans self }
+        ensures { IsTrue result ↔ Contains (names_in self.entry.text.now self.entry.spans.now) name.now }
+    {
+        for span in self.spans {
+            if self.is_named(span, name) {
+                return true;
+            }
         }
+        false
     }
-    false
-}
 
-// Whether the label at this span is this one.
-fn is_label(text: &[u8], span: &LabelSpan, label: &(String, String)) -> bool
-    requires { IsSpan text.now span.now }
-    ensures { IsTrue result → label_in text.now span.now ≡ label_of label.now }
-{
-    part_at(text, span.name) == label.0.as_bytes()
-        && part_at(text, span.value) == label.1.as_bytes()
-}
-
-/// Whether the labels at these spans are these.
-pub fn are_labels(text: &[u8], spans: &[LabelSpan], labels: &[(String, String)]) -> bool
-    requires { AllByRecursion (IsSpan text.now) spans.now }
-    ensures { IsTrue result → labels_in text.now spans.now ≡ labels_of labels.now }
-{
-    if spans.len() != labels.len() {
-        return false;
+    /// Whether one of the labels has the name of one of the other labels.
+    pub fn has_name_of(self, others: LabelsAt<'_>) -> bool
+        requires spans { AreSpans self }
+        requires others { AreSpans others }
+        ensures { IsTrue result
+            ↔ Any (Contains (names_in self.entry.text.now self.entry.spans.now))
+            (names_in others.entry.text.now others.entry.spans.now) }
+    {
+        for span in others.spans {
+            if self.has_name(others.bytes(span.name)) {
+                return true;
+            }
+        }
+        false
     }
-    for i in 0..spans.len() {
-        if !is_label(text, &spans[i], &labels[i]) {
+
+    // Whether the label at this span has this name and this value.
+    fn is_pair(self, span: &LabelSpan, name: &str, value: &str) -> bool
+        requires { IsSpan self.text.now span.now }
+        ensures { IsTrue result → label_in self.entry.text.now span.now ≡ record { name = name.now; value = value.now } }
+    {
+        self.bytes(span.name) == name.as_bytes() && self.bytes(span.value) == value.as_bytes()
+    }
+
+    /// Whether the labels are these, in this order.
+    pub fn are(self, labels: &[(String, String)]) -> bool
+        requires { AreSpans self }
+        ensures { IsTrue result → labels_in self.entry.text.now self.entry.spans.now ≡ labels_of labels.now }
+    {
+        if self.spans.len() != labels.len() {
             return false;
         }
+        for i in 0..self.spans.len() {
+            let label = &labels[i];
+            if !self.is_pair(&self.spans[i], label.0.as_str(), label.1.as_str()) {
+                return false;
+            }
+        }
+        true
     }
-    true
-}
 
-// Whether the label at this span has this name and this value.
-fn is_pair(text: &[u8], span: &LabelSpan, label: (&str, &str)) -> bool
-    requires { IsSpan text.now span.now }
-    ensures { IsTrue result → label_in text.now span.now ≡ shown_label label.entry }
-{
-    part_at(text, span.name) == label.0.as_bytes()
-        && part_at(text, span.value) == label.1.as_bytes()
-}
-
-/// Whether the labels at these spans are those of a list.
-pub fn are_of_list(text: &[u8], spans: &[LabelSpan], list: &LabelList) -> bool
-    requires { AllByRecursion (IsSpan text.now) spans.now }
-    ensures { IsTrue result → labels_in text.now spans.now ≡ list.now }
-{
-    if spans.len() != list.len() {
-        return false;
-    }
-    for i in 0..spans.len() {
-        if !is_pair(text, &spans[i], list.at(i)) {
+    /// Whether the labels are those of a list.
+    pub fn are_of_list(self, list: &LabelList) -> bool
+        requires { AreSpans self }
+        ensures { IsTrue result → labels_in self.entry.text.now self.entry.spans.now ≡ list.now }
+    {
+        if self.spans.len() != list.len() {
             return false;
         }
+        for i in 0..self.spans.len() {
+            let (name, value) = list.at(i);
+            if !self.is_pair(&self.spans[i], name, value) {
+                return false;
+            }
+        }
+        true
     }
-    true
+
+    /// The names and values of the labels.
+    pub fn pairs(self, alloc: Global) -> Result<Vec<(&'a str, &'a str)>, AllocError>
+        requires { AreSpans self }
+        ensures { IfOk result (λ pairs. map shown_label pairs.items
+            ≡ labels_in self.entry.text.now self.entry.spans.now) }
+    {
+        let mut pairs = Vec::new(alloc);
+        for span in self.spans {
+            pairs.push((self.text(span.name), self.text(span.value)))?;
+        }
+        Ok(pairs)
+    }
+
+    /// A list of the labels.
+    pub fn list(self, alloc: Global) -> Result<LabelList, AllocError>
+        requires { AreSpans self }
+        ensures { IfOk result (λ list. list ≡ labels_in self.entry.text.now self.entry.spans.now) }
+    {
+        let mut list = LabelList::with_room(alloc, self.text.len())?;
+        for span in self.spans {
+            list.push(self.text(span.name), self.text(span.value))?;
+        }
+        Ok(list)
+    }
 }
 
 // Where a part of what a text has after its first `by` bytes is in the whole text.
@@ -175,32 +197,4 @@ pub fn push_after(
         spans.push(span_after(whole, by, span))?;
     }
     Ok(())
-}
-
-/// The names and values of the labels.
-pub fn pairs_at<'a>(
-    alloc: Global,
-    text: &'a [u8],
-    spans: &[LabelSpan],
-) -> Result<Vec<(&'a str, &'a str)>, AllocError>
-    requires { AllByRecursion (IsSpan text.now) spans.now }
-    ensures { IfOk result (λ pairs. map shown_label pairs.items ≡ labels_in text.now spans.now) }
-{
-    let mut pairs = Vec::new(alloc);
-    for span in spans {
-        pairs.push((str_at(text, span.name), str_at(text, span.value)))?;
-    }
-    Ok(pairs)
-}
-
-/// A list of the labels.
-pub fn list_at(alloc: Global, text: &[u8], spans: &[LabelSpan]) -> Result<LabelList, AllocError>
-    requires { AllByRecursion (IsSpan text.now) spans.now }
-    ensures { IfOk result (λ list. list ≡ labels_in text.now spans.now) }
-{
-    let mut list = LabelList::with_room(alloc, text.len())?;
-    for span in spans {
-        list.push(str_at(text, span.name), str_at(text, span.value))?;
-    }
-    Ok(list)
 }

@@ -7,6 +7,7 @@ use Rattle.fm_grammar.specs.Exposition.{Text, Label}
 use Rattle.fm_grammar.specs.Spelling.{escaped, label_text, label_list_text}
 use Rattle.fm_text.specs.declared.spans.Part.{Part}
 use Rattle.fm_text.specs.declared.spans.LabelSpan.{LabelSpan}
+use Rattle.fm_text.specs.declared.spans.LabelsAt.{LabelsAt}
 
 -- the name or value in this part
 abbrev pub part_in : Text → Part → Text
@@ -31,6 +32,10 @@ pub record IsPart (text : Text) (part : Part) : Type 0 where
 pub record IsSpan (text : Text) (span : LabelSpan) : Type 0 where
   pub name : IsPart text span.name
   pub value : IsPart text span.value
+
+-- all spans are within the text
+abbrev pub AreSpans : LabelsAt → Type 0
+AreSpans labels = AllByRecursion (IsSpan labels.text.now) labels.spans.now
 
 -- all spans are within the text, those of the current label too
 pub record AreParts (text : Text) (ps : List LabelSpan) (n v : Option Part) : Type 0 where

@@ -5,4 +5,4 @@ use Rattle.fm_text.specs.inside.LabelTexts.{labels_in}
 use Rattle.fm_text.proofs.labels.append_labels_at.Given as goal
 
 abbrev pub invariant-loop-i : goal.invariant-loop-i
-invariant-loop-i g l = Grows (g.O.Output.stands_for l.fn.text) (g.O.Output.stands_for l.text) (label_list_text (labels_in l.raw (take l.i l.spans)))
+invariant-loop-i g l = Grows (g.O.Output.stands_for l.fn.text) (g.O.Output.stands_for l.text) (label_list_text (labels_in l.labels.text.now (take l.i l.labels.spans.now)))

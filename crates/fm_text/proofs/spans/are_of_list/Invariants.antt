@@ -1,6 +1,0 @@
-use Rattle.std.proofs.Common.{◌≡◌, take}
-use Rattle.fm_text.specs.inside.LabelTexts.{labels_in}
-use Rattle.fm_text.proofs.spans.are_of_list.Given as goal
-
-abbrev pub invariant-loop-i : goal.invariant-loop-i
-invariant-loop-i l = labels_in l.text (take l.i l.spans) ≡ take l.i l.list
