@@ -122,7 +122,7 @@ def passes(program, case, room, number=0, limit=None, seconds=ONE_RUN):
 
 def failing(program, runs, room, body, number=0):
     """Those of a body's tests that fail with it. A step that two threads break shows only where they meet."""
-    for _ in range(3):
+    for _ in range(10):
         tests = [(it, limit) for it, limit in tests_of(body)[1].items() if it in runs]
         seconds = int(body.seconds or ONE_RUN)
         found = [it for it, limit in tests if not passes(program, runs[it], room, number, limit, seconds)]
