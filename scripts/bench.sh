@@ -21,27 +21,23 @@ scenes="hand counters named labeled histograms gauges updates lookup lookup_sip 
 "$top/scripts/prove.py" --build --crates "$folder" bench_support bench || exit 1
 cd "$folder/crates/bench"
 
-# A second program counts its requests for memory (scripts/memory.c).
-kit=${RATTLE_KIT:-$(dirname "$(rt doc | head -n 1)")}
-"${CC:-cc}" -o "$folder/counted" out/bench.o "$top/scripts/memory.c" "$kit/c/libos_c.a" "$kit/c/liblibc_c.a" \
-    -Wl,--wrap=malloc,--wrap=realloc,--wrap=free,--wrap=_exit -lpthread
+"${CC:-cc}" -shared -fPIC -O1 -o "$folder/counter.so" "$top/scripts/memory.c"
 
-# How often a scene asks for memory, and the most bytes at once, with so many members and rounds: what is asked for after so many
-# requests counts.
+# How often a scene asks for memory (scripts/memory.c), and the most bytes at once, with so many members and rounds: what is asked
+# for after so many requests counts.
 count() {
-    REFUSE_COUNT="$folder/count" REFUSE_SINCE="${4:-}" "$folder/counted" "$1" "$2" "$3" >"$folder/bytes"
-    read -r asked most _ <"$folder/count"
+    LD_PRELOAD="$folder/counter.so" REFUSE_COUNT="$folder/count" REFUSE_SINCE="${4:-}" out/bench "$1" "$2" "$3" >"$folder/bytes"
+    read -r asked most <"$folder/count"
 }
 
-# What one `encode` of a scene asks for, by a program that is linked with the counter of requests: of so many members, and lines a
-# member. It is the second one of its program, so that the writer has its memory already.
+# What one `encode` of a scene asks for, of so many members, and lines a member. It is the second one of its program, so that the
+# writer has its memory already.
 count_memory() {
-    local before bytes
+    local before
     count "$1" "$2" 1
     before=$asked
     count "$1" "$2" 2 "$before"
-    bytes=$(<"$folder/bytes")
-    awk -v n="$((asked - before))" -v lines="$(($2 * $3))" -v most="$most" -v bytes="$bytes" -v of="$1 $2" \
+    awk -v n="$((asked - before))" -v lines="$(($2 * $3))" -v most="$most" -v bytes="$(<"$folder/bytes")" -v of="$1 $2" \
         'BEGIN { printf "%s requests %.3f\n%s memory %.2f\n", of, n / lines, of, most / bytes }'
 }
 

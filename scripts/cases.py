@@ -21,11 +21,12 @@ import sys
 import tempfile
 import tomllib
 from concurrent.futures import ThreadPoolExecutor
+from pathlib import Path
 
-import unproved
-from crates import TOP
+from crates import LANES, TOP
 
-ONE_RUN = 60
+# How long one run may take beside other work, in seconds.
+ONE_RUN = 600
 
 
 def whole(told):
@@ -36,71 +37,37 @@ def whole(told):
 
 
 class Case:
-    """A run of a program, and what it has to write."""
+    """A run of a program, and what it has to write. What it writes to standard error counts unless `stderr` is None."""
 
-    def __init__(self, name, told):
-        encoding = told.get("encoding", "utf-8")
-        self.name, self.to, self.status = name, told.get("to"), told.get("status", 0)
-        self.args = [it.encode(encoding) for it in told.get("args", [])]
-        self.stdin, self.stdout, self.stderr = (whole(told.get(it, "")).encode(encoding) for it in ("stdin", "stdout", "stderr"))
+    def __init__(self, name, args=(), stdin="", stdout="", stderr="", status=0, to=None, encoding="utf-8"):
+        self.name, self.to, self.args = name, to, [it.encode(encoding) for it in args]
+        self.stdin, self.stdout = whole(stdin).encode(encoding), whole(stdout).encode(encoding)
+        self.stderr, self.status = None if stderr is None else whole(stderr).encode(encoding), status
 
-    def run(self, program, environment=None):
-        """The status of one run, and what it writes to standard output and to standard error."""
+    def run(self, program, environment=None, seconds=ONE_RUN):
+        """The status of one run of a program, which a list of words begins, and what it writes to standard output and to standard
+        error."""
         out = open(self.to, "wb") if self.to else subprocess.PIPE
+        how = {"input": self.stdin, "stdout": out, "stderr": subprocess.PIPE, "timeout": seconds, "env": environment or {}}
         try:
-            ended = subprocess.run(
-                [program, *self.args],
-                input=self.stdin,
-                stdout=out,
-                stderr=subprocess.PIPE,
-                timeout=ONE_RUN,
-                env={**os.environ, **(environment or {})},
-            )
+            ended = subprocess.run([*program, *self.args], **how)
         except subprocess.TimeoutExpired:
-            return None, b"", b"no end"
+            return None, b"", f"no end in {seconds} seconds\n".encode()
         return ended.returncode, ended.stdout or b"", ended.stderr
 
-
-def beside(crate):
-    """The run whose words, input, output and status are files of a crate."""
-    told = {}
-    for name in ("args", "stdin", "stdout", "status"):
-        if os.path.isfile(f"{TOP}/crates/{crate}/{name}"):
-            told[name] = text_at(f"{TOP}/crates/{crate}/{name}")
-    return Case("beside", {**told, "args": told.get("args", "").splitlines(), "status": int(told.get("status", "0"))})
-
-
-def text_at(path):
-    with open(path, encoding="utf-8", newline="") as file:
-        return file.read()
+    def is_right(self, status, stdout, stderr):
+        """Whether a run ended and wrote what it has to."""
+        return (status, stdout) == (self.status, self.stdout) and self.stderr in (None, stderr)
 
 
 def cases_of(crate):
     """A crate's cases, and what a want of memory writes to standard error, if it ends the program."""
-    with open(f"{TOP}/crates/{crate}/cases.toml", "rb") as file:
-        told = tomllib.load(file)
+    folder = Path(TOP, "crates", crate)
+    told = tomllib.loads((folder / "cases.toml").read_text("utf-8"))
     no_memory = re.compile(told.pop("no_memory").encode())
-    return [beside(crate), *(Case(name, it) for name, it in told.items())], no_memory
-
-
-def crates_with_cases():
-    return sorted(it for it in os.listdir(f"{TOP}/crates") if os.path.isfile(f"{TOP}/crates/{it}/cases.toml"))
-
-
-def failing(crate, folder):
-    """The cases of a crate that another copy of it in this folder fails, compiled with run-time checks and not proved, and what
-    was said."""
-    cases, _ = cases_of(crate)
-    with tempfile.TemporaryDirectory(prefix="cases-") as files:
-        for case in cases:
-            for ending, text in (("", case.stdin), (".args", b"".join(it + b"\n" for it in case.args)), (".stdout", case.stdout)):
-                with open(f"{files}/{case.name}{ending}", "wb") as file:
-                    file.write(text)
-        said = unproved.run(folder, crate, ["--cases", files])
-    if not re.search(r"^cases=\d+ ", said, re.M):
-        return None, said
-    passes = lambda it: re.search(rf"^case={it.name} run=ended status={it.status} .*output=expected", said, re.M)
-    return [it.name for it in cases if not it.to and not passes(it)], said
+    beside = {it: (folder / it).read_bytes().decode() for it in ("args", "stdin", "stdout", "status") if (folder / it).is_file()}
+    beside = {**beside, "args": beside.get("args", "").splitlines(), "status": int(beside.get("status", "0"))}
+    return [Case(name, **it) for name, it in {"beside": beside, **told}.items()], no_memory
 
 
 def refused(program, case, no_memory, counter, request):
@@ -111,43 +78,37 @@ def refused(program, case, no_memory, counter, request):
     return f"FAILED: {case.name}, request {request}: status {status}, {len(out)} bytes, {errors!r}"
 
 
-def requests_of(program, case, counter, scratch):
-    """How many requests for memory a case makes."""
-    count = f"{scratch}/count"
-    case.run(program, {"LD_PRELOAD": counter, "REFUSE_COUNT": count})
-    with open(count, encoding="ascii") as file:
-        return int(file.read().split()[0])
-
-
-def tried(crate, counter, scratch, pool):
+def tried(crate, counter, pool):
     """Tries a crate's cases, and returns how many there are and how many fail."""
     cases, no_memory = cases_of(crate)
-    program = f"{os.environ.get('PROGRAMS') or f'{TOP}/crates/{crate}/out'}/{crate}"
+    program = [f"{os.environ.get('PROGRAMS') or f'{TOP}/crates/{crate}/out'}/{crate}"]
     wrong, requests = set(), 0
     for case in cases:
-        answer = case.run(program)
-        if answer != (case.status, case.stdout, case.stderr):
-            print(f"FAILED: {crate}, {case.name}: {answer}", flush=True)
+        answer, said = case.run(program), []
+        if not case.is_right(*answer):
+            said = [f"FAILED: {crate}, {case.name}: {answer}"]
+        elif case.status == 0:
+            case.run(program, {"LD_PRELOAD": counter, "REFUSE_COUNT": f"{counter}.count"})
+            count = int(Path(f"{counter}.count").read_text().split()[0])
+            one = lambda request: refused(program, case, no_memory, counter, request)
+            said = [it for it in pool.map(one, range(1, count + 1)) if it]
+            said += [] if count else [f"FAILED: {crate}, {case.name} asks for no memory"]
+            requests += count
+        if said:
+            print("\n".join(said), flush=True)
             wrong.add(case.name)
-    for case in (it for it in cases if it.status == 0 and it.name not in wrong):
-        count = requests_of(program, case, counter, scratch)
-        one = lambda request: refused(program, case, no_memory, counter, request)
-        said = [it for it in pool.map(one, range(1, count + 1)) if it]
-        if said or not count:
-            print("\n".join(said) or f"FAILED: {crate}, {case.name} asks for no memory", flush=True)
-            wrong.add(case.name)
-        requests += count
     refusals = f"{requests} requests for memory refused in turn"
     print(f"{crate}: {len(cases)} cases, and {refusals}{', FAILED' if wrong else ''}", flush=True)
     return len(cases), len(wrong)
 
 
 def main():
-    with tempfile.TemporaryDirectory(prefix="cases-") as scratch, ThreadPoolExecutor(len(os.sched_getaffinity(0))) as pool:
+    with tempfile.TemporaryDirectory(prefix="cases-") as scratch, ThreadPoolExecutor(LANES) as pool:
         counter = f"{scratch}/counter.so"
-        compiler = [os.environ.get("CC", "cc"), "-shared", "-fPIC", "-O1", "-DPRELOADED"]
+        compiler = [os.environ.get("CC", "cc"), "-shared", "-fPIC", "-O1"]
         subprocess.run([*compiler, "-o", counter, f"{TOP}/scripts/memory.c"], check=True)
-        counts = [tried(it, counter, scratch, pool) for it in sys.argv[1:] or crates_with_cases()]
+        crates = sys.argv[1:] or sorted(it.parent.name for it in Path(TOP).glob("crates/*/cases.toml"))
+        counts = [tried(it, counter, pool) for it in crates]
     passed, failed = sum(all_ - wrong for all_, wrong in counts), sum(wrong for _, wrong in counts)
     print(f"{passed} cases passed, {failed} failed")
     return 1 if failed else 0

@@ -10,6 +10,7 @@ tests/ or examples/server/ has `.in` behind its name, which it loses in a copy, 
 A verdict is kept in ~/.cache/fastmetrics, or in the folder that FASTMETRICS_KEPT names; with FASTMETRICS_KEPT= nothing is kept,
 and all is tried. It lies under the checksum of all that it rests on, so that what changed is tried again.
 """
+import glob
 import hashlib
 import json
 import os
@@ -21,10 +22,16 @@ import sys
 TOP = os.path.dirname(os.path.dirname(os.path.realpath(__file__)))
 KIT = os.path.dirname(subprocess.run(["rt", "doc"], stdout=subprocess.PIPE, text=True, check=True).stdout.strip())
 KEPT = os.environ.get("FASTMETRICS_KEPT", os.path.expanduser("~/.cache/fastmetrics"))
+# On how many processors it may run.
+LANES = len(os.sched_getaffinity(0))
+# A folder on the disk of the crates, where their libraries can be linked.
+ON_DISK = f"{TOP}/.git" if os.path.isdir(f"{TOP}/.git") else None
 PARTS = ("bench", "tests")
 ROOTS = ("src/main.rt", "src/lib.rt")
 # The folders of crates that have another name.
 FOLDERS = {"replay": "scripts", "tests": "unit"}
+# A line of crates.txt: a crate, and the libraries that it uses.
+LINE = re.compile(r"^(\w+)\b[^:#\n]*:([^#\n]*)", re.M)
 
 
 def text_of(path):
@@ -39,10 +46,10 @@ def write(path, text):
 
 
 class Crate:
-    """A crate: its name, the libraries that its line names, and its folder."""
+    """A crate: its name, the libraries that its line names, its folder, and the one with its library once that is proved."""
 
     def __init__(self, name, libraries, folder):
-        self.name, self.libraries, self.folder = name, libraries, folder
+        self.name, self.libraries, self.folder, self.rlib = name, libraries, folder, f"{folder}/out/rlib"
 
     def below(self, crates):
         """The crates of these that it is built on."""
@@ -54,53 +61,41 @@ class Crate:
                 left += crates[name].libraries
         return [crates[name] for name in found]
 
-    def words(self, crates, rlibs, links=""):
-        """The words of a check of it, on libraries that are built, in the folder that a function names for each crate."""
-        rlib = lambda name: f"{rlibs(crates[name])}/{name}.rlib" if name in crates else f"{KIT}/rlibs/{name}.rlib"
+    def words(self, crates, links="", jobs=1):
+        """The words of a check of it, on libraries that are built."""
+        rlib = lambda name: f"{crates[name].rlib if name in crates else f'{KIT}/rlibs'}/{name}.rlib"
         root = next(it for it in ROOTS if os.path.isfile(f"{self.folder}/{it}"))
         words = [f"{KIT}/bin/rattle", "check", "--crate-name", self.name, root, "-L", f"dependency={KIT}/rlibs"]
         for name in ["std", *self.libraries]:
             words += ["--extern", f"{name}={rlib(name)}"]
         for crate in self.below(crates):
-            words += ["-L", f"dependency={os.path.dirname(rlib(crate.name))}"]
+            words += ["-L", f"dependency={crate.rlib}"]
         words += ["--antt-project", f"{KIT}/rattle/logic/antt-project.json", "--logic-built", f"{KIT}/logic_built"]
-        return [*words, "--links", f"{self.name}={links}", "--jobs", "1"]
+        return [*words, "--links", f"{self.name}={links}", "--jobs", str(jobs)]
 
 
-def lines_of(path):
-    """The crates of a file such as crates.txt, each with the libraries that its line names."""
-    found = re.findall(r"^(\w+)\b[^:#\n]*:([^#\n]*)", text_of(path), re.M)
-    return {name: libraries.split() for name, libraries in found}
-
-
-def crates_of(*parts, kind=Crate):
-    """The crates of crates.txt, and those of these parts, by their names."""
-    found = {name: kind(name, libraries, f"{TOP}/crates/{name}") for name, libraries in lines_of(f"{TOP}/crates.txt").items()}
-    for part in parts:
-        lines = lines_of(f"{TOP}/{part}/crates.in").items()
-        found |= {name: kind(name, libraries, f"{TOP}/{part}/{FOLDERS.get(name, name)}") for name, libraries in lines}
-    return found
-
-
-def true_name(path):
-    """The name of a file in a copy."""
-    return path.removesuffix(".in")
+def crates_of(*parts, kind=Crate, top=TOP):
+    """The crates of crates.txt, here or in a copy of the repository, and those of these parts, by their names."""
+    places = [(f"{top}/crates.txt", lambda name: f"{top}/crates/{name}")]
+    places += [(f"{top}/{it}/crates.in", lambda name, it=it: f"{top}/{it}/{FOLDERS.get(name, name)}") for it in parts]
+    lines = [(line, folder) for path, folder in places for line in LINE.findall(text_of(path))]
+    return {name: kind(name, libraries.split(), folder(name)) for (name, libraries), folder in lines}
 
 
 def lay_out(folder, parts=PARTS):
     """Lays the crates of crates.txt and of these parts in a folder. What was built there stays, and nothing else."""
     for crate in crates_of(*parts).values():
         target = f"{folder}/crates/{crate.name}"
-        for name in os.listdir(target) if os.path.isdir(target) else []:
-            if name != "out":
-                shutil.rmtree(f"{target}/{name}") if os.path.isdir(f"{target}/{name}") else os.remove(f"{target}/{name}")
-        copy = lambda path, to: shutil.copy(path, true_name(to))
+        for path in glob.glob(f"{target}/*"):
+            if os.path.basename(path) != "out":
+                shutil.rmtree(path) if os.path.isdir(path) else os.remove(path)
+        copy = lambda path, to: shutil.copy(path, to.removesuffix(".in"))
         left = shutil.ignore_patterns("out", "must-fail")
         shutil.copytree(crate.folder, target, ignore=left, copy_function=copy, dirs_exist_ok=True)
     lines = [f"{TOP}/crates.txt", *(f"{TOP}/{part}/crates.in" for part in parts)]
     write(f"{folder}/crates.txt", "".join(map(text_of, lines)))
-    handles = [f"{TOP}/{part}/HANDLES" for part in parts if os.path.isfile(f"{TOP}/{part}/HANDLES")]
-    shutil.copy([f"{TOP}/HANDLES", *handles][-1], f"{folder}/HANDLES")
+    handles = [it for it in (f"{TOP}/{part}/HANDLES" for part in ("", *parts)) if os.path.isfile(it)]
+    shutil.copy(handles[-1], f"{folder}/HANDLES")
     os.makedirs(f"{folder}/.git", exist_ok=True)
 
 

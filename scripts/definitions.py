@@ -12,7 +12,7 @@ clause (sources.py) of a library reaches a definition that stands outside of one
 import re
 import sys
 
-from sources import TOP, cited, clauses_of, home, imports_of_source, module, reach, words_of
+from sources import TOP, clauses_of, home, libraries, module, named_in, public_clauses, reach
 
 # The most lines of each: what `encode` promises, what a registration does, and what metrics declare.
 MOST = {"encode": 740, "registering": 340, "declared": 600}
@@ -29,34 +29,25 @@ REGISTERING = {
 }
 
 
-def starts():
+def block_of(path, head):
+    """A source, and the block of it with this head."""
+    text = (TOP / "crates" / path).read_text()
+    return text, text[text.index(head) : text.index("\n}\n", text.index(head))]
+
+
+def encoding():
+    """What the clauses of `encode` name, what they see of a registry, and what a metric declares."""
     text = (TOP / "crates/fm_core/src/scrape/encode.rt").read_text()
-    imports = imports_of_source(text)
-    words = {word for clauses in clauses_of(text, "encode") for word in words_of(clauses.split("\n"))}
-    # What the clauses see of a registry, and what a metric declares.
-    registry = (TOP / "crates/fm_core/src/registry/tree.rt").read_text()
-    at = registry.index("Model for Registry<M> {")
-    model = registry[at : registry.index("\n}\n", at)]
-    value = next(l for l in model.split("\n") if "ghost Value" in l)
-    metric = (TOP / "crates/fm_encoder/src/metric.rt").read_text()
-    at = metric.index("pub trait EncodeMetric")
-    ghosts = "\n".join(l for l in metric[at : metric.index("\n}\n", at)].split("\n") if "ghost" in l)
-    found = [imports[w] for w in words if w in imports]
-    for text, whole in ((value, model), (ghosts, metric)):
-        here = imports_of_source(whole)
-        found += [here[w] for w in set(words_of(text.split("\n"))) if w in here]
-    return [f for f in found if not f[0].startswith("std.")]
+    _, model = block_of("fm_core/src/registry/tree.rt", "Model for Registry<M> {")
+    metric, trait = block_of("fm_encoder/src/metric.rt", "pub trait EncodeMetric")
+    ghosts = named_in(re.findall(".*ghost.*", trait), metric)
+    return named_in(clauses_of(text, "encode"), text) | named_in(re.findall(".*ghost Value.*", model)[:1], model) | ghosts
 
 
 def registering():
     """What the clauses of the calls that register name."""
-    found = []
-    for source, function in REGISTERING.items():
-        text = (TOP / source).read_text()
-        imports = imports_of_source(text)
-        words = {word for clauses in clauses_of(text, function) for word in words_of(clauses.split("\n"))}
-        found += [imports[word] for word in words if word in imports]
-    return [it for it in found if not it[0].startswith("std.")]
+    texts = {(TOP / source).read_text(): function for source, function in REGISTERING.items()}
+    return set().union(*(named_in(clauses_of(text, function), text) for text, function in texts.items()))
 
 
 # A root that can be shown declares nothing more than its metrics. A `;` stands in the head of an impl for arrays.
@@ -67,19 +58,16 @@ GHOST = re.compile(r"^    ghost (?!use )[\s\S]*?;$", re.M)
 
 def declared():
     """The lines of ghost members of impls of `Encode` traits, by file, and the definitions that they name."""
-    lines, names = {}, []
-    crates = re.search(r"^(fastmetrics)\b[^:]*:(.*)$", (TOP / "crates.txt").read_text(), re.M)
-    crates = [crates[1], *crates[2].split()]
-    for path in sorted(it for crate in crates for it in TOP.glob(f"crates/{crate}/src/**/*.rt")):
+    lines, names = {}, set()
+    for path in sorted(it for paths in libraries().values() for it in paths):
         text = path.read_text()
         for found in IMPL.finditer(text):
             block = text[found.end() : text.index("\n}\n", found.end())]
-            imports = imports_of_source(text[: found.start()].split("\nimpl")[0]) | imports_of_source(block)
-            for ghost in GHOST.finditer(block):
-                here = [l for l in ghost.group().split("\n") if l.strip() and not l.strip().startswith("//")]
+            for ghost in GHOST.findall(block):
+                here = [it for it in ghost.split("\n") if it.strip() and not it.strip().startswith("//")]
                 lines[path] = lines.get(path, 0) + len(here)
-                names += [imports[w] for w in set(words_of(here)) if w in imports]
-    return lines, [n for n in names if not n[0].startswith("std.")]
+                names |= named_in(here, text[: found.start()].split("\nimpl")[0] + block)
+    return lines, names
 
 
 def size_of(found):
@@ -112,34 +100,34 @@ def print_declared(lines, more):
 
 def misplaced():
     """The definitions of libraries that no public clause reaches, and that stand in no folder `inside`."""
-    crates = sorted(it for it in (TOP / "crates").iterdir() if (it / "src").is_dir())
-    public = reach({home(it) for crate in crates for path in crate.glob("src/**/*.rt") for it in cited(path)})
-    specs = sorted(path for it in crates if (it / "src/lib.rt").exists() for path in it.glob("specs/**/*.antt"))
-    for path in (it for it in specs if "/inside/" not in str(it)):
+    sources = [it.read_text() for it in TOP.glob("crates/*/src/**/*.rt")]
+    public = reach({home(it) for text in sources for it in named_in(public_clauses(text), text)})
+    for path in sorted(it for it in TOP.glob("crates/*/specs/**/*.antt") if "/inside/" not in str(it)):
         name = str(path.relative_to(TOP / "crates"))[: -len(".antt")].replace("/", ".")
-        for word in module(name).definitions:
+        is_library = (TOP / "crates" / name.partition(".")[0] / "src/lib.rt").exists()
+        for word in module(name).definitions if is_library else ():
             if word != "mutual" and word.isidentifier() and (name, word) not in public:
                 yield f"belongs into specs/inside: {name} {word}"
 
 
 def main():
-    headline = reach(starts())
-    calls = reach(registering()) - headline
     lines, names = declared()
-    more = reach(names) - headline - calls
+    headline, calls, more = reach(encoding()), reach(registering()), reach(names)
+    calls, more = calls - headline, more - headline - calls
     sizes = {"encode": size_of(headline), "registering": size_of(calls), "declared": sum(lines.values()) + size_of(more)}
     print("what `encode` promises:")
-    wrong = [f"reached, and yet inside: {it}" for it in print_reached(headline)]
+    inside = print_reached(headline)
     print("what the calls that register promise besides:")
-    wrong += [f"reached, and yet inside: {it}" for it in print_reached(calls)]
+    inside += print_reached(calls)
     print("what the metrics of the library declare:")
     print_declared(lines, more)
     print(", ".join(f"{name} {size}" for name, size in sizes.items()), "lines")
+    wrong = [f"reached, and yet inside: {it}" for it in inside]
     wrong += [f"{name}: more than {MOST[name]} lines" for name, size in sizes.items() if size > MOST[name]]
     wrong += misplaced()
     print("\n".join(wrong), end="\n" * bool(wrong), file=sys.stderr)
-    sys.exit(1 if wrong else 0)
+    return 1 if wrong else 0
 
 
 if __name__ == "__main__":
-    main()
+    sys.exit(main())

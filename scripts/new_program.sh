@@ -2,7 +2,8 @@
 # Starts a program of your own: copies crates/first_use as crates/NAME, and adds its line to crates.txt.
 #
 #   scripts/new_program.sh NAME            in this repository
-#   scripts/new_program.sh NAME FOLDER     in a repository of its own in FOLDER, beside copies of the library's crates
+#   scripts/new_program.sh NAME FOLDER     in a repository of its own in FOLDER, beside copies of the library's crates, with what
+#                                          is proved of them; what the folder has already stays
 set -eu
 top=$(cd "$(dirname "$0")/.." && pwd)
 name=${1:-}
@@ -16,33 +17,23 @@ if [[ -e $folder/crates/$name ]]; then
     exit 1
 fi
 
-# The library's crates with what is proved of them, and their lines of crates.txt. What the folder has already stays.
-copy_library() {
-    local lines line crate
-    mkdir -p "$folder/crates"
-    [[ -e $folder/HANDLES ]] || cp "$top/HANDLES" "$folder/"
-    [[ -e $folder/.gitignore ]] || printf 'out/\n' >"$folder/.gitignore"
-    lines=$(grep -E '^(fm_|fastmetrics)' "$top/crates.txt")
-    end_line
-    printf '%s\n' "$lines" >>"$folder/crates.txt"
-    while read -r line; do
-        crate=${line%%[: ]*}
-        cp -a "$top/crates/$crate" "$folder/crates/"
-    done <<<"$lines"
-    [[ -e $folder/.git ]] || git -C "$folder" init -q
-}
-
-# Ends the last line of crates.txt, if it has no end.
-end_line() {
+# Adds the lines of crates.txt that come in, and ends its last one, if it has no end.
+add_lines() {
     [[ ! -s $folder/crates.txt || -z $(tail -c 1 "$folder/crates.txt") ]] || echo >>"$folder/crates.txt"
+    cat >>"$folder/crates.txt"
 }
 
-[[ -d $folder/crates/fastmetrics ]] || copy_library
-mkdir -p "$folder/crates/$name"
-cp -r "$top/crates/first_use/src" "$folder/crates/$name/"
-cp "$top/crates/first_use/stdout" "$folder/crates/$name/"
-end_line
-grep '^first_use' "$top/crates.txt" | sed "s/^first_use/$name/" >>"$folder/crates.txt"
+if [[ ! -d $folder/crates/fastmetrics ]]; then
+    mkdir -p "$folder/crates"
+    cp -a "$top"/crates/{fm_*,fastmetrics} "$folder/crates/"
+    [[ -e $folder/HANDLES ]] || cp "$top/HANDLES" "$folder/"
+    [[ -e $folder/.gitignore ]] || echo out/ >"$folder/.gitignore"
+    [[ -e $folder/.git ]] || git -C "$folder" init -q
+    grep -E '^(fm_|fastmetrics)' "$top/crates.txt" | add_lines
+fi
+mkdir "$folder/crates/$name"
+cp -r "$top"/crates/first_use/{src,stdout} "$folder/crates/$name/"
+sed -n "s/^first_use/$name/p" "$top/crates.txt" | add_lines
 
 grep -q Wait "$folder/HANDLES" || echo "$folder/HANDLES doesn't allow Wait, which the program needs" >&2
 grep -q Net "$folder/HANDLES" || echo "A server that opens sockets adds Net to $folder/HANDLES; the library is then proved" \

@@ -20,110 +20,85 @@ import subprocess
 import sys
 import tempfile
 import time
+from contextlib import suppress
 
-from crates import KIT, TOP, Crate, crates_of, lines_of
-from crates import files_in as files_below
+from crates import KIT, LANES, ON_DISK, TOP, crates_of, files_in
 
 # What a check says of all that it reads and that is well.
 QUIET = re.compile(
     r"(?:statements|library|logic|axioms|crate|linked|logic=|by-macro:|hides|note: only the first) ?"
     r"|(?:fn|impl|struct|enum|trait) \S+: (?:proved|no holes)"
 )
+LINK = [f"{KIT}/bin/rattle-link", "--target", "x86_64-unknown-linux-gnu", "--toolchain", f"{KIT}/toolchain"]
+LINKED = [f"{KIT}/c/libos_c.a", f"{KIT}/c/liblibc_c.a"]
 
 
-def words_of(crate, crates, target):
-    """The words of a check of a crate that keeps what it proves, or of a build, if there is a target."""
-    words = crate.words(crates, lambda it: f"{it.folder}/out/rlib")
-    words[words.index("--jobs") + 1] = str(len(os.sched_getaffinity(0)))
-    words += ["--incremental", f"{crate.folder}/out/proved"]
-    if target:
-        words[1] = "build"
-        words += ["-o", target]
-    return words + ["--toolchain", f"{KIT}/toolchain"] * target.endswith(".o")
+def library_of(crate):
+    """Where a library lies once it is proved."""
+    return f"{crate.rlib}/{crate.name}.rlib"
 
 
-def linked(target):
-    """Links a program."""
-    link = [f"{KIT}/bin/rattle-link", "--target", "x86_64-unknown-linux-gnu", "--toolchain", f"{KIT}/toolchain"]
-    return subprocess.run([*link, "-o", target[:-2], target, f"{KIT}/c/libos_c.a", f"{KIT}/c/liblibc_c.a"]).returncode == 0
+def missing_below(crate, crates):
+    """The libraries below a crate that aren't there."""
+    return [it for it in crate.below(crates) if not os.path.isfile(f"{library_of(it)}/format")]
 
 
-def rlib_of(library, folder=None):
-    """Where a library lies once it is proved, here or in a copy of the repository."""
-    return f"{folder or os.path.dirname(os.path.dirname(library.folder))}/crates/{library.name}/out/rlib/{library.name}.rlib"
-
-
-def is_there(rlib):
-    return os.path.isfile(f"{rlib}/format")
-
-
-def files_in(folder):
-    """The files below a folder, with their sizes."""
-    return sorted((os.path.relpath(it, folder), os.path.getsize(it)) for it in files_below([folder]))
-
-
-def link(rlib, target):
+def link(library, target):
     """Links a library into its place, if there is more of it than there. It may still be written, or be removed already."""
     part = f"{target}.part"
-    try:
-        here, there = files_in(rlib), files_in(target)
+    sizes = lambda folder: sorted((os.path.relpath(it, folder), os.path.getsize(it)) for it in files_in([folder]))
+    with suppress(OSError, shutil.Error):
+        here, there = sizes(library), sizes(target)
         if here != there and len(here) >= len(there):
-            shutil.copytree(rlib, part, copy_function=os.link)
-            if files_in(rlib) == here:
+            shutil.copytree(library, part, copy_function=os.link)
+            if sizes(library) == here:
                 shutil.rmtree(target, ignore_errors=True)
                 os.rename(part, target)
-    except (OSError, shutil.Error):
-        pass
     shutil.rmtree(part, ignore_errors=True)
 
 
 def take(libraries):
     """Has `rt ci` prove libraries, or take what it kept of them, and links them as they come: it works on a copy, and removes
     that at its end."""
-    if not libraries:
-        return
-    print(f"rt ci {' '.join(it.name for it in libraries)}", flush=True)
-    with tempfile.TemporaryDirectory(prefix="libraries-", dir=f"{TOP}/.git" if os.path.isdir(f"{TOP}/.git") else None) as room:
+    words = ["rt", "ci", *(it.name for it in libraries)]
+    print(*words, flush=True)
+    with tempfile.TemporaryDirectory(prefix="libraries-", dir=ON_DISK) as room:
         how = {"stdin": subprocess.DEVNULL, "stdout": subprocess.DEVNULL, "stderr": subprocess.STDOUT}
-        how["env"] = {**os.environ, "TMPDIR": room}
-        with subprocess.Popen(["rt", "ci", *(it.name for it in libraries)], cwd=TOP, **how) as run:
+        with subprocess.Popen(words, cwd=TOP, env={**os.environ, "TMPDIR": room}, **how) as run:
             while run.poll() is None:
-                for library, copy in ((it, copy) for it in libraries for copy in glob.glob(f"{room}/*/repo")):
-                    if is_there(rlib_of(library, copy)):
-                        os.makedirs(os.path.dirname(rlib_of(library)), exist_ok=True)
-                        link(rlib_of(library, copy), rlib_of(library))
+                for it in libraries:
+                    for made in glob.glob(f"{room}/*/repo/crates/{it.name}/out/rlib/{it.name}.rlib/format"):
+                        link(os.path.dirname(made), library_of(it))
                 time.sleep(0.1)
 
 
 def proved(crate, crates, builds):
     """Whether a crate is proved, and built if it is a library or `builds` says so."""
-    take([it for it in crate.below(crates) if not is_there(rlib_of(it))])
-    missing = [it.name for it in crate.below(crates) if not is_there(rlib_of(it))]
-    if missing:
+    if missing_below(crate, crates):
+        take(missing_below(crate, crates))
+    if missing := [it.name for it in missing_below(crate, crates)]:
         print(f"not proved: {' '.join(missing)}; `rt ci {missing[0]}` says why", file=sys.stderr)
         return False
-    is_program, begun = os.path.isfile(f"{crate.folder}/src/main.rt"), time.monotonic()
-    target = f"{crate.folder}/out/rlib/{crate.name}.rlib"
-    os.makedirs(os.path.dirname(target), exist_ok=True)
-    if is_program:
-        target = f"{crate.folder}/out/{crate.name}.o" if builds else ""
+    begun, program = time.monotonic(), f"{crate.folder}/out/{crate.name}"
+    is_program = os.path.isfile(f"{crate.folder}/src/main.rt")
+    words = [*crate.words(crates, jobs=LANES), "--incremental", f"{crate.folder}/out/proved"]
+    if builds or not is_program:
+        words[1] = "build"
+        words += ["-o", f"{program}.o", "--toolchain", f"{KIT}/toolchain"] if is_program else ["-o", library_of(crate)]
+    os.makedirs(crate.rlib, exist_ok=True)
     how = {"stdin": subprocess.DEVNULL, "stdout": subprocess.PIPE, "stderr": subprocess.STDOUT, "text": True, "errors": "replace"}
-    with subprocess.Popen(words_of(crate, crates, target), cwd=crate.folder, **how) as check:
+    with subprocess.Popen(words, cwd=crate.folder, **how) as check:
         functions = 0
         for line in check.stdout:
             functions += line.startswith("fn ")
             if not QUIET.match(line):
                 print(line, end="", flush=True)
-    is_proved = check.returncode == 0 and (not target.endswith(".o") or linked(target))
+    is_proved = check.returncode == 0
+    if is_proved and builds and is_program:
+        is_proved = subprocess.run([*LINK, "-o", program, f"{program}.o", *LINKED]).returncode == 0
     verdict, seconds = "proved" if is_proved else "NOT PROVED", time.monotonic() - begun
     print(f"{crate.name}: {verdict}, {functions} functions, {seconds:.0f} seconds", flush=True)
     return is_proved
-
-
-def crates_in(folder, names):
-    """The crates here, and those of these names in a folder in their place."""
-    lines = lines_of(f"{folder}/crates.txt").items()
-    return crates_of() | {name: Crate(name, libraries, f"{folder}/crates/{name}") for name, libraries in lines if name in names}
 
 
 def main():
@@ -132,7 +107,8 @@ def main():
     words.add_argument("--crates", default=TOP)
     words.add_argument("names", nargs="+")
     given = words.parse_args()
-    crates = crates_in(os.path.realpath(given.crates), given.names)
+    crates, others = crates_of(), crates_of(top=os.path.realpath(given.crates))
+    crates |= {name: others[name] for name in given.names if name in others}
     unknown = [it for it in given.names if it not in crates]
     if unknown:
         sys.exit(f"crates.txt has no {' '.join(unknown)}")

@@ -4,8 +4,12 @@ from collections import namedtuple
 from functools import cache
 from pathlib import Path
 
-TOP = Path(__file__).resolve().parent.parent
+import crates
+
+TOP = Path(crates.TOP)
 WORD = re.compile(r"[^\s(){}\[\],;.→λ←]+")
+# What stands before the name of a definition.
+BEFORE_NAME = ("abbrev", "unfoldable", "pub", "data", "record", "ghost", "opaque")
 # Words in backticks.
 TICKED = re.compile(r"(?<!`)(`+)(?!`)(.+?)(?<!`)\1(?!`)", re.S)
 
@@ -30,9 +34,9 @@ def source(path):
 @cache
 def libraries():
     """The crates that `fastmetrics` is made of, in the order of crates.txt, and it, each with its files."""
-    crates = dict(re.findall(r"^(\w+)[^:\n]*:(.*)$", (TOP / "crates.txt").read_text(), re.M))
-    names = [it for it in crates if it in [*crates["fastmetrics"].split(), "fastmetrics"]]
-    return {it: sorted((TOP / "crates" / it).glob("src/**/*.rt")) for it in names}
+    found = crates.crates_of()
+    names = [it for it in found if it in [*found["fastmetrics"].libraries, "fastmetrics"]]
+    return {it: sorted(Path(found[it].folder).glob("src/**/*.rt")) for it in names}
 
 
 def joined(text):
@@ -57,98 +61,53 @@ def items():
 
 
 def strip_comment(line):
-    at = line.find("--")
-    while at >= 0:
-        before = line[:at]
-        if (at == 0 or line[at - 1] in " \t") and before.count('"') % 2 == 0:
-            return before.rstrip()
-        at = line.find("--", at + 2)
-    return line.rstrip()
+    """A line of definitions without its comment, which begins after a blank, and outside of texts."""
+    begins = (it.start() for it in re.finditer(r"(?:^|(?<=[ \t]))--", line))
+    return line[: next((at for at in begins if line.count('"', 0, at) % 2 == 0), None)].rstrip()
 
 
-def import_of(text):
-    """The module and the names of a `use` line."""
-    found = re.match(r"(?:pub )?(?:ghost )?use Rattle\.([\w.]+?)(?:\.\{(.*)\})?;?\s*$", text.strip())
-    if not found:
-        return None
-    module, names = found.group(1), found.group(2)
-    if names is None:
-        return module, None
-    pairs = []
-    for name in names.split(","):
-        name = name.strip()
-        if " as " in name:
-            real, shown = name.split(" as ")
-            pairs.append((real.strip(), shown.strip()))
-        elif name:
-            pairs.append((name, name))
-    return module, pairs
+def import_of(line):
+    """What a `use` line imports: each name with its module and its name there."""
+    found = re.match(r"(?:pub )?(?:ghost )?use Rattle\.([\w.]+?)\.\{(.*)\};?\s*$", line.strip())
+    names = (re.match(r"(\S+)(?: as (\S+))?$", it.strip()) for it in found[2].split(",")) if found else ()
+    return {it[2] or it[1]: (found[1], it[1]) for it in names if it}
 
 
 class Module:
-    """A file of definitions: what it imports, and each definition's lines and words."""
+    """A file of definitions: what it imports, each definition's lines, the head of the module around it, and the definition that
+    each field or constructor belongs to."""
 
     def __init__(self, path):
-        self.path = path
-        self.imports = {}
-        self.definitions = {}
-        self.owner = {}
-        self.heads = {}
-        self.read(path.read_text().split("\n"))
-
-    def read(self, lines):
-        current, head, head_indent = None, None, -1
-        for raw in lines:
-            line = strip_comment(raw)
-            if not line.strip():
-                continue
-            found = import_of(line)
-            if found or re.match(r"\s*(pub )?(use|mod) ", line):
-                if found and found[1]:
-                    for real, shown in found[1]:
-                        self.imports[shown] = (found[0], real)
+        self.path, self.imports, self.definitions, self.heads, self.owner = path, {}, {}, {}, {}
+        current, head, level = None, None, 0
+        for line in filter(None, map(strip_comment, path.read_text().split("\n"))):
+            text, indent = line.strip(), len(line) - len(line.lstrip())
+            if re.match(r"(pub )?(use|mod) ", text):
+                self.imports |= import_of(text)
                 current = None
                 continue
-            indent = len(line) - len(line.lstrip())
-            text = line.strip()
             if text.startswith("module "):
-                head, head_indent, current = text, indent, None
+                current, head, level = None, text, indent + 2
                 continue
-            if head is not None and indent <= head_indent:
-                head, head_indent = None, -1
-            level = head_indent + 2 if head is not None else 0
+            if indent <= level - 2:
+                head, level = None, 0
             if indent == level:
-                name = self.name_of(text)
-                if name != current:
-                    current = name
-                    self.definitions.setdefault(name, [])
-                    if head is not None:
-                        self.heads[name] = head
+                current = next(it for it in text.split() if it not in BEFORE_NAME)
+                self.definitions.setdefault(current, [])
+                self.heads |= {current: head} if head else {}
             if current is None:
                 continue
             self.definitions[current].append(text)
-            if indent > level and "data" in self.definitions[current][0].split()[:2]:
-                self.note_part(text, current)
-
-    def name_of(self, text):
-        before = ("abbrev", "unfoldable", "pub", "data", "record", "ghost", "opaque")
-        return next(it for it in text.split() if it not in before)
-
-    def note_part(self, text, current):
-        found = re.match(r"(?:pub )?([^\s(){}:]+) :", text)
-        if found:
-            self.owner.setdefault(found.group(1), current)
-
-
-def module_path(name):
-    crate, _, rest = name.partition(".")
-    return TOP / "crates" / crate / (rest.replace(".", "/") + ".antt")
+            part = re.match(r"(?:pub )?([^\s(){}:]+) :", text)
+            if part and indent > level and "data" in self.definitions[current][0].split()[:2]:
+                self.owner.setdefault(part[1], current)
 
 
 @cache
 def module(name):
     """The file of definitions of this name, or None for one of std."""
-    path = module_path(name)
+    crate, _, rest = name.partition(".")
+    path = TOP / "crates" / crate / f"{rest.replace('.', '/')}.antt"
     return Module(path) if path.exists() else None
 
 
@@ -163,17 +122,11 @@ def reach(starts):
     while left:
         name, word = left.pop()
         here = module(name)
-        if here is None:
-            continue
-        if word not in here.definitions:
-            word = here.owner.get(word, word)
-        if (name, word) in found or word not in here.definitions:
+        word = here.owner.get(word, word) if here and word not in here.definitions else word
+        if here is None or (name, word) in found or word not in here.definitions:
             continue
         found.add((name, word))
-        lines = list(here.definitions[word])
-        if word in here.heads:
-            lines.append(here.heads[word])
-        for other in set(words_of(lines)):
+        for other in words_of([*here.definitions[word], here.heads.get(word, "")]):
             if other in here.imports:
                 left.append(here.imports[other])
             elif other in here.definitions or other in here.owner:
@@ -190,14 +143,13 @@ def clauses_of(text, function):
             yield head[clauses.start() :]
 
 
-def imports_of_source(text):
+def named_in(parts, text):
+    """What these parts of a source name of the definitions that it imports, each as its module and its name."""
     imports = {}
     for line in text.split("\n"):
-        found = import_of(line) if "ghost use" in line else None
-        if found and found[1]:
-            for real, shown in found[1]:
-                imports[shown] = (found[0], real)
-    return imports
+        imports |= import_of(line) if "ghost use" in line else {}
+    words = {word for part in parts for word in words_of(part.split("\n"))}
+    return {imports[it] for word in words for it in (word, word.split(".")[0]) if it in imports}
 
 
 def until(lines, at, is_whole):
@@ -233,24 +185,13 @@ def public_clauses(text):
         at = end
 
 
-def cited(path):
-    """What the public clauses of a source name of definitions, each as its module and its name."""
-    text = path.read_text()
-    imports = imports_of_source(text)
-    for clause in public_clauses(text):
-        for word in set(words_of(clause.split("\n"))):
-            yield from (imports[name] for name in {word, word.split(".")[0]} if name in imports)
-
-
 def home(start):
     """Where a definition is that a crate's specs re-export."""
     name, word = start
     crate, _, rest = name.partition(".")
     listing = TOP / "crates" / crate / "specs/Lib.antt"
-    if module(name) or not listing.exists():
-        return start
-    for line in listing.read_text().split("\n"):
-        found = re.match(r"pub use Rattle\.([\w.]+)$", line.strip())
-        if found and found.group(1).rpartition(".")[2] == rest.rpartition(".")[2]:
-            return home((found.group(1), word))
+    if not module(name) and listing.exists():
+        for found in re.findall(r"^ *pub use Rattle\.([\w.]+)$", listing.read_text(), re.M):
+            if found.rpartition(".")[2] == rest.rpartition(".")[2]:
+                return home((found, word))
     return start

@@ -6,9 +6,9 @@
 # 1. The gate runs it with --alone and 100 requests.
 #
 #   scripts/try_server.sh [--alone] [REQUESTS]       at least 100; with --alone no Prometheus takes part
-#   scripts/try_server.sh --bodies         plants each body of bodies.md in the server instead, and makes these comparisons, but
-#                                          for those of Prometheus: one must differ. The last line is 'N refused, M not refused',
-#                                          and the status is 0 if M is 0
+#   scripts/try_server.sh --bodies         plants each body of served_bodies.md (web_server/must-fail) in the server instead, and
+#                                          makes these comparisons, but for those of Prometheus: one must differ. The last line is
+#                                          'N refused, M not refused', and the status is 0 if M is 0
 #   scripts/try_server.sh --prove          proves the server by `rt ci` instead, and the library under the server's HANDLES
 #
 # The server is compiled with run-time checks (scripts/unproved.py), in a scratch folder with copies of the library's crates, and
@@ -28,18 +28,10 @@ server='' prometheus=''
 
 # Ends processes that this script started.
 stop() {
-    local process
-    for process in "$@"; do
-        kill "$process" 2>/dev/null
-        wait "$process" 2>/dev/null
-    done
+    [[ $# == 0 ]] || { kill "$@"; wait "$@"; } 2>/dev/null
 }
-
-clean_up() {
-    stop $server $prometheus
-    rm -rf "$scratch"
-}
-trap clean_up EXIT
+# shellcheck disable=SC2086
+trap 'stop $server $prometheus; rm -rf "$scratch"' EXIT
 trap 'exit 1' INT TERM HUP
 
 fail() {
@@ -72,8 +64,7 @@ wait_for() {
 
 start_server() {
     read -r port its_port < <(free_ports)
-    "$top/scripts/unproved.py" --crates "$scratch/repository" web_server --seconds "$seconds" --arg "$port" \
-        >"$scratch/server" 2>&1 &
+    timeout "$seconds" "$top/scripts/unproved.py" --crates "$scratch/repository" web_server "$port" >"$scratch/server" 2>&1 &
     server=$!
     wait_for "$server" "http://127.0.0.1:$port/metrics" || { cat "$scratch/server"; fail "the server didn't start"; }
 }
@@ -105,13 +96,13 @@ try_limits() {
     python3 "$example/slow.py" "$port" 8 || fail "a client isn't ended when it should be, or a scrape waited for another client"
 }
 
-# Plants each body of bodies.md by itself, and expects that a comparison differs.
+# Plants each body of served_bodies.md by itself, and expects that a comparison differs.
 try_bodies() {
     local titles title refused=0 missed=0
-    mapfile -t titles < <(sed -n 's/^## //p' "$example/bodies.md")
+    mapfile -t titles < <(sed -n 's/^## //p' "$example/web_server/must-fail/served_bodies.md")
     for title in "${titles[@]}"; do
         lay_out
-        python3 "$example/plant.py" "$title" "$scratch/repository/crates" || fail "a body can't be planted"
+        "$top/scripts/bodies.py" plant "$title" "$scratch/repository/crates/web_server" || fail "a body can't be planted"
         start_server
         if (try_requests && try_limits) >"$scratch/said" 2>&1; then
             echo "NOT REFUSED: $title"
@@ -140,7 +131,6 @@ end_server() {
         fail "the server didn't end well"
     fi
     echo "equal: jobs at the end: $jobs"
-    grep -E '^checked: ' "$scratch/server"
 }
 
 lay_out

@@ -11,15 +11,15 @@ import sys
 import tempfile
 import threading
 import time
+from concurrent.futures import ThreadPoolExecutor, as_completed
 
 import crates as repository
-from crates import KIT, ROOTS, TOP, files_in, given, keep, sum_of, text_of, write
+from crates import KIT, LANES, ON_DISK, ROOTS, TOP, files_in, given, keep, sum_of, text_of, write
 
 FUNCTION = re.compile(r" *(?:pub(?:\([^)]*\))? )?(?:const )?fn (\w+)")
 IMPL = re.compile(r"impl\b(?:<.*?>)? (?:(\w+) for )?(\w+)(?:<.*>)? \{$")
 NAMING = re.compile(r"has no `|has no field|is not in scope|was not admitted")
 BLOCK = re.compile(r"(?:pub(?:\(crate\))? )?(?:impl|trait)\b")
-HEAD = re.compile(r"( *)(?:pub(?:\([^)]*\))? )?fn (\w+)")
 NEVER = """unsafe extern "C" {
     pub(crate) safe fn never()
         ensures { ⊥ };
@@ -38,25 +38,28 @@ def head_at(lines, at):
     return re.sub(r"<\s|,?\s(?=>)", lambda it: it[0].strip(" ,"), " ".join(it.strip() for it in lines[at : end + 1]))
 
 
+def inner_of(lines, fn):
+    """The lines between the braces of a function whose head begins in this line, or nothing where it is constant, or has no body,
+    or one in a line."""
+    indent = re.match(" *", lines[fn])[0]
+    is_head = lambda at: at == fn or lines[at].startswith((indent + ")", indent + ">"))
+    for at in range(fn, len(lines)):
+        if lines[at] == indent + "{" or lines[at].endswith(" {") and is_head(at):
+            return None if re.match(r"[^(]*\bconst fn ", lines[fn]) else (at + 1, lines.index(indent + "}", at))
+        head = "\n".join(lines[fn : at + 1])
+        if not lines[at] or head.endswith(";") and head.count("{") == head.count("}") or at == fn and head.endswith("}"):
+            return None
+
+
 def without_bodies(lines, kept):
     """The lines of a file in which each function calls one that never returns, but constant ones and these. Each stays in its
     lines."""
-    found, at = list(lines), 0
-    while at < len(lines):
-        head, at = HEAD.match(lines[at]), at + 1
-        if not head or any(it.first < at <= it.last + 1 for it in kept) or lines[at - 1].endswith(("}", ";")):
-            continue
-        begin = at - 1
-        opens = lambda i: lines[i].endswith(" {") and (i == at - 1 or lines[i].startswith(head[1] + ")"))
-        while lines[begin] != head[1] + "{" and not opens(begin):
-            begin += 1
-            if not lines[begin] or lines[begin].endswith(";"):
-                break
-        else:
-            end = lines.index(head[1] + "}", begin)
-            if end > begin + 1:
-                found[begin + 1 : end] = [f"{head[1]}    crate::never::never(); unreachable!()", *[""] * (end - begin - 2)]
-            at = end
+    found = list(lines)
+    for fn in (i for i in range(len(found)) if FUNCTION.match(found[i])):
+        first, end = inner_of(lines, fn) or (0, 0)
+        if first < end and not any(it.first <= fn <= it.last for it in kept):
+            calls = f"{re.match(' *', lines[fn])[0]}    crate::never::never(); unreachable!()"
+            found[first:end] = [calls, *[""] * (end - first - 1)]
     return found
 
 
@@ -96,6 +99,8 @@ class Function:
         self.name = FUNCTION.match(lines[fn])[1] if is_within else ""
         while self.first > 0 and re.match(r" *(#\[|//)", lines[self.first - 1]):
             self.first -= 1
+        # The lines between its braces, in which another branch may stand.
+        self.inner = inner_of(lines, fn) if is_within else None
         module = self.module = [it for it in file.removesuffix(".rt").split("/")[1:] if it not in ("lib", "main")]
         above = next((i for i in range(fn, -1, -1) if BLOCK.match(lines[i])), None) if is_within and indent else None
         block = "" if above is None else head_at(lines, above)
@@ -246,12 +251,8 @@ def listed(crate, name):
         word, _, text = line.partition(" ")
         if word == "##":
             found.append(Body(crate, text))
-        elif word == "tests:":
-            found[-1].tests = text
-        elif word == "seconds:":
-            found[-1].seconds = text
-        elif word == "file:":
-            found[-1].file = text
+        elif word in ("tests:", "seconds:", "file:"):
+            setattr(found[-1], word[:-1], text)
         elif word.rstrip(":") in (*TACTICS, "answer", "own"):
             found[-1].goal = [word.rstrip(":"), *text.split()]
         elif word == "old:":
@@ -274,20 +275,20 @@ class Crate(repository.Crate):
         found = []
         for wrong in listed(self, "wrong_bodies"):
             functions = wrong.functions()
-            fits = lambda taken: not any(one.may_be(other) for one in functions for other in taken)
-            taken, batch = next((it for it in found if fits(it[0])), ([], []))
-            is_second = found and batch is not found[0][1] and len({it.path for it in functions}) == 1
-            if is_second and functions[0].may_be_copied and not self.calls_itself(functions[0]):
+            fits = lambda it: not any(one.may_be(other) for one in functions for other in it[0])
+            is_alone = len({it.path for it in functions}) == 1 and functions[0].may_be_copied
+            if found and not fits(found[0]) and is_alone and not self.calls_itself(functions[0]):
                 wrong.copy = len(found[0][1]) + 1
                 found[0][1].append(wrong)
                 continue
-            if not batch:
-                found.append((taken, batch))
+            if not any(map(fits, found)):
+                found.append(([], []))
+            taken, batch = next(filter(fits, found))
             taken += functions
             batch.append(wrong)
         return [batch for _, batch in found]
 
-    def checked_with(self, wrongs, crates, run):
+    def checked_with(self, wrongs, crates, is_full=False):
         """What a check of the functions of these wrong bodies says of a copy in which they stand, and the functions of each."""
         with tempfile.TemporaryDirectory(prefix="wrong-bodies-") as room:
             for part in ("src", "specs", "proofs"):
@@ -304,11 +305,11 @@ class Crate(repository.Crate):
                     leave_goals(room, found)
             paths = {it.path for found in functions for it in found}
             only = [word for path in sorted(paths) for word in ("--only", path)] if "" not in paths else []
+            words = [*self.words(crates, "never"), *["--margin"] * (not is_full), *only]
             how = {"stdin": subprocess.DEVNULL, "stdout": subprocess.PIPE, "stderr": subprocess.STDOUT, "errors": "replace"}
-            half = [] if run.is_full else ["--margin"]
-            return subprocess.run([*self.words(crates, run.rlibs, "never"), *half, *only], cwd=room, **how).stdout, functions
+            return subprocess.run(words, cwd=room, **how).stdout, functions
 
-    def unproved(self, crates, run):
+    def unproved(self, crates):
         """How many goals and functions its wrong bodies name, and the bodies of which it isn't proved where what is right stands
         in the place of each."""
         tried, bad, parts = 0, [], []
@@ -316,41 +317,35 @@ class Crate(repository.Crate):
             for wrong in batch:
                 # What is right has no goal that only a wrong body has.
                 wrong.goal = wrong.goal if wrong.goal[:1] != ["own"] else []
+                wrong.pairs = [[old, old] for old, _ in wrong.pairs]
             # A function is proved only where those that it calls are: so those of which one goal is tried stand apart.
             parts += [[it for it in batch if bool(it.goal) == has_goal] for has_goal in (True, False)]
         for batch in filter(None, parts):
-            for wrong in batch:
-                wrong.pairs = [[old, old] for old, _ in wrong.pairs]
-            said, functions = self.checked_with(batch, crates, run)
+            said, functions = self.checked_with(batch, crates)
             tried += len(batch)
             bad += [wrong for wrong, found in zip(batch, functions) if not wrong.is_proved(found, said)]
         return tried, bad
 
-    def rests_on(self, crates, run):
-        """The files that a verdict of a check rests on, beside the crate's sources. The format of a built library has a sum of
-        all its files."""
-        built = [f"{run.rlibs(it)}/{it.name}.rlib/format" for it in self.below(crates)]
+    def tried(self, crates, is_full):
+        """Each of its wrong bodies, with the least that is said of it: the kind of what refuses it and its text, or None. What
+        was refused is kept by what it rests on; the format of a built library has a sum of all its files."""
+        built = [f"{it.rlib}/{it.name}.rlib/format" for it in self.below(crates)]
         scripts = [f"{TOP}/scripts/bodies/check.py", f"{TOP}/scripts/crates.py"]
-        return [f"{KIT}/KIT-ID", *scripts, *built, *files_in([f"{self.folder}/specs", f"{self.folder}/proofs"])]
-
-    def tried(self, crates, run):
-        """Each of its wrong bodies, with the least that is said of it: the kind of what refuses it and its text, or None."""
+        files = [f"{KIT}/KIT-ID", *scripts, *built, *files_in([f"{self.folder}/specs", f"{self.folder}/proofs"])]
         answers = []
         for batch in self.batches():
-            key = sum_of(self.rests_on(crates, run), files_in([f"{self.folder}/src"]), [it.told() for it in batch])
-            found = not run.is_full and given(key) or self.refusals_of(batch, crates, run)
+            key = sum_of(files, files_in([f"{self.folder}/src"]), [it.told() for it in batch])
+            found = not is_full and given(key)
+            if not found:
+                for wrong in batch if is_full else []:
+                    wrong.goal = []
+                said, functions = self.checked_with(batch, crates, is_full)
+                named = [wrong.refusals(of, said) if is_refusal(said) else [] for wrong, of in zip(batch, functions)]
+                found = [it[0] if it else None for it in named]
             if all(it and it[0] < 2 for it in found):
                 keep(key, found)
             answers += zip(batch, found)
         return answers
-
-    def refusals_of(self, wrongs, crates, run):
-        """The same of those that are tried together."""
-        for wrong in wrongs if run.is_full else []:
-            wrong.goal = []
-        said, functions = self.checked_with(wrongs, crates, run)
-        named = [wrong.refusals(found, said) if is_refusal(said) else [] for wrong, found in zip(wrongs, functions)]
-        return [it[0] if it else None for it in named]
 
 
 def is_refusal(said):
@@ -360,86 +355,59 @@ def is_refusal(said):
     return last.startswith("logic=not-proved") or only is not None and only[1] != only[2]
 
 
-class Run:
-    """The `rt ci` that proves the crates: one that may still run, by its output, or one that has ended before; and whether a
-    search of the wrong bodies gets all of its counts."""
-
-    def __init__(self, log, room, is_full=False):
-        self.log, self.room, self.proved, self.has_ended, self.is_full = log, room, set(), False, is_full
-
-    def rlibs(self, crate):
-        """The folder of a library that is proved."""
-        return f"{self.room}/{crate.name}" if self.log else f"{crate.folder}/out/rlib"
-
-    def watch(self, crates):
-        """Notes the crates as they are proved, and links their libraries, until the run ends."""
-        is_over = False
-        while not is_over:
-            said = text_of(self.log) if self.log else ""
-            is_over = not self.log or re.search(r"^\d+ passed, \d+ failed", said, re.M) is not None
-            found = re.findall(r"^rt: (\w+) (?:proved$|is kept:)", said, re.M) if self.log else crates
-            for crate in (crates[it] for it in found if it in crates and it not in self.proved):
-                if self.log and os.path.isdir(f"{crate.folder}/out/rlib"):
-                    shutil.copytree(f"{crate.folder}/out/rlib", self.rlibs(crate), copy_function=os.link)
-                self.proved.add(crate.name)
-            time.sleep(0 if is_over else 1)
-        self.has_ended = True
-
-
-def work(left, crates, run, waits, lock, counts):
-    """Tries the wrong bodies of one crate after the other, each once it and what it is built on are proved."""
-    while waits and not run.has_ended:
+def as_proved(crates, log, room):
+    """These crates, each once the `rt ci` with this output has proved it, with its library linked in a folder, where it stays."""
+    said, left = "", dict(crates)
+    while not re.search(r"^\d+ passed, \d+ failed", said, re.M):
         time.sleep(1)
-    while left:
-        has_ended = run.has_ended
-        with lock:
-            crate = next((it for it in left if it.name in run.proved), left[0] if left and has_ended else None)
-            if crate:
-                left.remove(crate)
-        if not crate:
-            time.sleep(1)
-            continue
-        answers = crate.tried(crates, run) if crate.name in run.proved else [(it, None) for it in listed(crate, "wrong_bodies")]
-        with lock:
-            for wrong, found in answers:
-                counts[found is not None and found[0] < 2] += 1
-                verdict = "NOT REFUSED" if found is None else f"{('refused', 'refused', 'NOT SHOWN')[found[0]]}: {found[1][:150]}"
-                print(f"wrong body of {crate.name}, {wrong.title}: {verdict}", flush=True)
+        said = text_of(log)
+        for name in re.findall(r"^rt: (\w+) (?:proved$|is kept:)", said, re.M):
+            if crate := left.pop(name, None):
+                if os.path.isdir(crate.rlib):
+                    crate.rlib = shutil.copytree(crate.rlib, f"{room}/{name}", copy_function=os.link)
+                yield crate
 
 
-def said_of_what_is_right(left, crates):
+def said_of_what_is_right(chosen, crates):
     """Prints the wrong bodies whose goals aren't proved with what is right in their place, and then 'N proved, M not proved'."""
-    counts = [0, 0]
-    for crate in left:
-        tried, bad = crate.unproved(crates, Run(None, None))
+    proved = failed = 0
+    for crate in chosen:
+        tried, bad = crate.unproved(crates)
         for it in bad:
             print(f"what is right in the place of {crate.name}, {it.title}: NOT PROVED", flush=True)
-        counts = [counts[0] + tried - len(bad), counts[1] + len(bad)]
-    print(f"{counts[0]} proved, {counts[1]} not proved")
-    return 1 if counts[1] else 0
+        proved, failed = proved + tried - len(bad), failed + len(bad)
+    print(f"{proved} proved, {failed} not proved")
+    return 1 if failed else 0
 
 
 def tried_all(names, log, is_right, is_full):
     """Tries the wrong bodies of these crates, or of all, and returns the status."""
     crates = repository.crates_of(kind=Crate)
-    left = [it for name, it in crates.items() if (not names or name in names) and it.batches()]
+    bodies = {it: listed(it, "wrong_bodies") for name, it in crates.items() if not names or name in names}
     # Those with the most bodies first, so that no long check is the last.
-    left.sort(key=lambda it: -len(listed(it, "wrong_bodies")))
-    wanted = sum(len(listed(it, "wrong_bodies")) for it in left)
+    chosen = sorted(filter(bodies.get, bodies), key=lambda it: -len(bodies[it]))
     if is_right:
-        return said_of_what_is_right(left, crates)
-    lanes, lock, counts = len(os.sched_getaffinity(0)), threading.Lock(), {True: 0, False: 0}
-    # On the crates' disk, since the libraries are linked there.
-    with tempfile.TemporaryDirectory(prefix="rlibs-", dir=f"{TOP}/.git" if os.path.isdir(f"{TOP}/.git") else None) as room:
-        run = Run(log, room, is_full)
-        threads = [threading.Thread(target=run.watch, args=(crates,))]
-        for number in range(lanes):
-            threads.append(threading.Thread(target=work, args=(left, crates, run, number >= max(lanes - 1, 1), lock, counts)))
-        for thread in threads:
-            thread.start()
-        for thread in threads:
-            thread.join()
-    # A thread that fails, as at a line that names a proof that isn't there, tells nothing of the bodies of its crate.
-    untold = wanted - counts[True] - counts[False]
-    print(f"{counts[True]} refused, {counts[False] + untold} not refused")
-    return 1 if counts[False] + untold else 0
+        return said_of_what_is_right(chosen, crates)
+    refused, free = 0, threading.Semaphore(1 if log else LANES)
+
+    def tried(crate):
+        with free:
+            return crate.tried(crates, is_full)
+
+    # While the proofs go on, one crate is tried at a time.
+    with tempfile.TemporaryDirectory(prefix="rlibs-", dir=ON_DISK) as room, ThreadPoolExecutor(LANES) as pool:
+        jobs = {pool.submit(tried, it): it for it in (as_proved(crates, log, room) if log else chosen) if it in chosen}
+        for _ in range(LANES):
+            free.release()
+        for job in as_completed(jobs):
+            if job.exception():
+                print(f"{jobs[job].name}: its wrong bodies weren't tried: {job.exception()}", flush=True)
+            for wrong, found in [] if job.exception() else job.result():
+                refused += found is not None and found[0] < 2
+                verdict = "NOT REFUSED" if found is None else f"{('refused', 'refused', 'NOT SHOWN')[found[0]]}: {found[1][:150]}"
+                print(f"wrong body of {wrong.crate.name}, {wrong.title}: {verdict}", flush=True)
+    for crate in (it for it in chosen if it not in jobs.values()):
+        print(f"{crate.name} isn't proved: its wrong bodies weren't tried")
+    missed = sum(len(bodies[it]) for it in chosen) - refused
+    print(f"{refused} refused, {missed} not refused")
+    return 1 if missed else 0
