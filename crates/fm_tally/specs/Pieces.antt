@@ -15,6 +15,6 @@ MayFail taken refuses pieces values _ = ⊥
 
 -- the result of one worker: the histogram of its piece with the bounds of the empty one, the error `Memory`, or the
 -- refusal of its piece by a gate that may refuse it
-abbrev pub IsObserved : (ℤ → Bool) → {S : Type 0} → (S → Histogram) → (ℕ → Type 0) → Histogram → ℕ → List ℤ → Result S TallyError → Type 0
-IsObserved taken counts refuses empty index piece (Ok s) = (bounds : List ℤ) → IsHistogram taken bounds [] empty → IsHistogram taken bounds piece (counts s)
-IsObserved taken counts refuses empty index piece (Err e) = (e ≡ Memory) ⊎ ((e ≡ GateRefused index) × refuses index)
+abbrev pub IsObserved : (ℤ → Bool) → (ℕ → Type 0) → Histogram → ℕ → List ℤ → Result Histogram TallyError → Type 0
+IsObserved taken refuses empty index piece (Ok s) = (bounds : List ℤ) → IsHistogram taken bounds [] empty → IsHistogram taken bounds piece s
+IsObserved taken refuses empty index piece (Err e) = (e ≡ Memory) ⊎ ((e ≡ GateRefused index) × refuses index)

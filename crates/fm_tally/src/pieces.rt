@@ -1,12 +1,13 @@
 //! A worker for each piece of the values, and the merged snapshots of all workers.
 ghost use Rattle.std.specs.Prelude.{◌≡◌, ℕ, ◌<◌, ◌≤◌, ℤ, List, [], true, IfOk, IfErr, slice_index_or, length, vec_len, flat_map, take};
-ghost use Rattle.fm_histogram.specs.Histogram.{IsHistogram, IsBoundsOf, is_taken, takes_all};
+ghost use Rattle.fm_histogram.specs.Histogram.{IsHistogram, IsBoundsOf, is_taken, takes, takes_all};
 ghost use Rattle.fm_tally.specs.Pieces.{MayFail, IsObserved};
 
 use crate::error::TallyError;
 use crate::gate::Gate;
-use crate::snapshot::Snapshot;
-use fm_histogram::{GaugeHistogramSnapshot, HistogramSnapshot};
+use crate::snapshot::{duplicate, of_no_values, take_all, take_value};
+use fm_histogram::snapshot::SnapshotOf;
+use fm_histogram::{GaugeHistogramSnapshot, HistogramSnapshot, Sign};
 use fm_raw::Fixed;
 use std::alloc::Global;
 use std::sync::Wait;
@@ -15,36 +16,36 @@ use std::thread::{Promise, PromisedHandle, Scope, Threads};
 
 // The task of one worker.
 #[derive(Drop)]
-struct Work<'a, S: Snapshot, G: Gate> {
-    empty: &'a S,
+struct Work<'a, S: Sign, G: Gate> {
+    empty: &'a SnapshotOf<S>,
     gate: &'a G,
     index: usize,
     piece: &'a [Fixed],
 }
 
 // The result of the worker.
-impl<'a, S: Snapshot, G: Gate> Promise<Result<S, TallyError>> for Work<'a, S, G> {
-    ghost kept_by = { λ w r. IsObserved S.taken S.counts (G.may_refuse w.gate.now)
-        (S.counts w.empty.now) w.index w.piece.now r };
+impl<'a, S: Sign, G: Gate> Promise<Result<SnapshotOf<S>, TallyError>> for Work<'a, S, G> {
+    ghost kept_by = { λ w r. IsObserved (takes S.NEGATIVE) (G.may_refuse w.gate.now)
+        w.empty.now w.index w.piece.now r };
 }
 
 // Does one worker's task.
-fn observe_piece<S: Snapshot + Drop, G: Gate>(
-    empty: &S,
+fn observe_piece<S: Sign, G: Gate>(
+    empty: &SnapshotOf<S>,
     gate: &G,
     index: usize,
     piece: &[Fixed],
-) -> Result<S, TallyError>
-    requires { (S.counts empty.now).count ≡ 0 }
-    ensures { IsObserved S.taken S.counts (G.may_refuse gate.now)
-        (S.counts empty.now) index piece.now result }
+) -> Result<SnapshotOf<S>, TallyError>
+    requires { empty.now.count ≡ 0 }
+    ensures { IsObserved (takes S.NEGATIVE) (G.may_refuse gate.now)
+        empty.now index piece.now result }
 {
     if !gate.pass(index) {
         return Err(TallyError::GateRefused { piece: index });
     }
-    let mut seen = empty.duplicate()?;
+    let mut seen = duplicate(empty)?;
     for value in piece {
-        if !seen.take_value(*value) {
+        if !take_value(&mut seen, *value) {
             unreachable!()
         }
     }
@@ -52,20 +53,20 @@ fn observe_piece<S: Snapshot + Drop, G: Gate>(
 }
 
 // Starts a worker for each piece. The `bool` is whether all could be started.
-fn start_all<'s, E, S: Snapshot + Send + Sync + Drop, G: Gate>(
+fn start_all<'s, E, S: Sign + Send + Sync, G: Gate>(
     scope: &Scope<'s, E>,
     alloc: Global,
-    empty: &'s S,
+    empty: &'s SnapshotOf<S>,
     pieces: &'s [Vec<Fixed>],
     gate: &'s G,
 ) -> Result<
     (
-        Vec<PromisedHandle<Result<S, TallyError>, Work<'s, S, G>>>,
+        Vec<PromisedHandle<Result<SnapshotOf<S>, TallyError>, Work<'s, S, G>>>,
         bool,
     ),
     TallyError,
 >
-    requires { (S.counts empty.now).count ≡ 0 }
+    requires { empty.now.count ≡ 0 }
     ensures all { IfOk result (λ r. r.1 ≡ true → vec_len r.0 ≡ length pieces.now) }
     ensures len { IfOk result (λ r. vec_len r.0 ≤ length pieces.now) }
     ensures index { IfOk result (λ r. (k : ℕ) (d : _) → k < vec_len r.0
@@ -88,10 +89,10 @@ fn start_all<'s, E, S: Snapshot + Send + Sync + Drop, G: Gate>(
             index,
             piece,
         };
-        let job = move || -> Result<S, TallyError>
-            requires { (S.counts empty.now).count ≡ 0 }
-            ensures { IsObserved S.taken S.counts (G.may_refuse gate.entry.now)
-                (S.counts empty.entry.now) index piece.entry.now result }
+        let job = move || -> Result<SnapshotOf<S>, TallyError>
+            requires { empty.now.count ≡ 0 }
+            ensures { IsObserved (takes S.NEGATIVE) (G.may_refuse gate.entry.now)
+                empty.entry.now index piece.entry.now result }
         { observe_piece(empty, gate, index, piece) };
         match scope.spawn_with(work, job) {
             Ok(worker) => workers.push_reserved(worker),
@@ -102,19 +103,19 @@ fn start_all<'s, E, S: Snapshot + Send + Sync + Drop, G: Gate>(
 }
 
 // The results of the workers of a scope, and whether all could be started. All that were started are joined.
-fn join_all<'s, E, S: Snapshot + Send + Sync + Drop, G: Gate, R: Threads>(
+fn join_all<'s, E, S: Sign + Send + Sync, G: Gate, R: Threads>(
     scope: &Scope<'s, E>,
     rt: &R,
     alloc: Global,
-    empty: &'s S,
+    empty: &'s SnapshotOf<S>,
     pieces: &'s [Vec<Fixed>],
     gate: &'s G,
-) -> Result<(Vec<Result<S, TallyError>>, bool), TallyError>
-    requires { (S.counts empty.now).count ≡ 0 }
+) -> Result<(Vec<Result<SnapshotOf<S>, TallyError>>, bool), TallyError>
+    requires { empty.now.count ≡ 0 }
     ensures all { IfOk result (λ r. r.1 ≡ true → vec_len r.0 ≡ length pieces.now) }
     ensures len { IfOk result (λ r. vec_len r.0 ≤ length pieces.now) }
     ensures done { IfOk result (λ r. (k : ℕ) (d : _) (e : _) → k < vec_len r.0
-        → IsObserved S.taken S.counts (G.may_refuse gate.now) (S.counts empty.now) k
+        → IsObserved (takes S.NEGATIVE) (G.may_refuse gate.now) empty.now k
         (slice_index_or pieces.now k e).items (slice_index_or r.0.items k d)) }
     ensures only_memory { IfErr result (λ e. e ≡ TallyError.Memory) }
 {
@@ -126,31 +127,31 @@ fn join_all<'s, E, S: Snapshot + Send + Sync + Drop, G: Gate, R: Threads>(
 }
 
 // Runs all workers at the same time. Returns their results, and whether all could be started.
-fn run_all<'a, S: Snapshot + Send + Sync + Drop, G: Gate, R: Threads + Wait>(
+fn run_all<'a, S: Sign + Send + Sync, G: Gate, R: Threads + Wait>(
     rt: &R,
     alloc: Global,
-    empty: &'a S,
+    empty: &'a SnapshotOf<S>,
     pieces: &'a [Vec<Fixed>],
     gate: &'a G,
-) -> Result<(Vec<Result<S, TallyError>>, bool), TallyError>
-    requires { (S.counts empty.now).count ≡ 0 }
+) -> Result<(Vec<Result<SnapshotOf<S>, TallyError>>, bool), TallyError>
+    requires { empty.now.count ≡ 0 }
     ensures all { IfOk result (λ r. r.1 ≡ true → vec_len r.0 ≡ length pieces.now) }
     ensures len { IfOk result (λ r. vec_len r.0 ≤ length pieces.now) }
     ensures done { IfOk result (λ r. (k : ℕ) (d : _) (e : _) → k < vec_len r.0
-        → IsObserved S.taken S.counts (G.may_refuse gate.now) (S.counts empty.now) k
+        → IsObserved (takes S.NEGATIVE) (G.may_refuse gate.now) empty.now k
         (slice_index_or pieces.now k e).items (slice_index_or r.0.items k d)) }
     ensures only_memory { IfErr result (λ e. e ≡ TallyError.Memory) }
 {
     thread::scope(
         thread::scope_env(),
         rt,
-        |scope| -> Result<(Vec<Result<S, TallyError>>, bool), TallyError>
-            requires { (S.counts empty.now).count ≡ 0 }
+        |scope| -> Result<(Vec<Result<SnapshotOf<S>, TallyError>>, bool), TallyError>
+            requires { empty.now.count ≡ 0 }
             ensures { IfOk result (λ r. (r.1 ≡ true → vec_len r.0 ≡ length pieces.entry.now)
                 × (vec_len r.0 ≤ length pieces.entry.now)
                 × ((k : ℕ) (d : _) (e : _) → k < vec_len r.0
-                → IsObserved S.taken S.counts (G.may_refuse gate.entry.now)
-                (S.counts empty.entry.now) k
+                → IsObserved (takes S.NEGATIVE) (G.may_refuse gate.entry.now)
+                empty.entry.now k
                 (slice_index_or pieces.entry.now k e).items (slice_index_or r.0.items k d)))
                 × IfErr result (λ e. e ≡ TallyError.Memory) }
         { join_all(scope, rt, alloc, empty, pieces, gate) },
@@ -158,31 +159,31 @@ fn run_all<'a, S: Snapshot + Send + Sync + Drop, G: Gate, R: Threads + Wait>(
 }
 
 // Merges the snapshots of the first pieces, or returns the first error.
-fn merge_all<S: Snapshot + Drop, G: Gate>(
-    empty: &S,
+fn merge_all<S: Sign, G: Gate>(
+    empty: &SnapshotOf<S>,
     gate: &G,
     pieces: &[Vec<Fixed>],
-    done: &[Result<S, TallyError>],
-) -> Result<S, TallyError>
-    requires empty { (bounds : List ℤ) × IsHistogram S.taken bounds [] (S.counts empty.now) }
+    done: &[Result<SnapshotOf<S>, TallyError>],
+) -> Result<SnapshotOf<S>, TallyError>
+    requires empty { (bounds : List ℤ) × IsHistogram (takes S.NEGATIVE) bounds [] empty.now }
     requires len { length done.now ≤ length pieces.now }
     requires done { (k : ℕ) (d : _) (e : _) → k < length done.now
-        → IsObserved S.taken S.counts (G.may_refuse gate.now) (S.counts empty.now) k
+        → IsObserved (takes S.NEGATIVE) (G.may_refuse gate.now) empty.now k
         (slice_index_or pieces.now k e).items (slice_index_or done.now k d) }
     ensures ok { IfOk result (λ s. (bounds : List ℤ)
-        → IsHistogram S.taken bounds [] (S.counts empty.now)
-        → IsHistogram S.taken bounds
+        → IsHistogram (takes S.NEGATIVE) bounds [] empty.now
+        → IsHistogram (takes S.NEGATIVE) bounds
         (flat_map (λ p. p.items) (take (length done.now) pieces.now))
-        (S.counts s)) }
+        s) }
     ensures err { IfErr result
-        (MayFail S.taken (G.may_refuse gate.now) (length pieces.now)
+        (MayFail (takes S.NEGATIVE) (G.may_refuse gate.now) (length pieces.now)
         (flat_map (λ p. p.items) pieces.now)) }
 {
-    let mut all = empty.duplicate()?;
+    let mut all = duplicate(empty)?;
     for index in 0..done.len() {
         match &done[index] {
             Ok(piece) => {
-                if !all.take_all(piece) {
+                if !take_all(&mut all, piece) {
                     return Err(TallyError::CountFull);
                 }
             }
@@ -193,21 +194,21 @@ fn merge_all<S: Snapshot + Drop, G: Gate>(
 }
 
 // Observes all pieces. Which values count is up to the kind of snapshot.
-fn observe_pieces<S: Snapshot + Send + Sync + Drop, G: Gate, R: Threads + Wait>(
+fn observe_pieces<S: Sign + Send + Sync, G: Gate, R: Threads + Wait>(
     rt: &R,
     alloc: Global,
     bounds: &[Fixed],
     pieces: &[Vec<Fixed>],
     gate: &G,
-) -> Result<S, TallyError>
+) -> Result<SnapshotOf<S>, TallyError>
     ensures ok { IfOk result (λ s. (rising : List ℤ)
-        × IsBoundsOf S.taken bounds.now rising
-        × IsHistogram S.taken rising (flat_map (λ p. p.items) pieces.now) (S.counts s)) }
+        × IsBoundsOf (takes S.NEGATIVE) bounds.now rising
+        × IsHistogram (takes S.NEGATIVE) rising (flat_map (λ p. p.items) pieces.now) s) }
     ensures err { IfErr result
-        (MayFail S.taken (G.may_refuse gate.now) (length pieces.now)
+        (MayFail (takes S.NEGATIVE) (G.may_refuse gate.now) (length pieces.now)
         (flat_map (λ p. p.items) pieces.now)) }
 {
-    let empty = S::of_no_values(alloc, bounds)?;
+    let empty = of_no_values(alloc, bounds)?;
     let (done, all_started) = run_all(rt, alloc, &empty, pieces, gate)?;
     let all = merge_all(&empty, gate, pieces, done.as_slice())?;
     if all_started {

@@ -1,14 +1,14 @@
 use Rattle.std.proofs.Common.{ℕ, ◌<◌, ℤ, Bool, List, Err, flat_map, ◌^◌, length, get_or, subst, sym, rules, inl, inr}
 use Rattle.fm_tally.specs.declared.error.TallyError.{TallyError}
-use Rattle.fm_histogram.specs.Histogram.{Histogram}
+use Rattle.fm_histogram.specs.Histogram.{Histogram, takes}
 use Rattle.fm_tally.specs.Pieces.{MayFail, IsObserved}
 use Rattle.fm_tally.proofs.PieceLemmas.{joined_more, too_many, same_bounds, element}
 use Rattle.fm_tally.proofs.pieces.merge_all.Goals as goal
 
 -- what a worker's fault is of
-fault_of : (taken : ℤ → Bool) {S : Type 0} (counts : S → Histogram) (refuses : ℕ → Type 0) (empty : Histogram) (index pieces : ℕ) (piece values : List ℤ) (e : TallyError) → index < pieces
-    → IsObserved taken counts refuses empty index piece (Err e) → MayFail taken refuses pieces values e
-fault_of taken counts refuses empty index pieces piece values e h done =
+fault_of : (taken : ℤ → Bool) (refuses : ℕ → Type 0) (empty : Histogram) (index pieces : ℕ) (piece values : List ℤ) (e : TallyError) → index < pieces
+    → IsObserved taken refuses empty index piece (Err e) → MayFail taken refuses pieces values e
+fault_of taken refuses empty index pieces piece values e h done =
     elim done [
       | inl is ↦ subst (MayFail taken refuses pieces values) (sym is) tt
       | inr is ↦ subst (MayFail taken refuses pieces values) (sym is.0) (h, is.1)
@@ -22,7 +22,7 @@ take_all-requires g c =
     let e = element pieces i inside in
     let done = rw (← c.index-done-index.is, c.in-Ok.is) at (c.requires.done i c.index-done-index.result e c.loop-index-test.true) in
     let bounds = c.requires.empty.0 in
-    same_bounds g.S.Snapshot.taken bounds _ _ _ _ (c.loop-index.invariant bounds c.requires.empty.1) (done bounds c.requires.empty.1)
+    same_bounds (takes g.S.Sign.NEGATIVE) bounds _ _ _ _ (c.loop-index.invariant bounds c.requires.empty.1) (done bounds c.requires.empty.1)
 
 pub loop-index-preserved : goal.loop-index-preserved
 loop-index-preserved g c bounds h =
@@ -44,7 +44,7 @@ returns-then-not-take_all-clause-err g c =
     let all = c.loop-index.invariant bounds c.requires.empty.1 in
     let piece = done bounds c.requires.empty.1 in
     let over = c.take_all.ensures.full (search rules) in
-    too_many g.S.Snapshot.taken (λ p. p.items) pieces i e bounds _ _ (2 ^ 64) inside all piece over
+    too_many (takes g.S.Sign.NEGATIVE) (λ p. p.items) pieces i e bounds _ _ (2 ^ 64) inside all piece over
 
 pub returns-in-Err-clause-err : goal.returns-in-Err-clause-err
 returns-in-Err-clause-err g c =
@@ -53,4 +53,4 @@ returns-in-Err-clause-err g c =
     let inside : i < length pieces = search rules in
     let e = element pieces i inside in
     let done = rw (← c.index-done-index.is, c.in-Err.is) at (c.requires.done i c.index-done-index.result e c.loop-index-test.true) in
-    fault_of g.S.Snapshot.taken g.S.Snapshot.counts (g.G.Gate.may_refuse c.args.gate.now) (g.S.Snapshot.counts c.args.empty.now) i (length pieces) (get_or pieces i e).items (flat_map (λ p. p.items) pieces) c.in-Err.fault inside done
+    fault_of (takes g.S.Sign.NEGATIVE) (g.G.Gate.may_refuse c.args.gate.now) c.args.empty.now i (length pieces) (get_or pieces i e).items (flat_map (λ p. p.items) pieces) c.in-Err.fault inside done

@@ -3,7 +3,7 @@ use Rattle.std.proofs.lemmas.Iterator.{YieldsList-from_slice}
 use Rattle.std.proofs.lemmas.Iterator.Consumers.{YieldsList-from_copied}
 use Rattle.fm_histogram.specs.Histogram.{IsBoundsOf, takes}
 use Rattle.fm_tally.proofs.PieceLemmas.{drained}
-use Rattle.fm_tally.proofs.snapshot.SnapshotOfSnapshot.of_no_values.Goals as goal
+use Rattle.fm_tally.proofs.snapshot.of_no_values.Goals as goal
 
 pub returns-in-Ok-clause-bounds : goal.returns-in-Ok-clause-bounds
 returns-in-Ok-clause-bounds g c =
