@@ -322,15 +322,6 @@ impl LabelText {
         self.set_value_bytes(value.as_bytes())
     }
 
-    // Drops the current label.
-    fn drop_current(&mut self)
-        ensures { self.new ≡ record self.old { name = None; value = None } }
-    {
-        self.name = None;
-        self.value = None;
-        self.is_listed = false;
-    }
-
     /// Adds a label with this name and this value as the last, where there is no current label. Fails if memory runs out, and
     /// then changes nothing.
     pub fn add(&mut self, name: &str, value: &[u8]) -> Result<(), AllocError>
@@ -341,11 +332,14 @@ impl LabelText {
         }) }
         ensures kept { OnErr result (self.new ≡ self.old) }
     {
-        self.set_name(name)?;
-        if self.set_value_bytes(value).is_err() || self.end_label().is_err() {
-            self.drop_current();
-            return Err(AllocError);
-        }
+        let is_listed = may_take_name(self.is_listed, self.name, self.value) && is_plain(value);
+        self.is_listed = false;
+        self.name = None;
+        self.value = None;
+        let name = append_name(&mut self.text, self.spans.as_slice().is_empty(), name)?;
+        let value = append_part(&mut self.text, value)?;
+        self.spans.push(LabelSpan { name, value })?;
+        self.is_listed = is_listed;
         Ok(())
     }
 
