@@ -1,5 +1,5 @@
 // A text that grows.
-ghost use Rattle.std.specs.Prelude.{◌≡◌, ◌+◌, ◌≤◌, ◌++◌, [], length, take, IfOk, OnOk, OnErr};
+ghost use Rattle.std.specs.Prelude.{◌≡◌, ◌+◌, ◌≤◌, ◌++◌, [], length, take, codes, IfOk, OnOk, OnErr};
 ghost use Rattle.fm_text.specs.inside.Grown.{Grown};
 
 use crate::output::Output;
@@ -130,6 +130,41 @@ impl GrowingText {
         }
         self.bytes[self.end..end].copy_from_slice(bytes);
         self.end = end;
+        Ok(())
+    }
+
+    // Appends the line of a sample: three pieces, a list of labels without the quote at its end, and a value. It takes room once.
+    // Fails if memory runs out.
+    #[inline(always)]
+    pub(crate) fn put_row(
+        &mut self,
+        first: &[u8],
+        second: &[u8],
+        third: &[u8],
+        list: &[u8],
+        value: &[u8],
+    ) -> Result<(), AllocError>
+        ensures { OnOk result (Grown self.old self.new (first.now ++ (second.now ++ (third.now
+            ++ (list.now ++ (codes "\"} " ++ (value.now ++ codes "\n"))))))) }
+    {
+        let end = self
+            .end
+            .saturating_add(first.len())
+            .saturating_add(second.len())
+            .saturating_add(third.len())
+            .saturating_add(list.len())
+            .saturating_add(value.len())
+            .saturating_add(4);
+        if end > self.bytes.len() {
+            lengthen(&mut self.bytes, end)?;
+        }
+        let at = write_at(&mut self.bytes, self.end, first);
+        let at = write_at(&mut self.bytes, at, second);
+        let at = write_at(&mut self.bytes, at, third);
+        let at = write_at(&mut self.bytes, at, list);
+        let at = write_at(&mut self.bytes, at, b"\"} ");
+        let at = write_at(&mut self.bytes, at, value);
+        self.end = write_at(&mut self.bytes, at, b"\n");
         Ok(())
     }
 }

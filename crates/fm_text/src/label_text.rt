@@ -360,21 +360,28 @@ impl LabelText {
         Ok(())
     }
 
-    /// Appends the front of a line, and then the labels with commas between them and the end of their block. Fails if memory runs out.
-    pub fn append_after(
+    /// Appends a line: three pieces, the labels with commas between them, the end of their block, and a value. Fails if memory
+    /// runs out.
+    #[inline(always)]
+    pub fn append_row(
         &self,
         text: &mut GrowingText,
-        front: &GrowingText,
+        first: &[u8],
+        second: &[u8],
+        third: &[u8],
+        value: &[u8],
     ) -> Result<(), AllocError>
         requires { 0 < length self.now.labels }
-        ensures { OnOk result (Grown text.old text.new
-            (front.now ++ (label_list_text self.now.labels ++ codes "} "))) }
+        ensures { OnOk result (Grown text.old text.new (first.now ++ (second.now ++ (third.now
+            ++ (label_list_text self.now.labels
+            ++ (codes "} " ++ (value.now ++ codes "\n"))))))) }
     {
         if !self.is_listed || self.name.is_some() || self.value.is_some() {
-            text.append(front.as_slice())?;
-            return self.append_before(text, b"} ");
+            text.put_three(first, second, third)?;
+            append_labels_at(text, self.text.as_slice(), &self.spans)?;
+            return text.put_three(b"} ", value, b"\n");
         }
-        text.put_three(front.as_slice(), self.text.as_slice(), b"\"} ")
+        text.put_row(first, second, third, self.text.as_slice(), value)
     }
 
     /// A list of the labels. Fails if memory runs out.

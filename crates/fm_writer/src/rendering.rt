@@ -1,6 +1,7 @@
 // The texts of the parts of a sample's line, appended to an output.
-ghost use Rattle.std.specs.Prelude.{◌≡◌, ◌≤◌, ◌++◌, length, take, codes, OnOk, None};
+ghost use Rattle.std.specs.Prelude.{◌≡◌, ◌≤◌, ◌++◌, length, take, codes, OnOk, IfSome, None};
 ghost use Rattle.std.specs.Option.{option_map};
+ghost use Rattle.fm_grammar.specs.Exposition.{Whole};
 ghost use Rattle.fm_grammar.specs.Spelling.{escape, escaped, value_text, time_text, exemplar_text};
 ghost use Rattle.fm_exposition.specs.Rows.{sample_row};
 ghost use Rattle.fm_exposition.specs.Samples.{value_of, exemplar_at};
@@ -58,6 +59,17 @@ pub(crate) struct Reading<'a> {
     pub(crate) exemplar: Option<&'a Exemplar>,
 }
 
+// The number of a line that ends with it alone, if it fits. Most lines end so, and its digits take the fewest steps.
+pub(crate) fn whole_number(reading: Reading<'_>) -> Option<i64>
+    ensures { IfSome result (λ number.
+        reading_text reading.entry ≡ value_text (Whole number) ++ codes "\n") }
+{
+    match (reading.value, reading.time, reading.exemplar) {
+        (Value::Whole(number), None, None) => i64::try_from(*number).ok(),
+        _ => None,
+    }
+}
+
 // Appends a value, a timestamp, an exemplar and a line feed.
 #[tactic(auto, using(fm_text::proofs::GrownLemmas::grown))]
 pub(crate) fn append_reading<O: Output>(
@@ -72,12 +84,9 @@ pub(crate) fn append_reading<O: Output>(
         time,
         exemplar,
     } = reading;
-    // Most lines end so, and these digits take the fewest steps.
-    if let (Value::Whole(number), None, None) = (value, time, exemplar) {
-        if let Ok(number) = i64::try_from(*number) {
-            let mut digits = Buffer::new();
-            return text.put_three(digits.format(number).as_bytes(), b"\n", b"");
-        }
+    if let Some(number) = whole_number(reading) {
+        let mut digits = Buffer::new();
+        return text.put_three(digits.format(number).as_bytes(), b"\n", b"");
     }
     let (mut whole, mut fixed) = (Buffer::new(), FixedBuffer::new());
     let value = match value {

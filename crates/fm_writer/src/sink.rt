@@ -9,13 +9,13 @@ ghost use Rattle.fm_writer.specs.NewSamples.{new_sample, IsFrontOf};
 ghost use Rattle.fm_writer.specs.Output.{OutputSamples, OutputText, AreShared, shared_by, appended, with_lines, samples_in, text_in};
 
 use crate::blocks::TextBlocks;
-use crate::front::append_row_after;
 use crate::heads::{FamilyHead, append_heads};
 use crate::new_sample::NewSample;
-use crate::rendering::{Reading, append_sample_row};
+use crate::rendering::{Reading, append_sample_row, whole_number};
 use fm_exposition::{CommonLabels, SampleStore};
 use fm_grammar::LabelList;
 use fm_text::{GrowingText, LabelText};
+use itoa::Buffer;
 use std::alloc::{AllocError, Global};
 use std::marker::Model;
 use std::sync::Arc;
@@ -79,7 +79,7 @@ fn append_row_in_blocks(
     blocks.settle()
 }
 
-// Appends the line of a sample, or only what comes after its front, if that was rendered before.
+// Appends the line of a sample. Most have one list of labels and a whole number, and these take the fewest steps.
 fn append_row(
     text: &mut GrowingText,
     name: &str,
@@ -90,15 +90,24 @@ fn append_row(
     ensures { OnOk result
         (OutputText text.new ≡ appended name.now (OutputText text.old) (new_sample sample.now ∷ [])) }
 {
+    let (kind, common, own) = (sample.kind, sample.common, sample.own);
     let reading = Reading {
         value: &sample.value,
         time: sample.time,
         exemplar: sample.exemplar.as_ref(),
     };
-    match front {
-        Some(front) => append_row_after(text, front, sample.own, reading),
-        None => append_sample_row(text, name, sample.kind, sample.common, sample.own, reading),
+    if let Some(number) = whole_number(reading) {
+        let mut digits = Buffer::new();
+        let value = digits.format(number).as_bytes();
+        if let Some(front) = front {
+            return own.append_row(text, front.as_slice(), b"", b"", value);
+        }
+        if own.len() == 0 && common.len() > 0 {
+            let suffix = kind.suffix().as_bytes();
+            return common.append_row(text, name.as_bytes(), suffix, b"{", value);
+        }
     }
+    append_sample_row(text, name, kind, common, own, reading)
 }
 
 /// Keeps samples, or appends their lines to a text.
