@@ -378,7 +378,7 @@ impl LabelText {
     {
         if !self.is_listed || self.name.is_some() || self.value.is_some() {
             text.put_three(first, second, third)?;
-            append_labels_at(text, self.text.as_slice(), &self.spans)?;
+            append_labels_at(text, self.at(0))?;
             return text.put_three(b"} ", value, b"\n");
         }
         text.put_row(first, second, third, self.text.as_slice(), value)
