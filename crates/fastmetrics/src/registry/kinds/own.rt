@@ -1,9 +1,40 @@
-//! Metrics of one of two kinds.
-ghost use Rattle.fastmetrics.specs.declared.registry.kinds.one_of.OneOf.TheVariants.{First, Second};
+//! The types of a program's own metrics: none, one of two, and where one is among them.
+ghost use Rattle.std.specs.Prelude.{◌≡◌, [], ⊤};
+ghost use Rattle.fm_grammar.specs.declared.MetricType.TheVariants.{Unknown};
+ghost use Rattle.fastmetrics.specs.declared.registry.kinds.own.OneOf.TheVariants.{First, Second};
 
 use fm_encoder::{EncodeMetric, MetricEncoder};
 use fm_raw::{EncodeError, MetricType};
+use std::marker::PhantomData;
 use std::time::Duration;
+
+/// Stands for a program's own metrics where it has none: a metric without samples, which no document shows.
+#[derive(Clone, Copy)]
+pub struct NoOwn;
+
+impl EncodeMetric for NoOwn {
+    ghost types = { λ _ t. t ≡ Unknown };
+
+    ghost may_be_empty = { λ _. ⊤ };
+
+    ghost offers = { λ _ _ ms. ms ≡ [] };
+
+    fn encode(&self, _encoder: &mut MetricEncoder) -> Result<(), EncodeError> {
+        Ok(())
+    }
+
+    fn metric_type(&self) -> MetricType {
+        MetricType::Unknown
+    }
+
+    fn timestamp(&self) -> Option<Duration> {
+        None
+    }
+
+    fn is_empty(&self) -> bool {
+        true
+    }
+}
 
 /// A metric of one of two types. A program with more own types than two has a `OneOf` in a `OneOf`.
 ///
@@ -74,5 +105,51 @@ impl<A: EncodeMetric, B: EncodeMetric> EncodeMetric for OneOf<A, B> {
             OneOf::First(metric) => metric.is_empty(),
             OneOf::Second(metric) => metric.is_empty(),
         }
+    }
+}
+
+/// Where a type is among those that another holds: it is the first of two.
+pub struct Here;
+
+/// Where a type is among those that another holds: in the second of two, at `I` there.
+pub struct In<I> {
+    at: PhantomData<I>,
+}
+
+/// Where a type is among those that another holds: it is that type itself.
+pub struct Itself;
+
+/// A type that holds metrics of the type `T`: that type itself, or a `OneOf` in which it is the first, or held by the second. `I` says
+/// where, which the compiler finds out: nobody writes it.
+pub trait Holds<T, I>: Sized {
+    /// It is this metric, held.
+    ghost holds: { T → Self → Type 0 };
+
+    /// The metric, held.
+    fn hold(metric: T) -> Self
+        ensures { holds metric result };
+}
+
+impl<T> Holds<T, Itself> for T {
+    ghost holds = { λ metric held. held ≡ metric };
+
+    fn hold(metric: T) -> T {
+        metric
+    }
+}
+
+impl<A, B> Holds<A, Here> for OneOf<A, B> {
+    ghost holds = { λ metric held. held ≡ First metric };
+
+    fn hold(metric: A) -> OneOf<A, B> {
+        OneOf::First(metric)
+    }
+}
+
+impl<T, I, A, B: Holds<T, I>> Holds<T, In<I>> for OneOf<A, B> {
+    ghost holds = { λ metric held. (second : B) × B.holds metric second × (held ≡ Second second) };
+
+    fn hold(metric: T) -> OneOf<A, B> {
+        OneOf::Second(B::hold(metric))
     }
 }
