@@ -1,5 +1,5 @@
 -- What a call that was made of texts does.
-use Rattle.std.proofs.Common.{◌≡◌, ◌++◌, ◌∷◌, [], List, Option, None, Result, Ok, Err, OnOk, inl, inr, refl, sym, ap, subst, ◌∙◌, String, Global}
+use Rattle.std.proofs.Common.{◌≡◌, ◌++◌, ◌∷◌, [], List, Option, None, Result, Ok, Err, OnOk, OnErr, inl, inr, refl, sym, ap, subst, ◌∙◌, String, Global}
 use Rattle.std.specs.List.{AllZip}
 use Rattle.std.specs.String.{string_bytes}
 use Rattle.fm_grammar.specs.declared.MetricType.{MetricType}
@@ -16,9 +16,11 @@ use Rattle.fm_core.specs.Calls.{seen_path, RunsCall}
 use Rattle.fm_core.specs.HasHistory.{Grows}
 use Rattle.fm_core.specs.declared.registry.tree.run.RegistryCall.{RegistryCall}
 use Rattle.fm_core.specs.Named.{named_metric}
+use Rattle.fm_core.specs.View.{asked_metric}
+use Rattle.fm_core.proofs.GrowthLemmas.{Grows-returned}
 use Rattle.fm_registry_rules.specs.LabelNames.{IsOrMemory}
 use Rattle.fastmetrics.specs.Roots.{RootState, Adds, AddsClone, AddsKept, MakesNamed, Enters}
-use Rattle.fastmetrics.specs.inside.Requests.{Registering, Asking}
+use Rattle.fastmetrics.specs.inside.Requests.{Asking}
 
 -- clones of names are the same path
 pub path-cloned : (v w : List (String Global)) → AllZip (λ s t. string_bytes t ≡ string_bytes s) v w → seen_path w ≡ seen_path v
@@ -34,26 +36,26 @@ path-pushed (x ∷ xs) name = ap (λ ns. string_bytes x ∷ ns) (path-pushed xs 
 
 module _ {M : Type 0} (Types : M → MetricType → Type 0) where
   -- a registration by texts
-  pub added : (path : Path) (name help : Text) (u : Option unit.Unit) (metric : M) (call : RegistryCall M) (old new : Tree M) (r : Result (Unit {0}) RegistryError)
-      → Registering path name help u metric call → RunsCall Types call old new r → Grows old new
+  pub added : (path : Path) (name help : Text) (u : Option unit.Unit) (metric : M) (own_name own_help : String Global) (t : MetricType) (names : List (String Global)) (old new : Tree M) (r : Result (Unit {0}) RegistryError)
+      → seen_path names ≡ path → string_bytes own_name ≡ name → string_bytes own_help ≡ help → Types metric t
+      → ((b : History M) → Reads old b → IsReply (refusal_of r) b (Register (seen_path names) (asked_metric own_name own_help u metric t)))
+      → OnOk r ((b : History M) → Reads old b → Reads new (after b (Register (seen_path names) (asked_metric own_name own_help u metric t)))) → OnErr r (new ≡ old)
       → Adds (Types metric) (named_metric name help u metric) (record { tree = old; path = path }) (record { tree = new; path = path }) r
-  added path name help u metric call old new r made ran grows =
-      let runs = subst (λ k. RunsCall Types k old new r) made.is ran in
-      let t = runs.is.0 in
-      let same : runs.call ≡ Register path (named_metric name help u metric t) =
-      runs.is.2
-      ∙ ap (λ p. Register p (named_metric (string_bytes made.own_name) (string_bytes made.own_help) u metric t)) made.is_path
-      ∙ ap (λ n. Register path (named_metric n (string_bytes made.own_help) u metric t)) made.is_name
-      ∙ ap (λ h. Register path (named_metric name h u metric t)) made.is_help in
+  added path name help u metric own_name own_help t names old new r led named helped declared reply ok err =
+      let same : Register (seen_path names) (asked_metric own_name own_help u metric t) ≡ Register path (named_metric name help u metric t) =
+      ap (λ p. Register p (named_metric (string_bytes own_name) (string_bytes own_help) u metric t)) led
+      ∙ ap (λ n. Register path (named_metric n (string_bytes own_help) u metric t)) named
+      ∙ ap (λ h. Register path (named_metric name h u metric t)) helped in
+      let reads = subst (λ k. OnOk r ((b : History M) → Reads old b → Reads new (after b k))) same ok in
       record {
         registers = record {
           metric_type = t;
-          declared = runs.is.1;
-          answer = λ b reads. subst (λ k. IsReturned (refusal_of r) (answer b k)) same (runs.reply b reads).returned;
-          ok = subst (λ k. OnOk r ((b : History M) → Reads old b → Reads new (after b k))) same runs.ok;
-          err = runs.err;
+          declared = declared;
+          answer = λ b read. subst (λ k. IsReturned (refusal_of r) (answer b k)) same (reply b read).returned;
+          ok = reads;
+          err = err;
         };
-        grows = grows;
+        grows = Grows-returned old new (Register path (named_metric name help u metric t)) r reads err;
         path = refl;
       }
 

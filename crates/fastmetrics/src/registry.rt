@@ -18,7 +18,6 @@ mod kinds;
 mod maker;
 mod paths;
 mod root;
-mod waiter;
 
 pub use description::Description;
 pub use fm_core::registry::{
@@ -31,7 +30,6 @@ pub use kinds::{
     Constant, CounterVec, FixedCounterVec, FixedGaugeVec, GaugeHistogramVec, GaugeVec, Here,
     HistogramVec, Holds, In, Itself, Metric, NamedFamily, NoOwn, OneOf, Scalar, VecOf,
 };
-pub use maker::{Made, Maker};
+pub use maker::{Made, Maker, Waiter};
 pub use paths::{add_at, add_subsystem_at};
 pub use root::{Root, Shown};
-pub use waiter::Waiter;

@@ -17,4 +17,6 @@ pub use global::{
 pub use listed::ListedMetric;
 pub use registering::{Register, register_global};
 pub use texts::{add, add_with_unit};
-pub use tree::{Registry, RegistryBuilder, RegistryCall, RegistrySubsystemBuilder, Subsystem};
+pub use tree::{
+    Registry, RegistryBuilder, RegistryCall, RegistrySubsystemBuilder, Subsystem, register_at,
+};

@@ -1,20 +1,28 @@
-//! Whether the names of a metric's labels can stand beside the constant labels of a registry.
+//! Whether a metric fits a registry of a root: whether the names of its labels can stand beside the constant labels. And which faults
+//! a root of such metrics may have.
 ghost use Rattle.std.specs.Prelude.{◌≡◌, ◌<◌, ◌^◌, None, Option, IfOk, OnOk, map, string_bytes};
 ghost use Rattle.std.specs.Option.{option_map};
 ghost use Rattle.fm_grammar.specs.LabelPairs.{labels_of};
+ghost use Rattle.fm_grammar.specs.Exposition.{Text};
+ghost use Rattle.fm_grammar.specs.declared.MetricType.{MetricType};
+ghost use Rattle.fm_raw.specs.declared.encode_error.EncodeError.{EncodeError};
 ghost use Rattle.fm_raw.specs.Units.{seen_unit};
 ghost use Rattle.fm_registry_rules.specs.Answer.{refusal_of};
 ghost use Rattle.fm_registry_rules.specs.LabelNames.{shown_texts, AreLabelNames, names_refusal, IsOrMemory};
 ghost use Rattle.fm_registry_rules.specs.Registration.{printed_unit};
 ghost use Rattle.fm_registry_rules.specs.Texts.{has_text, printed_name};
+ghost use Rattle.fm_registry_rules.specs.inside.Fitting.{HasFittingHistory};
+ghost use Rattle.fm_core.specs.Admits.{HasFault, HasFaultNamed};
 ghost use Rattle.fm_labels.specs.ReservedNames.{reserved_refusal};
 ghost use Rattle.fm_labels.specs.inside.FittingNames.{NamesFit};
 ghost use Rattle.fastmetrics.specs.Roots.{constants_refusal};
-ghost use Rattle.fastmetrics.specs.Fits.{taken_refusal, facts_refusal, constant_refusal, type_refusal, family_refusal, family_type, family_names, fit_refusal};
-ghost use Rattle.fastmetrics.specs.inside.FittingMetrics.{ConstantFits, FamilyFits, FitsUnder};
+ghost use Rattle.fastmetrics.specs.Fits.{taken_refusal, facts_refusal, constant_refusal, type_refusal, family_refusal, family_type, family_names, fit_refusal, HasOwnFault, HasOwnFaultNamed};
+ghost use Rattle.fastmetrics.specs.inside.FittingMetrics.{ConstantFits, FamilyFits, FitsUnder, HasType, Fits};
 
 use crate::registry::kinds::{Constant, Metric, NamedFamily};
+use crate::registry::maker::Waiter;
 use fm_core::registry::RegistryError;
+use fm_encoder::EncodeMetric;
 use fm_family::vec::names::test_reserved;
 use fm_raw::{MetricType, Unit};
 use fm_registry_rules::label_names::LabelNames;
@@ -236,3 +244,16 @@ impl Place<'_> {
         }
     }
 }
+
+/// A law, which does nothing: a metric of the library declares the type that it has. A fault of metrics that fit their registries is that of a metric of the
+/// program's own.
+pub(crate) fn only_own_faults<H: Waiter, X: EncodeMetric>()
+    ensures types { (m : _) (t : MetricType) → ⟦<Metric<H, X> as EncodeMetric>⟧.types m t
+        → HasType m t }
+    ensures faults { (k : EncodeError) (t : _) → HasFittingHistory Fits t
+        → HasFault ⟦<Metric<H, X> as EncodeMetric>⟧ k t
+        → HasOwnFault X.EncodeMetric k t }
+    ensures named { (k : EncodeError) (t : _) (name : Text) → HasFittingHistory Fits t
+        → HasFaultNamed ⟦<Metric<H, X> as EncodeMetric>⟧ name k t
+        → HasOwnFaultNamed X.EncodeMetric name k t }
+{}

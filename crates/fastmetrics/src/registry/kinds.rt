@@ -6,14 +6,11 @@ ghost use Rattle.fastmetrics.specs.declared.registry.kinds.constant.Constant.The
 ghost use Rattle.fastmetrics.specs.declared.registry.kinds.Metric.TheVariants.{Scalar, Histogram, GaugeHistogram, Family, States, Constant, Own};
 
 mod constant;
-pub(crate) mod faults;
-mod holds;
 mod named_family;
-mod no_own;
-mod one_of;
+mod own;
 mod scalar;
 
-use crate::registry::waiter::Waiter;
+use crate::registry::maker::Waiter;
 pub use constant::Constant;
 use fm_encoder::{EncodeMetric, MetricEncoder};
 use fm_histogram::{GaugeHistogram, GaugeHistogramSnapshot, Histogram, HistogramSnapshot};
@@ -23,13 +20,11 @@ use fm_metrics::gauge::{ConstGauge, Gauge};
 use fm_metrics::info::Info;
 use fm_metrics::unknown::Unknown;
 use fm_raw::{EncodeError, Fixed, MetricType};
-pub use holds::{Here, Holds, In, Itself};
 pub use named_family::{
     CounterVec, FixedCounterVec, FixedGaugeVec, GaugeHistogramVec, GaugeVec, HistogramVec,
     NamedFamily, VecOf,
 };
-pub use no_own::NoOwn;
-pub use one_of::OneOf;
+pub use own::{Here, Holds, In, Itself, NoOwn, OneOf};
 pub use scalar::Scalar;
 use std::sync::Wait;
 use std::time::Duration;

@@ -1,4 +1,4 @@
-//! How a root makes metrics of each kind.
+//! How a root makes metrics of each kind, and the handle that they wait by.
 ghost use Rattle.std.specs.Prelude.{◌≡◌, IfOk, IfErr, MatchResult, Option, ⊤};
 ghost use Rattle.std.specs.Iterator.{IsFinite};
 ghost use Rattle.std.specs.declared.time.Duration.{Duration as Time};
@@ -15,6 +15,23 @@ use fm_raw::{Fixed, MetricError, TryDefault};
 use std::alloc::{AllocError, Global};
 use std::sync::Wait;
 use std::time::Duration;
+
+/// A handle that a root's metrics wait by at a lock. It is copied, and sent to other threads. Each type with these traits is
+/// one, such as `HostRuntime`.
+///
+/// <!-- cut: crates/calling/src/roots.rt -->
+/// ```rust
+/// pub fn register_later<H: Waiter>(
+///     wait: &H,
+///     root: &Mutex<Root<H>>,
+/// ) -> Result<Counter, RegistryError> {
+///     let mut root = root.lock(wait);
+///     root.counter("late", "Registered while the program runs")
+/// }
+/// ```
+pub trait Waiter: Wait + Copy + Send + Sync + Drop {}
+
+impl<T: Wait + Copy + Send + Sync + Drop> Waiter for T {}
 
 /// What a root makes metrics with: the handle that they wait by, and the bounds of histograms and the time of creation, if
 /// these were given.

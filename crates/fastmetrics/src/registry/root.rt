@@ -24,9 +24,9 @@ mod own;
 mod registering;
 mod subsystems;
 
-use crate::registry::kinds::faults::only_own_faults;
+use crate::registry::fitting::only_own_faults;
 use crate::registry::kinds::{Metric, NoOwn};
-use crate::registry::waiter::Waiter;
+use crate::registry::maker::Waiter;
 use fm_core::format::text::{FamilyFault, collect, encode, fault};
 use fm_core::lint::{Warning, lint_registry};
 use fm_core::registry::{Registry, RegistryBuilder, RegistryError};

@@ -1,7 +1,6 @@
 //! Registries: what they contain, and how contracts see it.
 
 mod builder;
-mod lookup;
 mod register;
 mod run;
 mod subsystem_builder;
@@ -15,6 +14,7 @@ use fm_registry_rules::RegistryError;
 use fm_registry_rules::labels::labels_of_option;
 use fm_registry_rules::names::Tailed;
 use indexmap::IndexMap;
+pub use register::register_at;
 pub use run::RegistryCall;
 use std::alloc::{AllocError, Global};
 use std::fmt::{self, Debug, Formatter};

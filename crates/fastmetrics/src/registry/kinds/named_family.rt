@@ -1,8 +1,7 @@
 //! Families by label names.
 ghost use Rattle.fastmetrics.specs.declared.registry.kinds.named_family.NamedFamily.TheVariants.{Counters, FixedCounters, Gauges, FixedGauges, Histograms, GaugeHistograms};
 
-use crate::registry::maker::Maker;
-use crate::registry::waiter::Waiter;
+use crate::registry::maker::{Maker, Waiter};
 use fm_encoder::{EncodeMetric, MetricEncoder};
 use fm_family::MetricVec;
 use fm_histogram::{GaugeHistogram, Histogram};

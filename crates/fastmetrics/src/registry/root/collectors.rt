@@ -10,7 +10,7 @@ ghost use Rattle.fastmetrics.specs.Collectors.{AddsFamily, AddsFamilies};
 use super::Root;
 use crate::registry::description::Description;
 use crate::registry::kinds::{Holds, Metric};
-use crate::registry::waiter::Waiter;
+use crate::registry::maker::Waiter;
 use fm_core::registry::RegistryError;
 use fm_encoder::EncodeMetric;
 use fm_family::{Collected, LabelHashing};

@@ -17,7 +17,7 @@ ghost use Rattle.fastmetrics.specs.Fits.{fit_refusal_here};
 
 use super::{Root, Shown};
 use crate::registry::kinds::Metric;
-use crate::registry::waiter::Waiter;
+use crate::registry::maker::Waiter;
 use fm_core::registry::RegistryError;
 use fm_encoder::EncodeMetric;
 use fm_metrics::info::Info;

@@ -15,8 +15,7 @@ use crate::registry::kinds::{
     CounterVec, FixedCounterVec, FixedGaugeVec, GaugeHistogramVec, GaugeVec, HistogramVec, Metric,
     VecOf,
 };
-use crate::registry::maker::{Made, Maker};
-use crate::registry::waiter::Waiter;
+use crate::registry::maker::{Made, Maker, Waiter};
 use fm_core::registry::RegistryError;
 use fm_encoder::EncodeMetric;
 use fm_family::{LabelHashing, MetricVec};

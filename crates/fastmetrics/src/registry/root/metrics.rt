@@ -9,8 +9,7 @@ ghost use Rattle.fastmetrics.specs.declared.registry.kinds.Metric.TheVariants.{S
 use super::Root;
 use crate::registry::description::Description;
 use crate::registry::kinds::Metric;
-use crate::registry::maker::{Made, Maker};
-use crate::registry::waiter::Waiter;
+use crate::registry::maker::{Made, Maker, Waiter};
 use fm_core::registry::RegistryError;
 use fm_encoder::EncodeMetric;
 use fm_histogram::{GaugeHistogram, Histogram};
@@ -35,8 +34,8 @@ impl<H: Waiter, X: EncodeMetric> Root<H, X> {
             result }
     {
         let made = Maker::new(
-            self.wait(),
-            self.alloc(),
+            self.wait,
+            self.alloc,
             description.bounds,
             description.created,
         );

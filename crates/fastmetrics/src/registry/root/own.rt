@@ -8,7 +8,7 @@ ghost use Rattle.fastmetrics.specs.Fits.{fit_refusal_here};
 use super::Root;
 use crate::registry::description::Description;
 use crate::registry::kinds::{Holds, Metric};
-use crate::registry::waiter::Waiter;
+use crate::registry::maker::Waiter;
 use fm_core::registry::RegistryError;
 use fm_encoder::EncodeMetric;
 use fm_raw::TryDefault;

@@ -1,36 +1,40 @@
 //! What registers a metric in a root.
-ghost use Rattle.std.specs.Prelude.{◌≡◌, ◌⊎◌, Err, OnOk};
-ghost use Rattle.fm_registry_rules.specs.declared.error.RegistryError.TheVariants.{Memory};
+ghost use Rattle.std.specs.Prelude.{Some, IsSome, OnOk};
 ghost use Rattle.fm_registry_rules.specs.Answer.{refusal_of};
 ghost use Rattle.fm_registry_rules.specs.LabelNames.{IsOrMemory};
+ghost use Rattle.fm_registry_rules.specs.Tree.{subtree_from};
 ghost use Rattle.fm_core.specs.Named.{named_metric};
-ghost use Rattle.fastmetrics.specs.Roots.{Adds, AddsOrNot, AddsKept};
+ghost use Rattle.fastmetrics.specs.Roots.{AddsOrNot, AddsKept};
 ghost use Rattle.fastmetrics.specs.Fits.{fit_refusal_here};
 ghost use Rattle.fastmetrics.specs.inside.FittingMetrics.{FitsUnderAt};
 
 use super::Root;
-use crate::registry::calls::registering;
-use crate::registry::fitting::Place;
+use crate::registry::fitting::{Place, only_own_faults};
 use crate::registry::kinds::Metric;
-use crate::registry::kinds::faults::only_own_faults;
-use crate::registry::waiter::Waiter;
-use fm_core::registry::RegistryError;
+use crate::registry::maker::Waiter;
+use fm_core::registry::{RegistryError, register_at};
 use fm_encoder::EncodeMetric;
 use fm_raw::Unit;
 
 impl<H: Waiter, X: EncodeMetric> Root<H, X> {
-    // Fails if the names of a metric's labels can't stand beside the constant labels of the current subsystem.
+    // Fails if the names of a metric's labels can't stand beside the constant labels of the current subsystem. A counter or a gauge has
+    // no labels.
     fn test_fit(
         &self,
         name: &str,
         unit: &Option<Unit>,
         metric: &Metric<H, X>,
     ) -> Result<(), RegistryError>
+        ensures there { OnOk result (IsSome (subtree_from (Some self.now.at.tree) self.now.at.path)) }
         ensures answer { IsOrMemory (refusal_of result) (fit_refusal_here self.now.at name.now unit.now metric.now) }
         ensures fits { OnOk result (FitsUnderAt self.now.at.tree self.now.at.path name.now unit.now metric.now) }
     {
-        match self.registry.at(&self.path) {
-            Some(registry) => {
+        let Some(registry) = self.registry.at(&self.path) else {
+            return Err(RegistryError::Memory);
+        };
+        match metric {
+            Metric::Scalar(_) => Ok(()),
+            _ => {
                 let place = Place {
                     alloc: self.alloc,
                     namespace: registry.namespace(),
@@ -38,26 +42,7 @@ impl<H: Waiter, X: EncodeMetric> Root<H, X> {
                 };
                 place.test(name, unit, metric)
             }
-            None => Ok(()),
         }
-    }
-
-    // Registers a metric that fits in the current subsystem.
-    fn add(
-        &mut self,
-        name: &str,
-        help: &str,
-        unit: Option<Unit>,
-        metric: Metric<H, X>,
-    ) -> Result<(), RegistryError>
-        requires { FitsUnderAt self.old.at.tree self.old.at.path name.now unit metric }
-        ensures { ((result ≡ Err Memory) × (self.new.at ≡ self.old.at))
-            ⊎ Adds (⟦<Metric<H, X> as EncodeMetric>⟧.types metric)
-            (named_metric name.now help.now unit metric) self.old.at self.new.at result }
-    {
-        only_own_faults::<H, X>();
-        let call = registering(self.alloc, &self.path, name, help, unit, metric)?;
-        self.registry.run_call(call)
     }
 
     // Registers a metric in the current subsystem.
@@ -72,8 +57,19 @@ impl<H: Waiter, X: EncodeMetric> Root<H, X> {
             (⟦<Metric<H, X> as EncodeMetric>⟧.types metric)
             (named_metric name.now help.now unit metric) self.old.at self.new.at result }
     {
+        only_own_faults::<H, X>();
         self.test_fit(name, &unit, &metric)?;
-        self.add(name, help, unit, metric)
+        let name = String::from_str(self.alloc, name)?;
+        let help = String::from_str(self.alloc, help)?;
+        let metric_type = metric.metric_type();
+        register_at(
+            &mut self.registry,
+            &self.path,
+            (name, help),
+            metric_type,
+            unit,
+            metric,
+        )
     }
 
     // Registers a clone of a metric in the current subsystem, and returns the metric.

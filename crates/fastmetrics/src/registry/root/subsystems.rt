@@ -10,7 +10,7 @@ ghost use Rattle.fastmetrics.specs.Roots.{Enters, constants_refusal, labels_here
 use super::Root;
 use crate::registry::calls::{asking, path_below};
 use crate::registry::fitting::test_constants;
-use crate::registry::waiter::Waiter;
+use crate::registry::maker::Waiter;
 use fm_core::registry::RegistryError;
 use fm_encoder::EncodeMetric;
 use fm_registry_rules::label_names::LabelNames;

@@ -1,5 +1,5 @@
 //! Registering metrics.
-ghost use Rattle.std.specs.Prelude.{◌≡◌, ◌++◌, ◌∷◌, [], None, Some, true, is_some, OnOk, OnErr, IfOk, IfSome, IfNone};
+ghost use Rattle.std.specs.Prelude.{◌≡◌, ◌++◌, ◌∷◌, [], None, Some, true, is_some, IsSome, OnOk, OnErr, IfOk, IfSome, IfNone};
 ghost use Rattle.std.specs.Option.{option_map};
 ghost use Rattle.std.specs.String.{string_bytes};
 ghost use Rattle.fm_raw.specs.Units.{seen_unit};
@@ -8,7 +8,8 @@ ghost use Rattle.fm_registry_rules.specs.Registration.{is_same_metric};
 ghost use Rattle.fm_registry_rules.specs.Answer.{refusal_of, has_metric, IsReturned, answer, after};
 ghost use Rattle.fm_registry_rules.specs.inside.Refusals.{name_refusal, standing_refusal};
 ghost use Rattle.fm_registry_rules.specs.History.{Register};
-ghost use Rattle.fm_registry_rules.specs.Tree.{Reads, names_in};
+ghost use Rattle.fm_registry_rules.specs.Tree.{Reads, names_in, subtree_from};
+ghost use Rattle.fm_registry_rules.specs.Running.{IsReply};
 ghost use Rattle.fm_registry_rules.specs.inside.Forests.{with_metric};
 ghost use Rattle.fm_registry_rules.specs.inside.Names.{refusal_beside};
 ghost use Rattle.fm_registry_rules.specs.contracts.names.TailedPartialEq.TheImpl.{ghosts as tailed};
@@ -16,6 +17,7 @@ ghost use Rattle.fm_core.specs.View.{seen_metric, asked, asked_metric};
 ghost use Rattle.fm_core.specs.inside.TreeView.{metrics_in, seen_metrics};
 ghost use Rattle.fm_core.specs.HasHistory.{HasHistory, Grows};
 ghost use Rattle.fm_core.specs.Registers.{Registers};
+ghost use Rattle.fm_core.specs.Calls.{seen_path};
 
 use super::Registry;
 use fm_encoder::EncodeMetric;
@@ -230,5 +232,38 @@ impl Registry {
         ensures sound { HasHistory self.old → HasHistory self.new }
     {
         self.register_metric(name, help, None, metric)
+    }
+}
+
+/// Registers a metric, by its name and its help, in the registry that the path leads to. There has to be one. It fails as `add_metric`
+/// does there.
+pub fn register_at<M: Drop>(
+    registry: &mut Registry<M>,
+    path: &[String],
+    texts: (String, String),
+    metric_type: MetricType,
+    unit: Option<Unit>,
+    metric: M,
+) -> Result<(), RegistryError>
+    requires { IsSome (subtree_from (Some registry.old) (seen_path path.now)) }
+    ensures reply { (b : _) → Reads registry.old b
+        → IsReply (refusal_of result) b
+        (Register (seen_path path.now) (asked_metric texts.0 texts.1 unit metric metric_type)) }
+    ensures ok { OnOk result
+        ((b : _) → Reads registry.old b
+        → Reads registry.new
+        (after b
+        (Register (seen_path path.now) (asked_metric texts.0 texts.1 unit metric metric_type)))) }
+    ensures err { OnErr result (registry.new ≡ registry.old) }
+{
+    match path.split_first() {
+        None => {
+            let (name, help) = texts;
+            registry.add_metric(name, help, metric_type, unit, metric)
+        }
+        Some((first, rest)) => {
+            let below = &mut registry.child_mut(first.as_str()).registry;
+            register_at(below, rest, texts, metric_type, unit, metric)
+        }
     }
 }

@@ -1,21 +1,21 @@
 //! Registry calls made one after the other.
-ghost use Rattle.std.specs.Prelude.{◌≡◌, OnOk, OnErr, IfOk, None, true, [], map};
+ghost use Rattle.std.specs.Prelude.{◌≡◌, ◌<◌, OnOk, OnErr, IfOk, IfNone, IfSome, IsSome, None, Some, true, [], map, length, get_or};
 ghost use Rattle.std.specs.String.{string_bytes};
 ghost use Rattle.fm_grammar.specs.LabelPairs.{labels_of};
-ghost use Rattle.fm_registry_rules.specs.Answer.{refusal_of, asking_refusal, subsystem_refusal, after, IsReturned};
+ghost use Rattle.fm_registry_rules.specs.Answer.{refusal_of, missing_name, asking_refusal, subsystem_refusal, after, IsReturned};
 ghost use Rattle.fm_registry_rules.specs.History.{Subsystem as AskSubsystem};
 ghost use Rattle.fm_registry_rules.specs.Texts.{has_text};
-ghost use Rattle.fm_registry_rules.specs.Tree.{Reads, names_in};
+ghost use Rattle.fm_registry_rules.specs.Tree.{Reads, names_in, subtree_from};
 ghost use Rattle.fm_registry_rules.specs.Steps.{with_subsystem};
 ghost use Rattle.fm_registry_rules.specs.Running.{IsReply};
-ghost use Rattle.fm_registry_rules.specs.inside.Paths.{path_of};
-ghost use Rattle.fm_core.specs.inside.Request.{call_at};
-ghost use Rattle.fm_core.specs.Calls.{RunsCall, RunsCalls};
+ghost use Rattle.fm_core.specs.inside.Missing.{missing_in};
+ghost use Rattle.fm_core.specs.Calls.{seen_path, RunsCall, RunsCalls};
 ghost use Rattle.fm_core.specs.HasHistory.{HasHistory, Grows};
 
 use super::Registry;
+use super::register::register_at;
 use fm_encoder::EncodeMetric;
-use fm_raw::{MetricType, Unit};
+use fm_raw::Unit;
 use fm_registry_rules::RegistryError;
 
 /// A call at the registry that a path of subsystem names leads to, starting from the registry that runs the call.
@@ -51,20 +51,37 @@ pub enum RegistryCall<M = Box<dyn EncodeMetric>> {
     },
 }
 
-// A call at one registry, without its path.
-#[derive(Drop)]
-enum Request<M> {
-    Register {
-        name: String,
-        help: String,
-        metric_type: MetricType,
-        unit: Option<Unit>,
-        metric: M,
-    },
-    Subsystem {
-        name: String,
-        labels: Vec<(String, String)>,
-    },
+impl<M> Registry<M> {
+    // The index of the first name on the path that no subsystem has, or `None` if the path leads to a registry.
+    fn missing_index(&self, path: &[String]) -> Option<usize>
+        ensures none { IfNone result (missing_in self.now (seen_path path.now) ≡ None) }
+        ensures some { IfSome result (λ index. (name : _) × (index < length path.now)
+            × (name ≡ get_or path.now index name)
+            × (missing_in self.now (seen_path path.now) ≡ Some (string_bytes name))) }
+    {
+        let mut here = self;
+        for (index, name) in path.iter().enumerate() {
+            match here.child(name.as_str()) {
+                Some(child) => here = child,
+                None => return Some(index),
+            }
+        }
+        None
+    }
+
+    // Returns the path unchanged if it leads to a registry; else the first name on it that no subsystem has is the error's.
+    fn tested_path(&self, mut path: Vec<String>) -> Result<Vec<String>, RegistryError>
+        ensures ok { IfOk result (λ tested. tested ≡ path) }
+        ensures answer { refusal_of result
+            ≡ missing_name (missing_in self.now (seen_path path.items)) }
+    {
+        match self.missing_index(path.as_slice()) {
+            None => Ok(path),
+            Some(index) => Err(RegistryError::NoSuchSubsystem {
+                name: path.swap_remove(index),
+            }),
+        }
+    }
 }
 
 impl<M: Drop> Registry<M> {
@@ -103,43 +120,31 @@ impl<M: Drop> Registry<M> {
     {
         self.ask_here(name, labels)
     }
+}
 
-    // Applies a request to this registry.
-    fn apply_here(&mut self, request: Request<M>) -> Result<(), RegistryError>
-        ensures reply { (b : _) → Reads self.old b
-            → IsReply (refusal_of result) b (call_at [] request) }
-        ensures ok { OnOk result
-            ((b : _) → Reads self.old b
-            → Reads self.new (after b (call_at [] request))) }
-        ensures err { OnErr result (self.new ≡ self.old) }
-    {
-        match request {
-            Request::Register {
-                name,
-                help,
-                metric_type,
-                unit,
-                metric,
-            } => self.add_metric(name, help, metric_type, unit, metric),
-            Request::Subsystem { name, labels } => self.ask_subsystem(name, labels),
-        }
-    }
-
-    // Applies a request at the end of a path, whose names are in reverse order.
-    fn apply(&mut self, mut path: Vec<String>, request: Request<M>) -> Result<(), RegistryError>
-        ensures reply { (b : _) → Reads self.old b
-            → IsReply (refusal_of result) b (call_at (path_of path.items) request) }
-        ensures ok { OnOk result
-            ((b : _) → Reads self.old b
-            → Reads self.new (after b (call_at (path_of path.items) request))) }
-        ensures err { OnErr result (self.new ≡ self.old) }
-    {
-        match path.pop() {
-            None => self.apply_here(request),
-            Some(name) => match self.index_of(name.as_str()) {
-                None => Err(RegistryError::NoSuchSubsystem { name }),
-                Some(index) => self.subsystem_at(index).apply(path, request),
-            },
+// Asks for a subsystem of the registry that the path leads to. There has to be one.
+fn ask_at<M: Drop>(
+    registry: &mut Registry<M>,
+    path: &[String],
+    name: String,
+    labels: Vec<(String, String)>,
+) -> Result<(), RegistryError>
+    requires { IsSome (subtree_from (Some registry.old) (seen_path path.now)) }
+    ensures reply { (b : _) → Reads registry.old b
+        → IsReply (refusal_of result) b
+        (AskSubsystem (seen_path path.now) (string_bytes name) (labels_of labels.items)) }
+    ensures ok { OnOk result
+        ((b : _) → Reads registry.old b
+        → Reads registry.new
+        (after b
+        (AskSubsystem (seen_path path.now) (string_bytes name) (labels_of labels.items)))) }
+    ensures err { OnErr result (registry.new ≡ registry.old) }
+{
+    match path.split_first() {
+        None => registry.ask_subsystem(name, labels),
+        Some((first, rest)) => {
+            let below = &mut registry.child_mut(first.as_str()).registry;
+            ask_at(below, rest, name, labels)
         }
     }
 }
@@ -162,30 +167,26 @@ impl<M: EncodeMetric> Registry<M> {
     {
         match call {
             RegistryCall::Register {
-                mut path,
+                path,
                 name,
                 help,
                 unit,
                 metric,
             } => {
                 let metric_type = metric.metric_type();
-                path.reverse();
-                let request = Request::Register {
-                    name,
-                    help,
+                let path = self.tested_path(path)?;
+                register_at(
+                    self,
+                    path.as_slice(),
+                    (name, help),
                     metric_type,
                     unit,
                     metric,
-                };
-                self.apply(path, request)
+                )
             }
-            RegistryCall::Subsystem {
-                mut path,
-                name,
-                labels,
-            } => {
-                path.reverse();
-                self.apply(path, Request::Subsystem { name, labels })
+            RegistryCall::Subsystem { path, name, labels } => {
+                let path = self.tested_path(path)?;
+                ask_at(self, path.as_slice(), name, labels)
             }
         }
     }

@@ -1,7 +1,8 @@
-//! Subsystems: where they are, and how they are created and borrowed.
-ghost use Rattle.std.specs.Prelude.{◌≡◌, ◌<◌, ◌+◌, ◌++◌, ◌∷◌, ◌||◌, true, [], Some, None, IsSome, OnOk, OnErr, IfOk, length};
+//! Subsystems: where they are, which names they may have, and how they are created and borrowed.
+ghost use Rattle.std.specs.Prelude.{◌≡◌, ◌<◌, ◌+◌, ◌++◌, ◌∷◌, ◌||◌, true, [], Some, None, IsSome, OnOk, OnErr, IfOk, length, map};
 ghost use Rattle.std.specs.Borrow.{sem};
 ghost use Rattle.std.specs.List.{position_from, list_any};
+ghost use Rattle.std.specs.Option.{option_copied};
 ghost use Rattle.std.specs.Str.{bytes_eq};
 ghost use Rattle.std.specs.String.{string_bytes};
 ghost use Rattle.fm_grammar.specs.LabelPairs.{labels_of};
@@ -9,14 +10,14 @@ ghost use Rattle.fm_registry_rules.specs.Answer.{refusal_of, new_name_refusal, c
 ghost use Rattle.fm_registry_rules.specs.History.{Subsystem as AskSubsystem};
 ghost use Rattle.fm_registry_rules.specs.Taken.{is_below as below_test, is_child_taken, tails_of};
 ghost use Rattle.fm_registry_rules.specs.Texts.{has_text};
-ghost use Rattle.fm_registry_rules.specs.Tree.{Reads, names_in};
+ghost use Rattle.fm_registry_rules.specs.Tree.{Reads, names_in, find_child, subtree_from};
 ghost use Rattle.fm_registry_rules.specs.Steps.{with_subsystem};
 ghost use Rattle.fm_registry_rules.specs.inside.Forests.{nth_in, nth_name, index_in, new_tree};
 ghost use Rattle.fm_registry_rules.specs.Loan.{LoanReads};
-ghost use Rattle.fm_core.specs.inside.TreeView.{forest_of, seen_metrics};
+ghost use Rattle.fm_core.specs.inside.TreeView.{forest_of};
 ghost use Rattle.fm_registry_rules.specs.Lists.{items_of};
 ghost use Rattle.fm_core.specs.Lends.{lends_registry, lends_subsystem};
-ghost use Rattle.fm_core.specs.inside.LendsParts.{lends_subsystems, lends_nth};
+ghost use Rattle.fm_core.specs.inside.LendsParts.{lends_subsystems, lends_nth, lends_child};
 ghost use Rattle.fm_core.specs.HasHistory.{HasHistory};
 
 use super::{Facts, Registry, Subsystem};
@@ -24,9 +25,8 @@ use fm_raw::is_snake_case;
 use fm_registry_rules::RegistryError;
 use fm_registry_rules::labels::{merged_labels, tested_labels};
 use fm_registry_rules::lists::{element_mut, push_to};
-use fm_registry_rules::names::{Tailed, is_below};
+use fm_registry_rules::names::is_below;
 use fm_registry_rules::namespace::subsystem_namespace;
-use indexmap::IndexMap;
 use std::alloc::{AllocError, Global};
 use std::ops::{Deref, DerefMut};
 
@@ -39,41 +39,6 @@ fn position_of<M>(subsystems: &[Subsystem<M>], name: &str) -> Option<usize>
         ≡ position_from (λ s. bytes_eq (string_bytes s.name) name.now) 0 subsystems.now }
 {
     subsystems.iter().position(|s| s.name.as_str() == name)
-}
-
-// Whether the text begins with the name of one of the subsystems and an underscore.
-fn is_below_any<M>(subsystems: &[Subsystem<M>], text: &str) -> bool
-    ensures { result ≡ list_any (λ s. below_test (string_bytes s.name) text.now) subsystems.now }
-{
-    subsystems.iter().any(|s| is_below(s.name.as_str(), text))
-}
-
-// Whether one of two names begins with the other and an underscore.
-fn are_related(name: &str, other: &str) -> bool
-    ensures { result ≡ below_test name.now other.now || below_test other.now name.now }
-{
-    is_below(name, other) || is_below(other, name)
-}
-
-// Whether `are_related` is true of the name and the name of one of the subsystems.
-fn is_related_to_any<M>(subsystems: &[Subsystem<M>], name: &str) -> bool
-    ensures { result
-        ≡ list_any (λ s. below_test (string_bytes s.name) name.now
-        || below_test name.now (string_bytes s.name))
-        subsystems.now }
-{
-    subsystems
-        .iter()
-        .any(|s| are_related(s.name.as_str(), name))
-}
-
-// Whether the tail of one of the metrics begins with the name and an underscore.
-fn is_above_any<M>(metrics: &IndexMap<Tailed, M>, name: &str) -> bool
-    ensures { result
-        ≡ list_any (λ tail. below_test name.now tail)
-        (tails_of (seen_metrics metrics.now.entries)) }
-{
-    metrics.keys().any(|key| is_below(name, key.tail()))
 }
 
 // Adds a subsystem at the end and returns its index.
@@ -94,13 +59,36 @@ where
 
 impl<M> Registry<M> {
     // The index of the subsystem with this name.
-    pub(super) fn index_of(&self, name: &str) -> Option<usize>
+    fn index_of(&self, name: &str) -> Option<usize>
         ensures { result ≡ index_in self.now.children name.now }
     {
         match &self.subsystems {
             Some(subsystems) => position_of(subsystems, name),
             None => None,
         }
+    }
+
+    // The registry of the subsystem with this name, or `None` if there is none.
+    pub(super) fn child(&self, name: &str) -> Option<&Registry<M>>
+        ensures { option_copied result ≡ find_child self.now.children name.now }
+    {
+        let index = self.index_of(name)?;
+        match &self.subsystems {
+            Some(subsystems) => Some(&subsystems[index].registry),
+            None => None,
+        }
+    }
+
+    /// The registry at the end of a path of subsystem names, starting from this registry, or `None` if a name on the path does
+    /// not exist. An empty path leads to this registry. It takes no memory.
+    pub fn at(&self, path: &[String]) -> Option<&Registry<M>>
+        ensures { option_copied result ≡ subtree_from (Some self.now) (map string_bytes path.now) }
+    {
+        let mut here = self;
+        for name in path {
+            here = here.child(name.as_str())?;
+        }
+        Some(here)
     }
 }
 
@@ -111,7 +99,7 @@ impl<M: Drop> Registry<M> {
             ≡ list_any (λ child. below_test child tail.now) (names_in self.now.children) }
     {
         match &self.subsystems {
-            Some(subsystems) => is_below_any(subsystems, tail),
+            Some(subsystems) => subsystems.iter().any(|s| is_below(s.name.as_str(), tail)),
             None => false,
         }
     }
@@ -123,29 +111,25 @@ impl<M: Drop> Registry<M> {
             (names_in self.now.children) }
     {
         match &self.subsystems {
-            Some(subsystems) => is_related_to_any(subsystems, name),
+            Some(subsystems) => subsystems.iter().any(|s| is_below(s.name.as_str(), name)
+                || is_below(name, s.name.as_str())),
             None => false,
         }
     }
 
-    // Whether the tail of a metric here begins with this name and an underscore.
-    fn is_above_metric(&self, name: &str) -> bool
-        ensures { result
-            ≡ list_any (λ tail. below_test name.now tail) (tails_of self.now.facts.metrics) }
-    {
-        match &self.facts.metrics {
-            Some(metrics) => is_above_any(metrics, name),
-            None => false,
-        }
-    }
-
-    // Whether a new subsystem can't have this name.
+    // Whether a new subsystem can't have this name: the tail of a metric here begins with it and an underscore, or a subsystem's name
+    // is too near.
     fn is_name_taken(&self, name: &str) -> bool
         ensures { result
             ≡ is_child_taken (tails_of self.now.facts.metrics)
             (names_in self.now.children) name.now }
     {
-        self.is_above_metric(name) || self.is_beside_child(name)
+        match &self.facts.metrics {
+            Some(metrics) => {
+                metrics.keys().any(|key| is_below(name, key.tail())) || self.is_beside_child(name)
+            }
+            None => self.is_beside_child(name),
+        }
     }
 
     // A mutable reference to the subsystems.
@@ -157,13 +141,26 @@ impl<M: Drop> Registry<M> {
     }
 
     // A mutable reference to the subsystem at an index.
-    pub(super) fn subsystem_at(&mut self, index: usize) -> &mut Subsystem<M>
+    fn subsystem_at(&mut self, index: usize) -> &mut Subsystem<M>
         requires { IsSome (nth_in self.old.children index) }
         ensures* writes_back { sem 𝓛 (lends_nth M.row self.entry index result) }
         ensures value { nth_in self.old.children index ≡ Some result.now.registry }
         ensures name { nth_name self.old.children index ≡ Some (string_bytes result.now.name) }
     {
         element_mut(self.subsystems_mut(), index)
+    }
+
+    // A mutable reference to the subsystem with this name, which exists.
+    pub(super) fn child_mut(&mut self, name: &str) -> &mut Subsystem<M>
+        requires { IsSome (find_child self.old.children name.now) }
+        ensures* writes_back { sem 𝓛 (lends_child M.row self.entry name.now result) }
+        ensures value { find_child self.old.children name.now ≡ Some result.now.registry }
+        ensures name { string_bytes result.now.name ≡ name.now }
+    {
+        match self.index_of(name) {
+            Some(index) => self.subsystem_at(index),
+            None => unreachable!(),
+        }
     }
 
     // A new subsystem of this registry, not yet added.

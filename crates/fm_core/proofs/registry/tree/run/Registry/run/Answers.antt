@@ -1,7 +1,7 @@
 use Rattle.std.proofs.Common.{refl, arith}
 use Rattle.fm_registry_rules.proofs.RunLemmas.{same_length-push}
 use Rattle.fm_core.proofs.GrowthLemmas.{Grows-same}
-use Rattle.fm_core.proofs.RequestLemmas.{RunsCalls-more, RunsCalls-sound, RunsCalls-grows}
+use Rattle.fm_core.proofs.PathLemmas.{RunsCalls-more, RunsCalls-sound, RunsCalls-grows}
 use Rattle.fm_core.proofs.registry.tree.run.Registry.run.Goals as goal
 
 pub loop-call-preserved : goal.loop-call-preserved

@@ -19,8 +19,8 @@ use Rattle.fastmetrics.specs.contracts.registry.kinds.MetricEncodeMetric.TheImpl
 use Rattle.fastmetrics.specs.inside.FittingMetrics.{FitsUnder, HasType, Fits}
 use Rattle.fastmetrics.specs.Fits.{OwnFault}
 use Rattle.fastmetrics.proofs.FaultLemmas.{vec_fits, counter_points, gauge_points, histogram_points, gauge_histogram_points, scalar_fits, histogram_fits, gauge_histogram_fits, states_fits, constant_fits, scalar_declares, constant_declares}
-use Rattle.fastmetrics.proofs.registry.kinds.faults.only_own_faults.Given.{Over}
-use Rattle.fastmetrics.proofs.registry.kinds.faults.only_own_faults.Goals as goal
+use Rattle.fastmetrics.proofs.registry.fitting.only_own_faults.Given.{Over}
+use Rattle.fastmetrics.proofs.registry.fitting.only_own_faults.Goals as goal
 
 module _ (g : Over) where
   -- what the metrics of a root declare
