@@ -15,19 +15,21 @@ use Rattle.fm_exposition.specs.Written.{IsWritersFault}
 use Rattle.fm_registry_rules.specs.History.{History}
 use Rattle.fm_registry_rules.specs.Registration.{Registration}
 use Rattle.fm_registry_rules.specs.Tree.{Facts, Tree, Reads}
-use Rattle.fm_registry_rules.specs.Listing.{Listed, listed_name, listed_with, own_metrics, IsListable, order}
+use Rattle.fm_registry_rules.specs.Listing.{Listed, listed_name, listed_with, own_metrics, listed_forest, listed_tree, IsListable, order}
 use Rattle.fm_registry_rules.proofs.NameLemmas.{printed_names-different}
 use Rattle.fm_encoder.specs.declared.metric.EncodeMetric.{Ghosts}
 use Rattle.fm_encoder.proofs.FaultLemmas.{MetricHasFault-not_writing}
 use Rattle.fm_core.specs.Seen.{listed_in}
-use Rattle.fm_core.proofs.ListingLemmas.{listed_in-push}
+use Rattle.fm_core.specs.inside.TreeView.{forest_of}
+use Rattle.fm_core.specs.declared.registry.tree.Subsystem.{Subsystem}
+use Rattle.fm_core.proofs.ListingLemmas.{listed_in-push, listed_forest-at}
 use Rattle.fm_core.specs.Admits.{Admits, HoldsOfOne, Fault}
 
-all_left : {A : Type 0} (P : A → Type 0) (xs ys : List A) → AllByRecursion P (xs ++ ys) → AllByRecursion P xs
+pub all_left : {A : Type 0} (P : A → Type 0) (xs ys : List A) → AllByRecursion P (xs ++ ys) → AllByRecursion P xs
 all_left P [] ys h = tt
 all_left P (x ∷ xs) ys h = (h.0, all_left P xs ys h.1)
 
-all_right : {A : Type 0} (P : A → Type 0) (xs ys : List A) → AllByRecursion P (xs ++ ys) → AllByRecursion P ys
+pub all_right : {A : Type 0} (P : A → Type 0) (xs ys : List A) → AllByRecursion P (xs ++ ys) → AllByRecursion P ys
 all_right P [] ys h = h
 all_right P (x ∷ xs) ys h = all_right P xs ys h.1
 
@@ -79,12 +81,6 @@ module _ {M : Type 0} (declared : Ghosts M) where
       (subst (λ (n : Text). AllByRecursion (λ other. other ≢ n) (map (λ family. family.name) rest ++ further)) (sym own.0) others, families_differ ls rest further admits differ.1)
 
 module _ {M : Type 0} where
-  -- the metrics of the registries before one, its own, and the rest
-  registry_at : (registries : List (Bor (Tree M))) (i : ℕ) (r : Bor (Tree M)) → i < length registries → r ≡ get_or registries i r → (rest : List (Listed M)) × (listed_in registries ≡ listed_in (take i registries) ++ (own_metrics r.now.facts ++ rest))
-  registry_at registries i r within is =
-      let split = split_at registries i r within is in
-      (listed_in split.0, ap (λ (rs : List (Bor (Tree M))). listed_in rs) split.1 ∙ flat_map-append (λ (x : Bor (Tree M)). own_metrics x.now.facts) (take i registries) (r ∷ split.0))
-
   all_labels : (facts : Facts M) (registrations : List (Registration M)) → AllByRecursion (λ (l : Listed M). l.labels ≡ facts.labels) (listed_with facts.namespace facts.labels registrations)
   all_labels facts [] = tt
   all_labels facts (r ∷ rs) = (refl, all_labels facts rs)
@@ -107,19 +103,22 @@ module _ {M : Type 0} where
       let more : take (i + 1) registries ≡ take i registries ++ r ∷ [] = take_more registries i r within ∙ ap (λ (y : Bor (Tree M)). take i registries ++ y ∷ []) (sym is) in
       ap (λ (rs : List (Bor (Tree M))). listed_in rs) more ∙ listed_in-push (take i registries) r
 
-  -- the metrics of one registry are listable if all are
-  pub IsListable-in : (registries : List (Bor (Tree M))) (i : ℕ) (r : Bor (Tree M)) → i < length registries → r ≡ get_or registries i r → AllByRecursion IsListable (listed_in registries) → AllByRecursion IsListable (own_metrics r.now.facts)
-  IsListable-in registries i r within is all =
-      let split = registry_at registries i r within is in
-      all_left IsListable (own_metrics r.now.facts) split.0 (all_right IsListable (listed_in (take i registries)) (own_metrics r.now.facts ++ split.0) (subst (AllByRecursion IsListable) split.1 all))
+  -- the metrics of a subsystem with those below it are listable if all are
+  pub IsListable-below : (own : List (Listed M)) (ss : List (Subsystem M)) (i : ℕ) (s : Subsystem M) → i < length ss → s ≡ get_or ss i s
+      → AllByRecursion IsListable (own ++ listed_forest (forest_of ss)) → AllByRecursion IsListable (listed_tree s.registry)
+  IsListable-below own ss i s within is all =
+      let split = listed_forest-at ss i s within is in
+      let before = listed_forest (forest_of (take i ss)) in
+      let below = subst (AllByRecursion IsListable) split.1 (all_right IsListable own (listed_forest (forest_of ss)) all) in
+      all_left IsListable (listed_tree s.registry) split.0 (all_right IsListable before (listed_tree s.registry ++ split.0) below)
 
 module _ {M : Type 0} (P : Listed M → Type 0) where
-  one-left : (ls ms : List (Listed M)) → HoldsOfOne P ls → HoldsOfOne P (ls ++ ms)
+  pub one-left : (ls ms : List (Listed M)) → HoldsOfOne P ls → HoldsOfOne P (ls ++ ms)
   one-left [] ms never = absurd never
   one-left (l ∷ ls) ms (inl here) = inl here
   one-left (l ∷ ls) ms (inr later) = inr (one-left ls ms later)
 
-  one-right : (ls ms : List (Listed M)) → HoldsOfOne P ms → HoldsOfOne P (ls ++ ms)
+  pub one-right : (ls ms : List (Listed M)) → HoldsOfOne P ms → HoldsOfOne P (ls ++ ms)
   one-right [] ms one = one
   one-right (l ∷ ls) ms one = inr (one-right ls ms one)
 
@@ -129,11 +128,13 @@ module _ {M : Type 0} (P : Listed M → Type 0) where
       let split = split_at ls i l (slice_get_within ls i l at) (sym (get_or_from_slice_get ls i l l at)) in
       subst (λ ms. HoldsOfOne P ms) (sym split.1) (one-right (take i ls) (l ∷ split.0) (inl here))
 
-  -- it holds of a metric of one registry
-  pub one-in : (registries : List (Bor (Tree M))) (i : ℕ) (r : Bor (Tree M)) → i < length registries → r ≡ get_or registries i r → HoldsOfOne P (own_metrics r.now.facts) → HoldsOfOne P (listed_in registries)
-  one-in registries i r within is one =
-      let split = registry_at registries i r within is in
-      subst (λ ms. HoldsOfOne P ms) (sym split.1) (one-right (listed_in (take i registries)) (own_metrics r.now.facts ++ split.0) (one-left (own_metrics r.now.facts) split.0 one))
+  -- it holds of a metric of a subsystem, or of one below
+  pub one-below : (own : List (Listed M)) (ss : List (Subsystem M)) (i : ℕ) (s : Subsystem M) → i < length ss → s ≡ get_or ss i s
+      → HoldsOfOne P (listed_tree s.registry) → HoldsOfOne P (own ++ listed_forest (forest_of ss))
+  one-below own ss i s within is one =
+      let split = listed_forest-at ss i s within is in
+      let later = one-right (listed_forest (forest_of (take i ss))) (listed_tree s.registry ++ split.0) (one-left (listed_tree s.registry) split.0 one) in
+      one-right own (listed_forest (forest_of ss)) (subst (λ ms. HoldsOfOne P ms) (sym split.1) later)
 
   -- what follows from it holds of one too
   pub one-weaker : (Q : Listed M → Type 0) → ((l : Listed M) → P l → Q l) → (ls : List (Listed M)) → HoldsOfOne P ls → HoldsOfOne Q ls

@@ -1,5 +1,5 @@
 -- One metric more in what a scrape has collected.
-use Rattle.std.proofs.Common.{◌≡◌, ℕ, ◌+◌, List, [], ◌∷◌, ◌++◌, map, Option, Some, None, take, inl, inr, refl, sym, ap, subst, ◌∙◌, append_assoc, append-nil, codes, slice_get}
+use Rattle.std.proofs.Common.{◌≡◌, ◌<◌, ℕ, ◌+◌, List, length, get_or, [], ◌∷◌, ◌++◌, map, Option, Some, None, take, inl, inr, refl, sym, ap, subst, ◌∙◌, append_assoc, append-nil, codes, slice_get}
 use Rattle.std.specs.List.{AllByRecursion}
 use Rattle.std.specs.Option.{option_map, option_copied}
 use Rattle.std.specs.String.{string_bytes}
@@ -12,10 +12,13 @@ use Rattle.fm_grammar.proofs.Runs.{all_append}
 use Rattle.fm_raw.specs.Units.{seen_unit}
 use Rattle.fm_registry_rules.specs.Texts.{prefixed_name, suffixed_name, printed_name}
 use Rattle.fm_registry_rules.specs.Registration.{printed_unit}
-use Rattle.fm_registry_rules.specs.Listing.{Listed, listed_name, IsListable}
+use Rattle.fm_registry_rules.specs.Listing.{Listed, listed_name, listed_forest, listed_tree, IsListable}
 use Rattle.fm_exposition.specs.inside.DocumentRows.{family_rows, families_rows}
 use Rattle.fm_encoder.specs.declared.metric.EncodeMetric.{Ghosts}
 use Rattle.fm_core.specs.Seen.{seen_listed}
+use Rattle.fm_core.specs.inside.TreeView.{forest_of}
+use Rattle.fm_core.specs.declared.registry.tree.Subsystem.{Subsystem}
+use Rattle.fm_core.proofs.ListingLemmas.{listed_forest-next}
 use Rattle.fm_core.specs.declared.registry.listed.ListedMetric.{ListedMetric}
 use Rattle.fm_core.specs.Admits.{Admits}
 use Rattle.fm_core.specs.inside.Offered.{Formed}
@@ -97,6 +100,14 @@ module _ {M : Type 0} (declared : Ghosts M) where
   pub Adds-next : (ls : List (Listed M)) (i : ℕ) (l : Listed M) (a b c : Collected) → slice_get ls i ≡ Some l → Adds declared (take i ls) a b → Adds declared (l ∷ []) b c → Adds declared (take (i + 1) ls) a c
   Adds-next ls i l a b c at before next =
       subst (λ ms. Adds declared ms a c) (sym (take_at ls i l at)) (Adds-++ (take i ls) (l ∷ []) a b c before next)
+
+  -- the next subsystem, with those below it
+  pub Adds-below : (own : List (Listed M)) (ss : List (Subsystem M)) (i : ℕ) (s : Subsystem M) (a b c : Collected) → i < length ss → s ≡ get_or ss i s
+      → Adds declared (own ++ listed_forest (forest_of (take i ss))) a b → Adds declared (listed_tree s.registry) b c → Adds declared (own ++ listed_forest (forest_of (take (i + 1) ss))) a c
+  Adds-below own ss i s a b c within is before next =
+      let first = listed_forest (forest_of (take i ss)) in
+      subst (λ ms. Adds declared ms a c) (append_assoc own first (listed_tree s.registry) ∙ ap (λ ms. own ++ ms) (sym (listed_forest-next ss i s within is)))
+      (Adds-++ (own ++ first) (listed_tree s.registry) a b c before next)
 
   -- if all listed names differ, the families make an exposition
   pub exposition_of : (ls : List (Listed M)) (e : Exposition) → Admits declared ls e → AllByRecursion IsFamily e → AllDifferent (map listed_name ls) → IsExposition e

@@ -1,5 +1,5 @@
 -- The list of registries grows as the tree is walked.
-use Rattle.std.proofs.Common.{◌≡◌, ℕ, ◌+◌, ◌<◌, List, [], ◌∷◌, ◌++◌, length, get_or, slice_get, take, Option, Some, Bor, sym, ap, ◌∙◌, append_assoc, append-nil}
+use Rattle.std.proofs.Common.{◌≡◌, ℕ, zero, suc, arith, ◌+◌, ◌<◌, List, [], ◌∷◌, ◌++◌, length, get_or, slice_get, take, Option, Some, Bor, sym, ap, ◌∙◌, append_assoc, append-nil}
 use Rattle.std.specs.Option.{option_map}
 use Rattle.std.proofs.lemmas.List.{take_more}
 use Rattle.std.proofs.lemmas.Option.{slice_get-map}
@@ -40,10 +40,34 @@ module _ {M : Type 0} where
       ∙ ap (λ ms. own ++ ms) (sym (append_assoc below (listed_forest (forest_of ss)) (listed_tree s.registry)))
       ∙ sym (append_assoc own (below ++ listed_forest (forest_of ss)) (listed_tree s.registry))
 
+  -- one subsystem more
+  pub listed_forest-next : (ss : List (Subsystem M)) (i : ℕ) (s : Subsystem M) → i < length ss → s ≡ get_or ss i s
+      → listed_forest (forest_of (take (i + 1) ss)) ≡ listed_forest (forest_of (take i ss)) ++ listed_tree s.registry
+  listed_forest-next ss i s within is =
+      let more : take (i + 1) ss ≡ take i ss ++ s ∷ [] = take_more ss i s within ∙ ap (λ (x : Subsystem M). take i ss ++ x ∷ []) (sym is) in
+      ap (λ xs. listed_forest (forest_of xs)) more ∙ listed_forest-++ (take i ss) s
+
+  -- the metrics of the subsystems before one, its own with those below it, and the rest
+  pub listed_forest-at : (ss : List (Subsystem M)) (i : ℕ) (s : Subsystem M) → i < length ss → s ≡ get_or ss i s
+      → (rest : List (Listed M)) × (listed_forest (forest_of ss) ≡ listed_forest (forest_of (take i ss)) ++ (listed_tree s.registry ++ rest))
+  listed_forest-at [] i s within is = absurd (omega arith)
+  listed_forest-at (x ∷ ss) zero s within is =
+      let rest = listed_forest (forest_of ss) in
+      (rest, sym (append_assoc (own_metrics x.registry.facts) (listed_forest x.registry.children) rest) ∙ ap (λ (y : Subsystem M). listed_tree y.registry ++ rest) (sym is))
+  listed_forest-at (x ∷ ss) (suc i) s within is =
+      let own = own_metrics x.registry.facts in
+      let below = listed_forest x.registry.children in
+      let (rest, split) = listed_forest-at ss i s (omega arith) is in
+      let more = listed_tree s.registry ++ rest in (
+        rest,
+        ap (λ ms. own ++ (below ++ ms)) split
+            ∙ ap (λ ms. own ++ ms) (sym (append_assoc below (listed_forest (forest_of (take i ss))) more))
+            ∙ sym (append_assoc own (below ++ listed_forest (forest_of (take i ss))) more),
+      )
+
   pub listed-subsystem : (news olds base : List (Listed M)) (ss : List (Subsystem M)) (i : ℕ) (s : Subsystem M)
       → i < length ss → s ≡ get_or ss i s → olds ≡ base ++ listed_forest (forest_of (take i ss)) → news ≡ olds ++ listed_tree s.registry
       → news ≡ base ++ listed_forest (forest_of (take (i + 1) ss))
   listed-subsystem news olds base ss i s within is before new =
-      let more : take (i + 1) ss ≡ take i ss ++ s ∷ [] = take_more ss i s within ∙ ap (λ (x : Subsystem M). take i ss ++ x ∷ []) (sym is) in
       new ∙ ap (λ ms. ms ++ listed_tree s.registry) before ∙ append_assoc base (listed_forest (forest_of (take i ss))) (listed_tree s.registry)
-      ∙ ap (λ ms. base ++ ms) (sym (ap (λ xs. listed_forest (forest_of xs)) more ∙ listed_forest-++ (take i ss) s))
+      ∙ ap (λ ms. base ++ ms) (sym (listed_forest-next ss i s within is))

@@ -1,10 +1,10 @@
 -- What a metric offered to an encoder, and what the encoder made of it.
-use Rattle.std.proofs.Common.{◌≡◌, ℕ, List, Option, None, Result, Ok, Err, MatchResult, ◌⊎◌, inl, inr, refl, sym, subst}
+use Rattle.std.proofs.Common.{◌≡◌, ◌++◌, ℕ, List, Option, None, Some, Vec, Global, Result, Ok, Err, MatchResult, ◌⊎◌, inl, inr, refl, sym, ap, subst}
 use Rattle.fm_grammar.specs.declared.MetricType.{MetricType}
-use Rattle.fm_grammar.specs.Exposition.{Text, Label}
+use Rattle.fm_grammar.specs.Exposition.{Text, Label, Family}
 use Rattle.fm_raw.specs.declared.encode_error.EncodeError.{EncodeError}
 use Rattle.fm_raw.specs.declared.encode_error.EncodeError.TheVariants.{Memory}
-use Rattle.fm_writer.specs.Output.{Output}
+use Rattle.fm_writer.specs.Output.{Output, with_lines}
 use Rattle.fm_encoder.specs.Points.{Member, Context, members_samples}
 use Rattle.fm_encoder.specs.Offers.{MetricHasFault, context_at}
 use Rattle.fm_encoder.specs.Gathered.{GatheredMembers}
@@ -12,7 +12,15 @@ use Rattle.fm_labels.specs.Refusals.{OwnRefusal, IsOutcome}
 use Rattle.fm_encoder.specs.Emits.{EmitsMembers}
 use Rattle.fm_labels.proofs.LabelSetLemmas.{own_refusal_is}
 use Rattle.fm_encoder.proofs.MemberLemmas.{MembersValid-formed}
-use Rattle.fm_core.specs.inside.Offered.{Offered}
+use Rattle.fm_core.specs.inside.Offered.{Offered, IsReady}
+
+-- a further line leaves an encoder as ready as it was
+pub ready_ended : (families : Option (Vec Family Global)) (old new : GatheredMembers) (line : Text) → new ≡ record old { output = with_lines old.output line } → IsReady families old → IsReady families new
+ready_ended families old new line is ready = subst (IsReady families) (sym is) (by families ready)
+  where
+    by : (fs : Option (Vec Family Global)) → IsReady fs old → IsReady fs (record old { output = with_lines old.output line })
+    by None before = record { output = (before.output.0 ++ line, ap (λ (o : Output). with_lines o line) before.output.1); accepting = before.accepting }
+    by (Some fs) before = record { output = ap (λ (o : Output). with_lines o line) before.output; accepting = before.accepting }
 
 -- what an encoder with this output makes of a metric
 abbrev pub Makes : (Option ℕ → List Member → Type 0) → (Option ℕ → Type 0) → Type 0 → Text → MetricType → List Label → Output → GatheredMembers → Result (Unit {0}) EncodeError → Type 0

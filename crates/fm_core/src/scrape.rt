@@ -1,5 +1,6 @@
 //! What a scrape does: collecting a registry, or writing its document.
 
+pub(crate) mod buffer;
 pub(crate) mod collect;
 mod collector;
 pub(crate) mod encode;

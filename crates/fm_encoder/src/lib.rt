@@ -13,8 +13,8 @@ pub mod value;
 pub mod collector {
     //! What the collector and families call, and no metric.
     pub use crate::metric::collector::{
-        begin_family, encode_member, enter, for_lines, for_samples, into_sink, outcome,
-        take_samples, type_of,
+        begin_document, begin_family, encode_member, end_document, enter, for_lines, for_samples,
+        lines, outcome, take_samples, type_of,
     };
     pub use fm_labels::WrittenLabels;
 }

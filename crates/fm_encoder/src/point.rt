@@ -9,7 +9,7 @@
 //!         encoder.encode_summary(&quantiles, FixedSum::from(one), 3, None)
 //! ```
 ghost use Rattle.std.specs.Prelude.{◌≡◌, ◌++◌, List, [], None, Some, Err, OnOk, OnErr, IfOk, IfErr, IfSome, IsSome, string_bytes};
-ghost use Rattle.std.specs.Option.{option_map};
+ghost use Rattle.std.specs.Option.{option_copied, option_map};
 ghost use Rattle.fm_grammar.specs.Names.{IsSnakeCase};
 ghost use Rattle.fm_grammar.specs.declared.MetricType.{MetricType};
 ghost use Rattle.fm_grammar.specs.WellFormed.{AreLabels, AreMillis};
@@ -17,7 +17,7 @@ ghost use Rattle.fm_raw.specs.declared.encode_error.EncodeError.{EncodeError};
 ghost use Rattle.fm_exposition.specs.Rows.{head_rows};
 ghost use Rattle.fm_exposition.specs.Samples.{value_of, exemplar_of};
 ghost use Rattle.fm_writer.specs.Heads.{headed};
-ghost use Rattle.fm_writer.specs.Output.{AreShared, OutputSamples, samples_in, with_lines};
+ghost use Rattle.fm_writer.specs.Output.{AreShared, OutputSamples, OutputText, samples_in, text_in, with_lines};
 ghost use Rattle.fm_encoder.specs.Points.{Point};
 ghost use Rattle.fm_labels.specs.Labels.{emitted_again};
 ghost use Rattle.fm_labels.specs.inside.FreeLabels.{AreFree};
@@ -39,7 +39,7 @@ use fm_labels::label::LabelSetEncoder;
 use fm_labels::label_set::EncodeLabelSet;
 use fm_raw::EncodeError;
 use fm_text::{GrowingText, LabelText};
-use fm_writer::{FamilyHead, NewSample, Sink};
+use fm_writer::{FamilyHead, NewSample, Sink, TextBlocks};
 use std::alloc::{AllocError, Global};
 use std::marker::Model;
 use std::mem;
@@ -359,22 +359,27 @@ impl PointEncoder {
         self.sink.take_samples()
     }
 
-    // The sink.
-    pub(crate) fn into_sink(self) -> Sink
-        ensures { result.output ≡ self.output }
+    // Begins another text, as if nothing had been refused.
+    pub(crate) fn begin_text(&mut self)
+        ensures { self.new ≡ record self.old { output = OutputText []; refused = None } }
     {
-        let PointEncoder {
-            alloc: _,
-            name: _,
-            time: _,
-            labels: _,
-            deferred: _,
-            sink,
-            refused: _,
-            bounds: _,
-            front: _,
-            none: _,
-        } = self;
-        sink
+        self.refused.error = None;
+        self.sink.begin_text();
+    }
+
+    // Ends the text with this line, unless the sink keeps samples. Fails if memory runs out.
+    pub(crate) fn end_text(&mut self, last: &[u8]) -> Result<(), AllocError>
+        ensures setting { self.new.setting ≡ self.old.setting }
+        ensures ended { OnOk result
+            (self.new ≡ record self.old { output = with_lines self.old.output last.now }) }
+    {
+        self.sink.end_text(last)
+    }
+
+    // The text so far, or `None` if the sink keeps samples.
+    pub(crate) fn lines(&self) -> Option<&TextBlocks>
+        ensures { option_copied result ≡ text_in self.now.output }
+    {
+        self.sink.lines()
     }
 }

@@ -1,7 +1,8 @@
 -- A text that is written block by block.
-use Rattle.std.proofs.Common.{◌≡◌, ◌<◌, ◌≤◌, ◌+◌, ℕ, suc, List, [], ◌∷◌, ◌++◌, Option, ap, sym, ◌∙◌, append_assoc, length, drop, get_or, subst, arith}
+use Rattle.std.proofs.Common.{◌≡◌, ◌<◌, ◌≤◌, ◌+◌, ℕ, suc, List, [], ◌∷◌, ◌++◌, Option, ap, sym, ◌∙◌, append_assoc, length, drop, take, get_or, slice_set, subst, arith}
 use Rattle.std.proofs.Math.Seq.{drop-cons}
-use Rattle.std.proofs.lemmas.List.{drop_all, append-nil}
+use Rattle.std.proofs.lemmas.List.{drop_all, append-nil, length-append, take_all, take_more_set}
+use Rattle.std.proofs.lemmas.List.Folds.{concat-append}
 use Rattle.std.specs.List.{concat}
 use Rattle.fm_grammar.specs.Exposition.{Text, Sample}
 use Rattle.fm_exposition.specs.Rows.{sample_rows}
@@ -34,6 +35,22 @@ last_block blocks last i all = ap (λ (bs : List Text). concat bs ++ last) (drop
 -- a beginning of the last block is written
 pub last_begun : (a b c : Option Text) (last whole : Text) → AppendsAllBut last a b whole → AppendsBeginning b c last → AppendsBeginning a c whole
 last_begun a b c last whole before begun = all_but_begun a b c last [] whole (rw (append-nil last) before) begun
+
+-- the last block becomes a full one, and an empty one the last
+
+moved : (full : List Text) (last next : Text) → next ≡ [] → concat (full ++ last ∷ []) ++ next ≡ concat full ++ last
+moved full last next none = rw (none, concat-append full (last ∷ [])) (append-nil (concat full ++ concat (last ∷ [])) ∙ ap (λ t. concat full ++ t) (append-nil last))
+
+-- in the place of a block that another text left
+pub spare_taken : (blocks : List Text) (n : ℕ) (last next : Text) → n < length blocks → next ≡ [] → concat (take (n + 1) (slice_set blocks n last)) ++ next ≡ concat (take n blocks) ++ last
+spare_taken blocks n last next within none = ap (λ (bs : List Text). concat bs ++ next) (take_more_set blocks n last within) ∙ moved (take n blocks) last next none
+
+-- behind all others
+pub block_added : (blocks : List Text) (n : ℕ) (last next : Text) → length blocks ≤ n → next ≡ [] → concat (take (n + 1) (blocks ++ last ∷ [])) ++ next ≡ concat (take n blocks) ++ last
+block_added blocks n last next past none =
+    let all : length (blocks ++ last ∷ []) ≤ n + 1 = omega (arith, length-append blocks (last ∷ []), past) in
+    ap (λ (bs : List Text). concat bs ++ next) (take_all (n + 1) (blocks ++ last ∷ []) all)
+    ∙ moved blocks last next none ∙ ap (λ (bs : List Text). concat bs ++ last) (sym (take_all n blocks past))
 
 -- an output whose text comes after another one
 abbrev prefixed : Text → Output → Output

@@ -21,31 +21,41 @@ const FIRST_ROOM: usize = 4_096;
 // From how many bytes on a block is full. The line that is appended last mostly fits into what is left.
 const FULL: usize = 64_512;
 
-/// A text in blocks: full ones, and the last one, to whose end a text is appended.
+/// A text in blocks: full ones, and the last one, to whose end a text is appended. Another text may come in their place, and takes the
+/// same blocks in the same order.
 pub struct TextBlocks {
     alloc: Global,
-    pub(crate) full: Vec<GrowingText>,
+    // The full ones, and behind them those that the text before left, which are taken next.
+    blocks: Vec<GrowingText>,
+    // How many are full.
+    full: usize,
     pub(crate) last: GrowingText,
+    // Whether the first block was given its room.
+    has_room: bool,
 }
 
 impl Drop for TextBlocks {
     fn drop(self) {
         let TextBlocks {
             alloc: _,
+            blocks: _,
             full: _,
             last: _,
+            has_room: _,
         } = self;
     }
 }
 
 impl Model for TextBlocks {
-    ghost use Rattle.std.specs.Prelude.{◌++◌};
+    ghost use Rattle.std.specs.Prelude.{◌++◌, ◌≤◌, length, take};
     ghost use Rattle.std.specs.List.{concat};
     ghost use Rattle.fm_grammar.specs.Exposition.{Text};
 
     ghost Value = { Text };
 
-    ghost view = { λ b. concat b.full.items ++ b.last };
+    ghost view = { λ b. concat (take b.full b.blocks.items) ++ b.last };
+
+    ghost invariant = { λ b. b.full ≤ length b.blocks.items };
 }
 
 impl TextBlocks {
@@ -55,9 +65,24 @@ impl TextBlocks {
     {
         TextBlocks {
             alloc,
-            full: Vec::new(alloc),
+            blocks: Vec::new(alloc),
+            full: 0,
             last: GrowingText::new(alloc),
+            has_room: false,
         }
+    }
+
+    /// Removes the text, and keeps its blocks for the next one. Those that it left of the text before are given back.
+    pub fn clear(&mut self)
+        ensures { self.new ≡ [] }
+    {
+        self.blocks.truncate(self.full);
+        self.full = 0;
+        if let Some(first) = self.blocks.first_mut() {
+            mem::swap(first, &mut self.last);
+            self.blocks.rotate_left(1);
+        }
+        self.last.clear();
     }
 
     /// Appends bytes. Fails if memory runs out.
@@ -75,7 +100,7 @@ impl TextBlocks {
             (AppendsBeginning (W.contents writer.old) (W.contents writer.new) self.now) }
         ensures fault { IfErr result IsWritersFault }
     {
-        for block in &self.full {
+        for block in &self.blocks[..self.full] {
             write_text(writer, block.as_slice())?;
         }
         write_text(writer, self.last.as_slice())
@@ -85,8 +110,9 @@ impl TextBlocks {
     pub(crate) fn begin(&mut self) -> Result<(), AllocError>
         ensures { self.new ≡ self.old }
     {
-        if self.full.is_empty() && self.last.as_slice().is_empty() {
+        if !self.has_room && self.last.as_slice().is_empty() {
             self.last = GrowingText::with_capacity(self.alloc, FIRST_ROOM)?;
+            self.has_room = true;
         }
         Ok(())
     }
@@ -106,9 +132,16 @@ impl TextBlocks {
     fn begin_block(&mut self) -> Result<(), AllocError>
         ensures { self.new ≡ self.old }
     {
-        let next = GrowingText::with_capacity(self.alloc, BLOCK)?;
-        self.full.reserve(1)?;
-        self.full.push_reserved(mem::replace(&mut self.last, next));
+        if self.full < self.blocks.len() {
+            mem::swap(&mut self.blocks[self.full], &mut self.last);
+            self.last.clear();
+        } else {
+            let next = GrowingText::with_capacity(self.alloc, BLOCK)?;
+            self.blocks.reserve(1)?;
+            self.blocks
+                .push_reserved(mem::replace(&mut self.last, next));
+        }
+        self.full += 1;
         Ok(())
     }
 }

@@ -1,5 +1,6 @@
 //! Where encoders put the samples of a family.
 ghost use Rattle.std.specs.Prelude.{◌≡◌, ◌++◌, None, Some, [], ◌∷◌, map, OnOk, OnErr, IfOk, IfSome, IsSome};
+ghost use Rattle.std.specs.Option.{option_copied};
 ghost use Rattle.fm_exposition.specs.Rows.{head_rows};
 ghost use Rattle.fm_grammar.specs.LabelPairs.{labels_of, shown_label};
 ghost use Rattle.fm_exposition.specs.Samples.{shared_labels};
@@ -230,12 +231,32 @@ impl Sink {
         }
     }
 
-    /// The text, or `None` if the sink keeps samples.
-    pub fn into_text(self) -> Option<TextBlocks>
-        ensures { result ≡ text_in self.output }
+    /// Begins another text, in the blocks of the one before.
+    pub fn begin_text(&mut self)
+        ensures { self.new ≡ record { shared = None; output = OutputText [] } }
     {
-        let Sink { alloc: _, form } = self;
-        match form {
+        match &mut self.form {
+            Form::Samples(_, _) => self.form = Form::Text(TextBlocks::new(self.alloc)),
+            Form::Text(text) => text.clear(),
+        }
+    }
+
+    /// Ends the text with this line. A sink that keeps samples ignores it. Fails if memory runs out.
+    pub fn end_text(&mut self, last: &[u8]) -> Result<(), AllocError>
+        ensures shared { self.new.shared ≡ self.old.shared }
+        ensures ended { OnOk result (self.new.output ≡ with_lines self.old.output last.now) }
+    {
+        match &mut self.form {
+            Form::Samples(_, _) => Ok(()),
+            Form::Text(text) => text.append(last),
+        }
+    }
+
+    /// The text so far, or `None` if the sink keeps samples.
+    pub fn lines(&self) -> Option<&TextBlocks>
+        ensures { option_copied result ≡ text_in self.now.output }
+    {
+        match &self.form {
             Form::Samples(_, _) => None,
             Form::Text(text) => Some(text),
         }

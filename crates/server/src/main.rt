@@ -2,6 +2,7 @@
 //! plugins that register by themselves in a root under a lock. It has no clause and no proof.
 #![tactic(auto)]
 
+use fastmetrics::format::text::DocumentBuffer;
 use fastmetrics::metrics::counter::Counter;
 use fastmetrics::metrics::family::{
     Collected, CollectedMembers, Collector, CounterVec, HistogramVec,
@@ -162,9 +163,9 @@ fn load_plugins<R: Threads + Waiter>(
 }
 
 // The document, without what the process tells, which is another at each run.
-fn scrape<H: Waiter>(root: &Root<H, Own>) -> anyhow::Result<String> {
+fn scrape<H: Waiter>(root: &Root<H, Own>, buffer: &mut DocumentBuffer) -> anyhow::Result<String> {
     let mut document = Vec::new(root.alloc());
-    root.encode(&mut document)?;
+    root.encode_into(buffer, &mut document)?;
     let text = String::from_utf8(document)?;
     match text.find("# TYPE shop") {
         Some(start) => Ok(String::from_str(root.alloc(), &text[start..])?),
@@ -195,6 +196,9 @@ fn main(rt: HostRuntime) -> anyhow::Result<()> {
     let (maps, mail) = load_plugins(&rt, &plugins)?;
     maps.inc_by(mail.inc())?;
     process.read(&rt)?;
-    rt.stdout().write_all(scrape(&root)?.as_bytes())?;
+    let mut buffer = DocumentBuffer::new(root.alloc());
+    scrape(&root, &mut buffer)?;
+    let again = scrape(&root, &mut buffer)?;
+    rt.stdout().write_all(again.as_bytes())?;
     Ok(())
 }

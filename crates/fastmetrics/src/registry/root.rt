@@ -27,7 +27,7 @@ mod subsystems;
 use crate::registry::fitting::only_own_faults;
 use crate::registry::kinds::{Metric, NoOwn};
 use crate::registry::maker::Waiter;
-use fm_core::format::text::{FamilyFault, collect, encode, fault};
+use fm_core::format::text::{DocumentBuffer, FamilyFault, collect, fault};
 use fm_core::lint::{Warning, lint_registry};
 use fm_core::registry::{Registry, RegistryBuilder, RegistryError};
 use fm_encoder::EncodeMetric;
@@ -221,8 +221,29 @@ impl<H: Waiter, X: EncodeMetric> Root<H, X> {
             (⟦<Root<H, X> as Shown>⟧.is_document self.now)
             (W.contents writer.old) (W.contents writer.new)) }
     {
+        self.encode_into(&mut DocumentBuffer::new(self.alloc()), writer)
+    }
+
+    /// Writes the document of the registry as `encode` does, and renders it in this buffer's memory, which a server keeps from one
+    /// scrape to the next.
+    pub fn encode_into<W: Write>(
+        &self,
+        buffer: &mut DocumentBuffer,
+        writer: &mut W,
+    ) -> Result<(), EncodeError>
+        ensures document { OnOk result (Writes
+            (⟦<Root<H, X> as Shown>⟧.is_document self.now)
+            (W.contents writer.old) (W.contents writer.new)) }
+        ensures refused { IfErr result (λ k. ¬ (IsWritersFault k)
+            → Keeps (W.contents writer.old) (W.contents writer.new)
+            × ((k ≡ EncodeError.Memory)
+            ⊎ HasOwnFault X.EncodeMetric k self.now.at.tree)) }
+        ensures stopped { IfErr result (λ k. IsWritersFault k → BeginsToWrite
+            (⟦<Root<H, X> as Shown>⟧.is_document self.now)
+            (W.contents writer.old) (W.contents writer.new)) }
+    {
         only_own_faults::<H, X>();
-        encode(self.alloc(), writer, self.registry())
+        buffer.encode(writer, self.registry())
     }
 
     /// The first family that a document can't show at this moment, and why, or `None`: what a server prints where `encode` was refused.

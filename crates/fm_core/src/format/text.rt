@@ -11,6 +11,7 @@
 //! encode_exposition(alloc, &mut body, &exposition)?;
 //! ```
 
+pub use crate::scrape::buffer::DocumentBuffer;
 pub use crate::scrape::collect::collect;
 pub use crate::scrape::encode::encode;
 pub use crate::scrape::{FamilyFault, fault};

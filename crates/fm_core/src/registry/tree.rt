@@ -62,7 +62,7 @@ impl<M: Drop> Drop for Facts<M> {
 #[cycle(tree)]
 pub struct Registry<M = Box<dyn EncodeMetric>> {
     facts: Facts<M>,
-    subsystems: Option<Vec<Subsystem<M>>>,
+    pub(crate) subsystems: Option<Vec<Subsystem<M>>>,
 }
 
 /// A registry with its name, as its parent keeps it.
@@ -77,7 +77,7 @@ pub struct Registry<M = Box<dyn EncodeMetric>> {
 #[cycle(tree)]
 pub struct Subsystem<M = Box<dyn EncodeMetric>> {
     name: String,
-    registry: Registry<M>,
+    pub(crate) registry: Registry<M>,
 }
 
 impl<M> Model for Registry<M> {

@@ -34,7 +34,7 @@ pub fn collect<M: EncodeMetric>(
     ensures not_writing { IfErr result (λ k. ¬ (IsWritersFault k)) }
 {
     let mut encoder = MetricFamilyEncoder::for_families(alloc)?;
-    if let Err(stop) = gather(alloc, &mut encoder, registry) {
+    if let Err(stop) = gather(&mut encoder, registry) {
         return Err(stop.error);
     }
     Ok(encoder.into_exposition())

@@ -1,6 +1,6 @@
 //! The encoder of families, one for a whole scrape.
 ghost use Rattle.std.specs.Prelude.{◌≡◌, ◌⊎◌, ◌∷◌, ◌++◌, [], Some, None, MatchResult, OnOk, IfOk, IfErr, IfSome, IsSome, codes};
-ghost use Rattle.std.specs.Option.{option_copied};
+ghost use Rattle.std.specs.Option.{option_copied, option_map};
 ghost use Rattle.fm_grammar.specs.Reading.{IsExposition, IsNewName};
 ghost use Rattle.fm_grammar.specs.WellFormed.{AreLabels};
 ghost use Rattle.fm_raw.specs.declared.encode_error.EncodeError.{EncodeError};
@@ -23,6 +23,13 @@ use fm_raw::{EncodeError, Metadata};
 use fm_writer::TextBlocks;
 use std::alloc::{AllocError, Global};
 use std::marker::Model;
+
+// What an encoder of lines is made of, and leaves for the next one.
+#[derive(Drop)]
+pub(crate) struct Parts {
+    encoder: MetricEncoder,
+    name: String,
+}
 
 /// Takes the families of a registry and all below it, one after the other: keeps them for `collect`, or appends their lines to a text
 /// for `encode`. These alone make it.
@@ -92,18 +99,28 @@ impl<'a> MetricFamilyEncoder<'a> {
         })
     }
 
-    // An encoder that appends the lines of families and has none, in a registry with no namespace and no labels.
-    pub(crate) fn for_lines(alloc: Global) -> MetricFamilyEncoder<'a>
-        ensures { result
-            ≡ record { namespace = None; labels = []; families = []; lines = Some []; refused = None } }
+    // An encoder that appends the lines of families and has none, in the memory of the one that left these parts.
+    pub(crate) fn for_lines(alloc: Global, parts: Option<Parts>) -> MetricFamilyEncoder<'a>
+        ensures lines { (result.families ≡ []) × (result.lines ≡ Some []) }
+        ensures accepting { result.refused ≡ None }
     {
+        let Parts { encoder, name } = match parts {
+            Some(mut parts) => {
+                collector::begin_document(&mut parts.encoder);
+                parts
+            }
+            None => Parts {
+                encoder: collector::for_lines(alloc),
+                name: String::new(alloc),
+            },
+        };
         MetricFamilyEncoder {
             alloc,
             namespace: None,
             families: None,
             refused: FirstRefusal { error: None },
-            encoder: collector::for_lines(alloc),
-            name: String::new(alloc),
+            encoder,
+            name,
         }
     }
 
@@ -117,7 +134,7 @@ impl<'a> MetricFamilyEncoder<'a> {
         }) }
         ensures memory { IfErr result (λ k. k ≡ EncodeError.Memory) }
     {
-        collector::enter(&mut self.encoder, self.alloc, registry.constant_labels())?;
+        collector::enter(&mut self.encoder, registry.constant_labels())?;
         self.namespace = registry.namespace();
         Ok(())
     }
@@ -211,26 +228,42 @@ impl<'a> MetricFamilyEncoder<'a> {
         }
     }
 
-    // The lines, with the last one of a document. Fails if memory runs out.
-    pub(crate) fn into_document(self) -> Result<TextBlocks, AllocError>
-        requires { IsSome self.lines }
-        ensures { IfOk result (λ document. IfSome self.entry.lines
-            (λ lines. document ≡ lines ++ codes "# EOF\n")) }
+    // Appends the last line of a document. Fails with `Memory` if memory runs out.
+    #[tactic(auto, using(crate::proofs::OfferedLemmas::ready_ended))]
+    pub(crate) fn end(&mut self) -> Result<(), EncodeError>
+        requires lines { IsSome self.old.lines }
+        requires accepting { self.old.refused ≡ None }
+        ensures ended { OnOk result (self.new.lines
+            ≡ option_map (λ lines. lines ++ codes "# EOF\n") self.old.lines) }
+        ensures memory { IfErr result (λ k. k ≡ EncodeError.Memory) }
     {
+        if let Err(AllocError) = collector::end_document(&mut self.encoder) {
+            return self.refused.refuse(EncodeError::Memory);
+        }
+        Ok(())
+    }
+
+    // The lines so far.
+    pub(crate) fn lines(&self) -> &TextBlocks
+        requires { IsSome self.now.lines }
+        ensures { Some result.now ≡ self.now.lines }
+    {
+        match collector::lines(&self.encoder) {
+            Some(lines) => lines,
+            None => unreachable!(),
+        }
+    }
+
+    // What it is made of.
+    pub(crate) fn into_parts(self) -> Parts {
         let MetricFamilyEncoder {
             alloc: _,
             namespace: _,
             families: _,
             refused: _,
             encoder,
-            name: _,
+            name,
         } = self;
-        match collector::into_sink(encoder).into_text() {
-            Some(mut lines) => {
-                lines.append(b"# EOF\n")?;
-                Ok(lines)
-            }
-            None => unreachable!(),
-        }
+        Parts { encoder, name }
     }
 }

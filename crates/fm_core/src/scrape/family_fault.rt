@@ -56,7 +56,7 @@ pub fn fault<M: EncodeMetric>(
         × AdmittedBy M.EncodeMetric registry.now e) }
 {
     let mut encoder = MetricFamilyEncoder::for_families(alloc)?;
-    let Err(stop) = gather(alloc, &mut encoder, registry) else {
+    let Err(stop) = gather(&mut encoder, registry) else {
         return Ok(None);
     };
     let Some(listed) = stop.listed else {

@@ -1,12 +1,13 @@
 //! What the collector and families call, and no metric: encoders are made, told the next registry and family, and taken apart.
-ghost use Rattle.std.specs.Prelude.{◌≡◌, [], ◌⊎◌, None, Some, IfSome, IsSome, OnOk, OnErr, IfOk, IfErr, Err, string_bytes};
+ghost use Rattle.std.specs.Prelude.{◌≡◌, [], ◌⊎◌, None, Some, IfSome, IsSome, OnOk, OnErr, IfOk, IfErr, Err, string_bytes, codes};
+ghost use Rattle.std.specs.Option.{option_copied};
 ghost use Rattle.fm_grammar.specs.Names.{IsSnakeCase};
 ghost use Rattle.fm_grammar.specs.WellFormed.{AreLabels, AreMillis};
 ghost use Rattle.fm_raw.specs.declared.encode_error.EncodeError.{EncodeError};
 ghost use Rattle.fm_exposition.specs.Rows.{head_rows};
 ghost use Rattle.fm_grammar.specs.LabelPairs.{labels_of};
 ghost use Rattle.fm_writer.specs.Heads.{headed};
-ghost use Rattle.fm_writer.specs.Output.{AreShared, OutputSamples, OutputText, samples_in, with_lines};
+ghost use Rattle.fm_writer.specs.Output.{AreShared, OutputSamples, OutputText, samples_in, text_in, with_lines};
 ghost use Rattle.fm_labels.specs.Refusals.{IsOutcome, result_of};
 ghost use Rattle.fm_labels.specs.WrittenLabels.{AreWritten};
 ghost use Rattle.fm_encoder.specs.Emits.{MembersOf};
@@ -56,11 +57,7 @@ pub fn for_lines(alloc: Global) -> MetricEncoder
 
 /// Goes on to a registry with these constant labels: the families that begin next have them. Fails if memory runs out; then nothing
 /// changes.
-pub fn enter(
-    encoder: &mut MetricEncoder,
-    alloc: Global,
-    constants: &[(String, String)],
-) -> Result<(), AllocError>
+pub fn enter(encoder: &mut MetricEncoder, constants: &[(String, String)]) -> Result<(), AllocError>
     requires labels { AreLabels (labels_of constants.now) }
     ensures entered { OnOk result (encoder.new ≡ record encoder.old {
       context = record {
@@ -71,7 +68,7 @@ pub fn enter(
     ensures kept { OnErr result (encoder.new ≡ encoder.old) }
 {
     let metric_type = encoder.points.metric_type();
-    encoder.constants.enter(alloc, metric_type, constants)
+    encoder.constants.enter(metric_type, constants)
 }
 
 /// Goes on to the family with this printed name and this head, in the current registry, and appends the lines that come before
@@ -152,24 +149,29 @@ pub fn take_samples(encoder: &mut MetricEncoder) -> Result<SampleStore, AllocErr
     encoder.points.take_samples()
 }
 
-impl MetricEncoder {
-    // The encoder of points, which has the sink.
-    fn into_points(self) -> PointEncoder
-        ensures { result.output ≡ self.output }
-    {
-        let MetricEncoder {
-            constants: _,
-            points,
-        } = self;
-        points
-    }
+/// Begins another document, in the memory of the one before, which may have been refused: the encoder appends lines to a text, and has
+/// none again.
+pub fn begin_document(encoder: &mut MetricEncoder)
+    ensures output { encoder.new.output ≡ OutputText [] }
+    ensures accepting { encoder.new.refused ≡ None }
+{
+    encoder.points.begin_text();
 }
 
-/// The sink.
-pub fn into_sink(encoder: MetricEncoder) -> Sink
-    ensures { result.output ≡ encoder.output }
+/// Appends the last line of a document, unless the encoder keeps samples. Fails if memory runs out.
+pub fn end_document(encoder: &mut MetricEncoder) -> Result<(), AllocError>
+    ensures { OnOk result (encoder.new ≡ record encoder.old {
+      output = with_lines encoder.old.output (codes "# EOF\n");
+    }) }
 {
-    encoder.into_points().into_sink()
+    encoder.points.end_text(b"# EOF\n")
+}
+
+/// The text so far, or `None` if the encoder keeps samples.
+pub fn lines(encoder: &MetricEncoder) -> Option<&TextBlocks>
+    ensures { option_copied result ≡ text_in encoder.now.output }
+{
+    encoder.points.lines()
 }
 
 /// The type that a boxed metric declares.

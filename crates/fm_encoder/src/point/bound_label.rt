@@ -1,5 +1,5 @@
 // The labels of buckets, kept from one histogram to the next.
-ghost use Rattle.std.specs.Prelude.{◌≡◌, [], ◌∷◌, IfOk, IsTrue};
+ghost use Rattle.std.specs.Prelude.{◌≡◌, [], ◌∷◌, None, Some, IfOk, OnOk, IfSome, IsTrue};
 ghost use Rattle.fm_encoder.specs.Points.{bound_label};
 
 use fm_raw::bucket::{BUCKET_LABEL, Bound, Bucket};
@@ -8,9 +8,9 @@ use fm_text::LabelText;
 use std::alloc::{AllocError, Global};
 use std::marker::Model;
 
-// A bucket's bound, and its label. Contracts see it as the bound.
+// A bucket's bound, if there is one, and its label. Contracts see it as the bound.
 pub(crate) struct BoundLabel {
-    bound: Bound,
+    bound: Option<Bound>,
     text: LabelText,
 }
 
@@ -21,53 +21,65 @@ impl Drop for BoundLabel {
 }
 
 impl Model for BoundLabel {
-    ghost use Rattle.std.specs.Prelude.{◌≡◌, [], ◌∷◌};
+    ghost use Rattle.std.specs.Prelude.{◌≡◌, [], ◌∷◌, Option, IfSome};
     ghost use Rattle.fm_raw.specs.declared.bucket.bound.Bound.{Bound};
     ghost use Rattle.fm_encoder.specs.Points.{bound_label};
 
-    ghost Value = { Bound };
+    ghost Value = { Option Bound };
 
     ghost view = { λ l. l.bound };
 
-    ghost invariant = { λ l. l.text.labels ≡ bound_label l.bound ∷ [] };
+    ghost invariant = { λ l. IfSome l.bound (λ b. l.text.labels ≡ bound_label b ∷ []) };
 }
 
-// The text of a bound's label.
-fn label_text(alloc: Global, bound: Bound) -> Result<LabelText, AllocError>
-    ensures { IfOk result (λ text. text.labels ≡ bound_label bound ∷ []) }
+// Replaces a text by the label of a bound. Fails if memory runs out.
+fn render_label(text: &mut LabelText, bound: Bound) -> Result<(), AllocError>
+    ensures { OnOk result (text.new.labels ≡ bound_label bound ∷ []) }
 {
     let mut buffer = FixedBuffer::new();
-    let mut text = LabelText::new(alloc);
-    text.push(BUCKET_LABEL, bound.format(&mut buffer))?;
-    Ok(text)
+    text.clear();
+    text.push(BUCKET_LABEL, bound.format(&mut buffer))
 }
 
 impl BoundLabel {
-    fn new(alloc: Global, bucket: &Bucket) -> Result<BoundLabel, AllocError>
-        ensures { IfOk result (λ label. label ≡ bucket.now.upper_bound) }
+    // No label of a bound yet. It takes no memory.
+    fn new(alloc: Global) -> BoundLabel
+        ensures { result ≡ None }
     {
-        let text = label_text(alloc, bucket.upper_bound())?;
-        Ok(BoundLabel {
-            bound: bucket.upper_bound(),
-            text,
-        })
+        BoundLabel {
+            bound: None,
+            text: LabelText::new(alloc),
+        }
+    }
+
+    // Takes the bound of a bucket, and writes its label over the one before. Fails if memory runs out.
+    fn set(&mut self, bucket: &Bucket) -> Result<(), AllocError>
+        ensures { OnOk result (self.new ≡ Some bucket.now.upper_bound) }
+    {
+        self.bound = None;
+        render_label(&mut self.text, bucket.upper_bound())?;
+        self.bound = Some(bucket.upper_bound());
+        Ok(())
     }
 
     fn is_of(&self, bucket: &Bucket) -> bool
-        ensures { IsTrue result → self.now ≡ bucket.now.upper_bound }
+        ensures { IsTrue result → self.now ≡ Some bucket.now.upper_bound }
     {
-        self.bound == bucket.upper_bound()
+        match self.bound {
+            Some(bound) => bound == bucket.upper_bound(),
+            None => false,
+        }
     }
 
     fn text(&self) -> &LabelText
-        ensures { result.now.labels ≡ bound_label self.now ∷ [] }
+        ensures { IfSome self.now (λ bound. result.now.labels ≡ bound_label bound ∷ []) }
     {
         &self.text
     }
 }
 
-// The label of a point's bucket at this index. If the label that is kept there has another bound, a new one
-// takes its place, and those after it are dropped. Fails if memory runs out.
+// The label of a point's bucket at this index. If the label that is kept there has another bound, the new one is written over it. Fails if
+// memory runs out.
 pub(crate) fn label_of_bucket<'a>(
     alloc: Global,
     labels: &'a mut Vec<BoundLabel>,
@@ -80,8 +92,9 @@ pub(crate) fn label_of_bucket<'a>(
     if at < labels.len() && labels[at].is_of(bucket) {
         return Ok(labels[at].text());
     }
-    let label = BoundLabel::new(alloc, bucket)?;
-    labels.truncate(at);
-    labels.push(label)?;
+    if at == labels.len() {
+        labels.push(BoundLabel::new(alloc))?;
+    }
+    labels[at].set(bucket)?;
     Ok(labels[at].text())
 }

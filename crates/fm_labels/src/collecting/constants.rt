@@ -17,6 +17,7 @@ use fm_raw::EncodeError;
 use fm_text::LabelText;
 use std::alloc::{AllocError, Global};
 use std::marker::Model;
+use std::mem;
 
 // Adds the labels that a label set emits, after those that the encoder has. Kept labels are copied, unless one of them has the name of a
 // label that the encoder has.
@@ -42,9 +43,22 @@ fn add_labels<LS: EncodeLabelSet>(
     gather_labels(encoder, labels)
 }
 
+// Replaces labels by copies of these. Fails if memory runs out.
+fn replace(text: &mut LabelText, labels: &[(String, String)]) -> Result<(), AllocError>
+    ensures { OnOk result (text.new.labels ≡ labels_of labels.now) }
+{
+    text.clear();
+    for label in labels {
+        text.push(label.0.as_str(), label.1.as_str())?;
+    }
+    Ok(())
+}
+
 /// The constant labels of a registry, tested for the type of its current family.
 pub struct ConstantLabels {
     labels: LabelText,
+    // Takes the labels of the next registry, and is then swapped with those before.
+    next: LabelText,
     // Whether one of them has the name that the family's type reserves.
     has_reserved: bool,
 }
@@ -53,6 +67,7 @@ impl Drop for ConstantLabels {
     fn drop(self) {
         let ConstantLabels {
             labels: _,
+            next: _,
             has_reserved: _,
         } = self;
     }
@@ -76,6 +91,7 @@ impl ConstantLabels {
     {
         ConstantLabels {
             labels: LabelText::new(alloc),
+            next: LabelText::new(alloc),
             has_reserved: false,
         }
     }
@@ -84,7 +100,6 @@ impl ConstantLabels {
     /// out, and then changes nothing.
     pub fn enter(
         &mut self,
-        alloc: Global,
         metric_type: MetricType,
         labels: &[(String, String)],
     ) -> Result<(), AllocError>
@@ -97,12 +112,12 @@ impl ConstantLabels {
         if self.labels.are(labels) {
             return Ok(());
         }
-        let labels = LabelText::of(alloc, labels)?;
-        let has_reserved = has_reserved(metric_type, &labels);
-        *self = ConstantLabels {
-            labels,
-            has_reserved,
-        };
+        replace(&mut self.next, labels)?;
+        let has_reserved = has_reserved(metric_type, &self.next);
+        mem::swap(&mut self.labels, &mut self.next);
+        self.has_reserved = has_reserved;
+        // Any of the two takes these labels in the next document, and has room for them then.
+        let _ = self.next.assign(&self.labels);
         Ok(())
     }
 

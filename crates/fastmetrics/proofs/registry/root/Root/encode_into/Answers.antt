@@ -2,7 +2,7 @@ use Rattle.std.proofs.Common.{◌⊎◌, inl, inr, subst}
 use Rattle.std.proofs.lemmas.Result.{IfErr-weaker}
 use Rattle.fm_registry_rules.specs.Tree.{Tree}
 use Rattle.fastmetrics.specs.Fits.{HasOwnFault}
-use Rattle.fastmetrics.proofs.registry.root.Root.encode.Goals as goal
+use Rattle.fastmetrics.proofs.registry.root.Root.encode_into.Goals as goal
 
 pub returns-clause-refused : goal.returns-clause-refused
 returns-clause-refused g c =
