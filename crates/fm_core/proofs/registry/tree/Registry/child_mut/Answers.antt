@@ -20,6 +20,6 @@ returns g c =
       (
         index.found ∙ c.subsystem_at.ensures.value,
         let both : Some (string_bytes c.subsystem_at.result.now.name) ≡ Some c.args.name.now = sym c.subsystem_at.ensures.name ∙ index.name in
-        some_same _ _ both,
+            some_same _ _ both,
       ),
     )

@@ -10,5 +10,5 @@ returns-in-None-clause-some g c =
       within,
       c.index-path-index.is,
       missing_here c.loop-index.here.now c.args.path.now c.loop-index.index c.index-path-index.result c.as_str.result.now within c.index-path-index.is c.as_str.ensures.value
-      (sym c.child.ensures ∙ ap option_copied c.in-None.is) _ c.loop-index.invariant,
+          (sym c.child.ensures ∙ ap option_copied c.in-None.is) _ c.loop-index.invariant,
     )
