@@ -116,8 +116,6 @@ impl ConstantLabels {
         let has_reserved = has_reserved(metric_type, &self.next);
         mem::swap(&mut self.labels, &mut self.next);
         self.has_reserved = has_reserved;
-        // Any of the two takes these labels in the next document, and has room for them then.
-        let _ = self.next.assign(&self.labels);
         Ok(())
     }
 
