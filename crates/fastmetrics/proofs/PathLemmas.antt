@@ -11,7 +11,7 @@ use Rattle.fm_registry_rules.specs.Answer.{Refusal, Memory, refusal_of, seen_err
 use Rattle.fm_registry_rules.specs.Tree.{Tree, Reads}
 use Rattle.fm_registry_rules.specs.declared.error.RegistryError.{RegistryError}
 use Rattle.fm_core.specs.Calls.{RunsCall, IsCall, seen_path}
-use Rattle.fm_core.specs.declared.registry.tree.run.RegistryCall.{RegistryCall}
+use Rattle.fm_core.specs.declared.registry.tree.registry_call.RegistryCall.{RegistryCall}
 use Rattle.fm_core.specs.Named.{named_metric}
 use Rattle.fastmetrics.specs.Paths.{Below, Replied, RegistersBelow, shown_path}
 use Rattle.fastmetrics.specs.inside.Requests.{Registering, Asking}

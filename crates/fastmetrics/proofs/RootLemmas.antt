@@ -14,7 +14,7 @@ use Rattle.fm_registry_rules.specs.Tree.{Tree, Reads}
 use Rattle.fm_registry_rules.specs.declared.error.RegistryError.{RegistryError}
 use Rattle.fm_core.specs.Calls.{seen_path, RunsCall}
 use Rattle.fm_core.specs.HasHistory.{Grows}
-use Rattle.fm_core.specs.declared.registry.tree.run.RegistryCall.{RegistryCall}
+use Rattle.fm_core.specs.declared.registry.tree.registry_call.RegistryCall.{RegistryCall}
 use Rattle.fm_core.specs.Named.{named_metric}
 use Rattle.fm_core.specs.View.{asked_metric}
 use Rattle.fm_core.proofs.GrowthLemmas.{Grows-returned}

@@ -19,7 +19,7 @@ use Rattle.fm_core.specs.HasHistory.{HasHistory, Grows}
 use Rattle.fm_core.specs.inside.Missing.{missing_below, missing_in}
 use Rattle.fm_core.specs.Calls.{IsCall, AreCalls, RunsCall, RunsCalls, seen_path}
 use Rattle.fm_core.proofs.GrowthLemmas.{Grows-run}
-use Rattle.fm_core.specs.declared.registry.tree.run.RegistryCall.{RegistryCall}
+use Rattle.fm_core.specs.declared.registry.tree.registry_call.RegistryCall.{RegistryCall}
 
 not_none : (name : Text) → Some name ≡ None → ⊥
 not_none name e = cc

@@ -12,7 +12,7 @@ use Rattle.fm_registry_rules.specs.Tree.{Tree, Reads}
 use Rattle.fm_registry_rules.specs.Running.{Runs, IsReply}
 use Rattle.fm_registry_rules.specs.declared.error.RegistryError.{RegistryError}
 use Rattle.fm_core.specs.View.{asked_metric}
-use Rattle.fm_core.specs.declared.registry.tree.run.RegistryCall as given
+use Rattle.fm_core.specs.declared.registry.tree.registry_call.RegistryCall as given
 
 -- the names of a path
 abbrev pub seen_path : List (String Global) → Path

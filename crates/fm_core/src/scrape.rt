@@ -2,11 +2,11 @@
 
 pub(crate) mod buffer;
 pub(crate) mod collect;
-mod collector;
 pub(crate) mod encode;
 mod family;
 mod family_fault;
 mod gather;
+mod metric_family_encoder;
 mod name;
 
 pub use collector::MetricFamilyEncoder;

@@ -20,7 +20,7 @@ ghost use Rattle.fm_encoder.specs.Emits.{EmitsExemplars};
 ghost use Rattle.fm_encoder.specs.Takes.{TakesExemplars};
 
 use crate::time::whole_millis;
-use fm_exposition::code_points::are_short;
+use fm_exposition::exemplar_limit::are_short;
 use fm_exposition::{Exemplar, make};
 use fm_grammar::MetricType;
 use fm_labels::collecting::first_refusal::FirstRefusal;

@@ -1,8 +1,8 @@
 //! Expositions and their parts, when two are equal, and the writing of a text.
 #![tactic(auto)]
 
-pub mod code_points;
 mod equality;
+pub mod exemplar_limit;
 pub mod exposition;
 mod finding;
 pub mod make;

@@ -1,14 +1,10 @@
--- One more request, and paths with names in reverse order.
-use Rattle.std.proofs.Common.{◌≡◌, List, [], ◌∷◌, ◌++◌, map, Option, Result, Ok, Err, OnOk, OnErr, refl, sym, ap, subst, append-nil, length, arith, ◌∙◌, String, Global}
-use Rattle.std.specs.String.{string_bytes}
-use Rattle.fm_registry_rules.specs.Texts.{Path}
+-- One more request.
+use Rattle.std.proofs.Common.{◌≡◌, List, [], ◌∷◌, ◌++◌, Option, Result, Ok, Err, OnOk, OnErr, sym, ap, subst, length, arith}
 use Rattle.fm_registry_rules.specs.History.{History, Call}
 use Rattle.fm_registry_rules.specs.Tree.{Tree, Reads}
 use Rattle.fm_registry_rules.specs.Answer.{Refusal, after, refusal_of}
 use Rattle.fm_registry_rules.specs.Running.{Runs, IsReply, after_reply}
-use Rattle.fm_registry_rules.specs.inside.Paths.{path_onto, path_of}
-use Rattle.std.specs.Prelude.{reverse}
-use Rattle.std.proofs.lemmas.List.{reverse-append, length_push}
+use Rattle.std.proofs.lemmas.List.{length_push}
 use Rattle.fm_registry_rules.specs.declared.error.RegistryError.{RegistryError}
 
 module _ {M : Type 0} where
@@ -26,22 +22,6 @@ module _ {M : Type 0} where
   Runs-more b [] (q ∷ replies) call r t u said reads same h = absurd h
   Runs-more b (c ∷ calls) [] call r t u said reads same h = absurd h
   Runs-more b (c ∷ calls) (q ∷ replies) call r t u said reads same h = (h.0, Runs-more (after_reply q b c) calls replies call r t u said reads same h.1)
-
--- a name more is the first of the path
-pub path_onto-++ : (names : List (String Global)) (name : String Global) (p : Path) → path_onto (names ++ name ∷ []) p ≡ string_bytes name ∷ path_onto names p
-path_onto-++ [] name p = refl
-path_onto-++ (x ∷ names) name p = path_onto-++ names name (string_bytes x ∷ p)
-
--- the path of names in reverse
-pub path_onto-reversed : (names : List (String Global)) (p : Path) → path_onto (reverse names) p ≡ map string_bytes names ++ p
-path_onto-reversed [] p = refl
-path_onto-reversed (name ∷ names) p = ap (λ ns. path_onto ns p) (reverse-append (name ∷ []) names) ∙ path_onto-++ (reverse names) name p ∙ ap (λ q. string_bytes name ∷ q) (path_onto-reversed names p)
-
-pub path_of-reversed : (names : List (String Global)) → path_of (reverse names) ≡ map string_bytes names
-path_of-reversed names = path_onto-reversed names [] ∙ append-nil (map string_bytes names)
-
-pub path_of-++ : (names : List (String Global)) (name : String Global) → path_of (names ++ name ∷ []) ≡ string_bytes name ∷ path_of names
-path_of-++ names name = path_onto-++ names name []
 
 -- one reply more for one call more
 pub same_length-push : {A B : Type 0} (news olds : List A) (r : A) (done : List B) (x : B) → news ≡ olds ++ r ∷ [] → length olds ≡ length done → length news ≡ length (done ++ x ∷ [])

@@ -2,9 +2,9 @@
 //! the tests of names and labels.
 #![tactic(auto)]
 
+pub mod constant_labels;
 mod error;
 pub mod label_names;
-pub mod labels;
 pub mod lists;
 pub mod names;
 pub mod namespace;

@@ -34,17 +34,6 @@ fn copied_labels(alloc: Global, labels: &[(&str, &str)]) -> Result<LabelText, Al
 }
 
 impl LabelText {
-    /// Copies of these labels. Fails if memory runs out.
-    pub fn of(alloc: Global, labels: &[(String, String)]) -> Result<LabelText, AllocError>
-        ensures { IfOk result (λ text. text.labels ≡ labels_of labels.now) }
-    {
-        let mut text = LabelText::new(alloc);
-        for label in labels {
-            text.push(label.0.as_str(), label.1.as_str())?;
-        }
-        Ok(text)
-    }
-
     /// Adds a label. Fails if memory runs out.
     pub fn push(&mut self, name: &str, value: &str) -> Result<(), AllocError>
         ensures { OnOk result (self.new ≡ record {

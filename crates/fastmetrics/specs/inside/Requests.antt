@@ -6,7 +6,7 @@ use Rattle.fm_grammar.specs.LabelPairs.{labels_of}
 use Rattle.fm_raw.specs.declared.metadata.Unit as unit
 use Rattle.fm_registry_rules.specs.Texts.{Text, Path, Labels}
 use Rattle.fm_core.specs.Calls.{seen_path}
-use Rattle.fm_core.specs.declared.registry.tree.run.RegistryCall as given
+use Rattle.fm_core.specs.declared.registry.tree.registry_call.RegistryCall as given
 
 module _ {M : Type 0} where
   -- the call registers the metric at this path, by this name and this help

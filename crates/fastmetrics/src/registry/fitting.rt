@@ -245,8 +245,8 @@ impl Place<'_> {
     }
 }
 
-/// A law, which does nothing: a metric of the library declares the type that it has. A fault of metrics that fit their registries is that of a metric of the
-/// program's own.
+/// A law, which does nothing: a metric of the library declares the type that it has. A fault of metrics that fit their registries is
+/// that of a metric of the program's own.
 pub(crate) fn only_own_faults<H: Waiter, X: EncodeMetric>()
     ensures types { (m : _) (t : MetricType) → ⟦<Metric<H, X> as EncodeMetric>⟧.types m t
         → HasType m t }

@@ -2,7 +2,7 @@
 
 mod builder;
 mod register;
-mod run;
+mod registry_call;
 mod subsystem_builder;
 mod subsystems;
 
@@ -11,11 +11,11 @@ use crate::registry::listing::metric_in;
 pub use builder::RegistryBuilder;
 use fm_encoder::EncodeMetric;
 use fm_registry_rules::RegistryError;
-use fm_registry_rules::labels::labels_of_option;
+use fm_registry_rules::constant_labels::labels_of_option;
 use fm_registry_rules::names::Tailed;
 use indexmap::IndexMap;
 pub use register::register_at;
-pub use run::RegistryCall;
+pub use registry_call::RegistryCall;
 use std::alloc::{AllocError, Global};
 use std::fmt::{self, Debug, Formatter};
 use std::marker::Model;

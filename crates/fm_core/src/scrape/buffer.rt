@@ -13,8 +13,8 @@ ghost use Rattle.fm_core.specs.Admits.{AdmittedBy, HasFault};
 ghost use Rattle.fm_core.specs.Encoded.{IsAdmittedText, Writes, BeginsToWrite};
 
 use crate::registry::Registry;
-use crate::scrape::collector::{MetricFamilyEncoder, Parts};
 use crate::scrape::gather::gather;
+use crate::scrape::metric_family_encoder::{MetricFamilyEncoder, Parts};
 use fm_encoder::EncodeMetric;
 use fm_raw::EncodeError;
 use fm_writer::TextBlocks;

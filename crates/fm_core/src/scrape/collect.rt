@@ -8,8 +8,8 @@ ghost use Rattle.fm_core.specs.HasHistory.{HasHistory};
 ghost use Rattle.fm_core.specs.Admits.{AdmittedBy, HasFault};
 
 use crate::registry::Registry;
-use crate::scrape::collector::MetricFamilyEncoder;
 use crate::scrape::gather::gather;
+use crate::scrape::metric_family_encoder::MetricFamilyEncoder;
 use fm_encoder::EncodeMetric;
 use fm_exposition::Exposition;
 use fm_raw::EncodeError;

@@ -8,8 +8,8 @@ ghost use Rattle.fm_core.specs.HasHistory.{HasHistory};
 ghost use Rattle.fm_core.specs.Admits.{AdmittedBy, HasFaultNamed};
 
 use crate::registry::{ListedMetric, Registry};
-use crate::scrape::collector::MetricFamilyEncoder;
 use crate::scrape::gather::gather;
+use crate::scrape::metric_family_encoder::MetricFamilyEncoder;
 use crate::scrape::name::print_name;
 use fm_encoder::EncodeMetric;
 use fm_raw::EncodeError;

@@ -11,7 +11,7 @@ ghost use Rattle.fm_core.specs.inside.Collected.{collected, with_families, Adds}
 ghost use Rattle.fm_core.specs.inside.Stops.{StopsAt};
 
 use crate::registry::{ListedMetric, Registry};
-use crate::scrape::collector::MetricFamilyEncoder;
+use crate::scrape::metric_family_encoder::MetricFamilyEncoder;
 use fm_encoder::EncodeMetric;
 use fm_raw::EncodeError;
 

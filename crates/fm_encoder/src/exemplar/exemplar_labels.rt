@@ -8,7 +8,7 @@ ghost use Rattle.fm_encoder.specs.Points.{ExemplarPartsValid};
 ghost use Rattle.fm_labels.specs.Refusals.{OwnRefusal};
 
 use crate::exemplar::written_labels;
-use fm_exposition::code_points::are_short;
+use fm_exposition::exemplar_limit::are_short;
 use fm_labels::label::LabelSetEncoder;
 use fm_labels::label_set::{EncodeLabelSet, encode_written};
 use fm_raw::EncodeError;

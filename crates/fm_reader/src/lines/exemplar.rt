@@ -8,7 +8,7 @@ ghost use Rattle.fm_reader.specs.inside.Parts.{tail_text, FoundSmall, FoundBody,
 use crate::lines::labels::read_braces;
 use crate::lines::values::{read_time, split_token};
 use crate::parts::number::read_fixed;
-use fm_exposition::code_points::are_short;
+use fm_exposition::exemplar_limit::are_short;
 use fm_exposition::{Exemplar, make};
 use fm_grammar::{LabelList, SampleKind};
 use fm_raw::Fixed;

@@ -11,7 +11,7 @@ ghost use Rattle.fm_core.specs.HasHistory.{IsNewRoot};
 use super::{Facts, Registry};
 use fm_raw::is_snake_case;
 use fm_registry_rules::RegistryError;
-use fm_registry_rules::labels::tested_root_labels;
+use fm_registry_rules::constant_labels::tested_root_labels;
 
 /// Sets up a root. The namespace and the labels are both optional.
 ///

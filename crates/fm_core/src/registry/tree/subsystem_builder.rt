@@ -17,7 +17,7 @@ use super::{Registry, Subsystem};
 use fm_encoder::EncodeMetric;
 use fm_raw::is_snake_case;
 use fm_registry_rules::RegistryError;
-use fm_registry_rules::labels::tested_labels;
+use fm_registry_rules::constant_labels::tested_labels;
 
 /// Sets up a subsystem of a registry. It borrows the registry until the subsystem is built.
 ///

@@ -23,7 +23,7 @@ ghost use Rattle.fm_core.specs.HasHistory.{HasHistory};
 use super::{Facts, Registry, Subsystem};
 use fm_raw::is_snake_case;
 use fm_registry_rules::RegistryError;
-use fm_registry_rules::labels::{merged_labels, tested_labels};
+use fm_registry_rules::constant_labels::{merged_labels, tested_labels};
 use fm_registry_rules::lists::{element_mut, push_to};
 use fm_registry_rules::names::is_below;
 use fm_registry_rules::namespace::subsystem_namespace;
