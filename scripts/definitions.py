@@ -19,7 +19,10 @@ MOST = {"encode": 740, "registering": 340, "declared": 600}
 
 # The sources of the calls that register, with the names of those that do where others stand beside them.
 REGISTERING = {
-    **{f"crates/fm_core/src/registry/tree/{it}.rt": r"\w+" for it in ("register", "run", "subsystems", "subsystem_builder")},
+    **{
+        f"crates/fm_core/src/registry/tree/{it}.rt": r"\w+"
+        for it in ("register", "registry_call", "subsystems", "subsystem_builder")
+    },
     "crates/fastmetrics/src/registry/root.rt": "(new|built)",
     "crates/fastmetrics/src/registry/root/subsystems.rt": "(leave|namespace|enter)",
     "crates/fastmetrics/src/registry/root/registering.rt": "register",
