@@ -9,6 +9,6 @@ mod gather;
 mod metric_family_encoder;
 mod name;
 
-pub use collector::MetricFamilyEncoder;
 pub use family_fault::{FamilyFault, fault};
+pub use metric_family_encoder::MetricFamilyEncoder;
 pub(crate) use name::{print_name, text_of};
