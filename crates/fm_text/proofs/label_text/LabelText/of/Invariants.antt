@@ -1,6 +1,0 @@
-use Rattle.std.proofs.Common.{◌≡◌, take}
-use Rattle.fm_grammar.specs.LabelPairs.{labels_of}
-use Rattle.fm_text.proofs.label_text.LabelText.of.Given as goal
-
-abbrev pub invariant-loop-label : goal.invariant-loop-label
-invariant-loop-label l = l.text.labels ≡ labels_of (take l.label-index l.labels)
