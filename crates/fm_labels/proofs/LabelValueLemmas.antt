@@ -9,7 +9,7 @@ use Rattle.std.specs.Str.{IsUtf8, bytes_eq}
 use Rattle.std.specs.Cmp.Lexicographic.{bytes_decides}
 use Rattle.fm_grammar.specs.Exposition.{Text}
 use Rattle.fm_labels.specs.LabelValues.{shown_texts, ended, joined, values_after, values_in}
-use Rattle.fm_labels.specs.inside.JoinedValues.{AreJoined}
+use Rattle.fm_labels.specs.inside.JoinedValues.{AreJoined, IsOnlyValue}
 use lib.Utf8.{encode, encodes, scalar, scalars, next, scalar_cases}
 use Rattle.std.specs.Cmp.{first_so, second_so}
 use mathlib.Core.Logic.{⊎_elim}
@@ -193,3 +193,16 @@ same_bytes x y h = (bytes_decides x y).0 (by (bytes_eq x y) h)
 
 pub other_bytes : (x y : Text) → true ≡ not (bytes_eq x y) → x ≡ y → ⊥
 other_bytes x y h same = true≢false (h ∙ ap not ((bytes_decides x y).1 same))
+
+-- what is left of joined values after the first of them
+pub joined_rest : (bytes value rest : Text) → bytes ≡ ended value ++ rest → values_in bytes ≡ value ∷ values_in rest → joined (values_in bytes) ≡ bytes → joined (values_in rest) ≡ rest
+joined_rest bytes value rest is next all = append_cancel_left (ended value) (joined (values_in rest)) rest (sym (ap joined next) ∙ all ∙ is)
+
+only_of : (left : List Text) (bytes : Text) → length left ≡ 1 → values_in bytes ≡ left → joined (values_in bytes) ≡ bytes → IsOnlyValue bytes
+only_of [] bytes one rest all = absurd (omega (arith, one))
+only_of (value ∷ []) bytes one rest all = record { value = value; only = rest; is = sym all ∙ ap joined rest ∙ append-nil (ended value) }
+only_of (value ∷ other ∷ more) bytes one rest all = absurd (omega (arith, one))
+
+-- the last of the values is the only one that is left
+pub only_value : (values : List Text) (bytes : Text) (i : ℕ) → i + 1 ≡ length values → values_in bytes ≡ drop i values → joined (values_in bytes) ≡ bytes → IsOnlyValue bytes
+only_value values bytes i last rest all = only_of (drop i values) bytes (let l : length (drop i values) ≡ length values - i = length-drop i values in omega arith) rest all

@@ -7,7 +7,7 @@ ghost use Rattle.std.specs.Cmp.{on_equiv, partial_equiv_from_equiv};
 ghost use Rattle.std.specs.Cmp.Lexicographic.{nat_list_eq_equiv};
 ghost use Rattle.fm_grammar.specs.Exposition.{Text};
 ghost use Rattle.fm_labels.specs.LabelValues.{shown_texts, ended, joined, values_eq, values_in, writes_of, rounded};
-ghost use Rattle.fm_labels.specs.inside.JoinedValues.{IsBlock};
+ghost use Rattle.fm_labels.specs.inside.JoinedValues.{IsBlock, IsOnlyValue};
 
 mod hashing;
 mod short;
@@ -56,6 +56,20 @@ pub fn split_value(bytes: &[u8]) -> Option<(&[u8], &[u8])>
         }
     }
     None
+}
+
+/// The same, for which the last value needs no search: its end is that of the bytes.
+#[inline(always)]
+pub fn next_value(bytes: &[u8], is_last: bool) -> Option<(&[u8], &[u8])>
+    requires { IsTrue is_last → IsOnlyValue bytes.now }
+    ensures { MatchOption result (values_in bytes.now ≡ [])
+        (λ p. (bytes.now ≡ ended p.0.now ++ p.1.now) × (values_in bytes.now ≡ p.0.now ∷ values_in p.1.now)) }
+{
+    if is_last {
+        let end = bytes.len() - 1;
+        return Some((&bytes[..end], &bytes[end + 1..]));
+    }
+    split_value(bytes)
 }
 
 // The text of a value.

@@ -78,7 +78,7 @@ pub labels_whole : (text : Text) (spans : List LabelSpan) (name value : Option P
 labels_whole text spans name value = map-append (label_in text) spans (whole_span name value) ∙ ap (λ (ls : List Label). labels_in text spans ++ ls) (whole_in text name value)
 
 -- a part in the middle of what is appended
-between_pieces : (a b c d : Text) → between (length a + length b) (length a + length b + length c) (a ++ (b ++ (c ++ d))) ≡ c
+pub between_pieces : (a b c d : Text) → between (length a + length b) (length a + length b + length c) (a ++ (b ++ (c ++ d))) ≡ c
 between_pieces a b c d =
     between_is (a ++ (b ++ (c ++ d))) _ _
     ∙ ap (λ (t : Text). drop (length a + length b) (take (length a + length b + length c) t)) (sym (append_assoc a b (c ++ d)) ∙ sym (append_assoc (a ++ b) c d))

@@ -1,6 +1,7 @@
 // A text that grows.
 ghost use Rattle.std.specs.Prelude.{◌≡◌, ◌+◌, ◌≤◌, ◌++◌, [], length, take, codes, IfOk, OnOk, OnErr};
 ghost use Rattle.fm_text.specs.inside.Grown.{Grown};
+ghost use Rattle.fm_text.specs.inside.LabelTexts.{name_in_list};
 
 use crate::output::Output;
 use fm_grammar::write_at;
@@ -130,6 +131,38 @@ impl GrowingText {
         }
         self.bytes[self.end..end].copy_from_slice(bytes);
         self.end = end;
+        Ok(())
+    }
+
+    // Appends the name and the value of a label, after the quote that ends the label before and a comma, if there is one. It takes room
+    // once. Fails if memory runs out, and then changes nothing.
+    #[inline(always)]
+    pub(crate) fn put_label(
+        &mut self,
+        is_first: bool,
+        name: &[u8],
+        value: &[u8],
+    ) -> Result<(), AllocError>
+        ensures grown { OnOk result
+            (Grown self.old self.new (name_in_list is_first name.now ++ value.now)) }
+        ensures kept { OnErr result (self.new ≡ self.old) }
+    {
+        let end = self
+            .end
+            .saturating_add(name.len())
+            .saturating_add(value.len())
+            .saturating_add(4);
+        if end > self.bytes.len() {
+            lengthen(&mut self.bytes, end)?;
+        }
+        let at = if is_first {
+            self.end
+        } else {
+            write_at(&mut self.bytes, self.end, b"\",")
+        };
+        let at = write_at(&mut self.bytes, at, name);
+        let at = write_at(&mut self.bytes, at, b"=\"");
+        self.end = write_at(&mut self.bytes, at, value);
         Ok(())
     }
 

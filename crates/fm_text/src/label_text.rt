@@ -5,7 +5,7 @@ ghost use Rattle.std.specs.Str.{IsUtf8};
 ghost use Rattle.fm_grammar.specs.Spelling.{label_list_text, escaped};
 ghost use Rattle.fm_grammar.specs.LabelPairs.{labels_of, shown_label};
 ghost use Rattle.fm_text.specs.inside.Grown.{Grown};
-ghost use Rattle.fm_text.specs.inside.LabelTexts.{part_in, labels_in, IsPart, AreSpans, name_in_list, further_list, whole_label, whole_span};
+ghost use Rattle.fm_text.specs.inside.LabelTexts.{part_in, labels_in, IsPart, AreSpans, IsLabelAdded, name_in_list, further_list, whole_label, whole_span};
 
 use crate::growing::GrowingText;
 use crate::labels::{LabelSource, append_labels_at};
@@ -53,6 +53,32 @@ fn append_name(text: &mut GrowingText, is_first: bool, name: &str) -> Result<Par
     Ok(Part {
         start: end - name.as_bytes().len(),
         end,
+    })
+}
+
+// Appends the name and the value of a label like this at once, and returns where they are.
+#[inline(always)]
+fn append_label(
+    text: &mut GrowingText,
+    is_first: bool,
+    name: &str,
+    value: &[u8],
+) -> Result<LabelSpan, AllocError>
+    requires { IsUtf8 value.now }
+    ensures appended { IfOk result (IsLabelAdded is_first name.now value.now text.old text.new) }
+    ensures kept { OnErr result (text.new ≡ text.old) }
+{
+    let name = name.as_bytes();
+    text.put_label(is_first, name, value)?;
+    let end = text.as_slice().len();
+    let start = end - value.len();
+    let name_end = start - 2;
+    Ok(LabelSpan {
+        name: Part {
+            start: name_end - name.len(),
+            end: name_end,
+        },
+        value: Part { start, end },
     })
 }
 
@@ -336,9 +362,9 @@ impl LabelText {
         self.is_listed = false;
         self.name = None;
         self.value = None;
-        let name = append_name(&mut self.text, self.spans.as_slice().is_empty(), name)?;
-        let value = append_part(&mut self.text, value)?;
-        self.spans.push(LabelSpan { name, value })?;
+        let is_first = self.spans.as_slice().is_empty();
+        let span = append_label(&mut self.text, is_first, name, value)?;
+        self.spans.push(span)?;
         self.is_listed = is_listed;
         Ok(())
     }

@@ -11,7 +11,7 @@ ghost use Rattle.fm_labels.specs.Refusals.{NoFault, result_of};
 
 use crate::keep;
 use crate::label::{LabelEncoder, LabelSetEncoder};
-use crate::label_values::{LabelValues, split_value};
+use crate::label_values::{LabelValues, next_value};
 use crate::names::is_reserved;
 use fm_raw::EncodeError;
 use fm_registry_rules::label_names::LabelNames;
@@ -24,14 +24,15 @@ fn add_named(
     names: &[String],
     values: &LabelValues,
 ) -> Result<(), AllocError>
-    requires { (labels.old.name ≡ None) × (labels.old.value ≡ None) }
+    requires idle { (labels.old.name ≡ None) × (labels.old.value ≡ None) }
+    requires count { length values.now ≡ length names.now }
     ensures idle { (labels.new.name ≡ None) × (labels.new.value ≡ None) }
     ensures added { OnOk result
         (labels.new.labels ≡ labels.old.labels ++ labels_with (map string_bytes names.now) values.now) }
 {
     let mut rest = values.as_bytes();
-    for name in names {
-        let Some((value, after)) = split_value(rest) else {
+    for (i, name) in names.iter().enumerate() {
+        let Some((value, after)) = next_value(rest, i + 1 == names.len()) else {
             return Ok(());
         };
         labels.add(name.as_str(), value)?;
@@ -61,6 +62,7 @@ impl LabelEncoder {
     // Takes labels with these names, in order, and as many values, where the current label has no piece.
     fn take_named(&mut self, names: &LabelNames, values: &LabelValues) -> Result<(), EncodeError>
         requires idle { self.old.refused ≡ None → self.old.pieces ≡ [] }
+        requires count { length values.now ≡ length names.now }
         ensures same_type { self.new.metric_type ≡ self.old.metric_type }
         ensures kept { (k : EncodeError) → self.old.refused ≡ Some k → self.new ≡ self.old }
         ensures pieces { self.new.refused ≡ None → self.new.pieces ≡ [] }

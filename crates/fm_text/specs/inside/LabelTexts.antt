@@ -5,6 +5,7 @@ use Rattle.std.specs.Str.{IsUtf8}
 use Rattle.std.specs.Option.{option_map}
 use Rattle.fm_grammar.specs.Exposition.{Text, Label}
 use Rattle.fm_grammar.specs.Spelling.{escaped, label_text, label_list_text}
+use Rattle.fm_text.specs.inside.Grown.{Grown}
 use Rattle.fm_text.specs.declared.spans.Part.{Part}
 use Rattle.fm_text.specs.declared.spans.LabelSpan.{LabelSpan}
 use Rattle.fm_text.specs.declared.spans.LabelsAt.{LabelsAt}
@@ -59,6 +60,14 @@ list_before (label ∷ labels) = label_list_text (label ∷ labels) ++ codes ","
 abbrev pub name_in_list : Bool → Text → Text
 name_in_list true n = [] ++ (n ++ codes "=\"")
 name_in_list false n = codes "\"," ++ (n ++ codes "=\"")
+
+-- the name and the value of a label were appended at this span, first the name
+pub record IsLabelAdded (is_first : Bool) (name value old new : Text) (span : LabelSpan) : Type 0 where
+  pub named : Text
+  pub name_grown : Grown old named (name_in_list is_first name)
+  pub name_part : IsPart named span.name × (part_in named span.name ≡ name)
+  pub value_grown : Grown named new value
+  pub value_part : IsPart new span.value × (part_in new span.value ≡ value)
 
 -- what comes after such a list for a further one to follow: if a label precedes it, the quote that ends that one, and a comma
 abbrev pub further_list : Bool → Text → Text
