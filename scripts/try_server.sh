@@ -135,7 +135,7 @@ end_server() {
 
 lay_out
 if [[ $requests == --prove ]]; then
-    (cd "$scratch/repository" && rt ci web_server) | tail -n 1
+    (cd "$scratch/repository" && rt ci web_server) | grep -E '^rt: |^[0-9]+ passed, '
     exit "${PIPESTATUS[0]}"
 fi
 scrapers=alone

@@ -102,6 +102,8 @@ pub struct PointEncoder {
     bounds: Vec<BoundLabel>,
     // The front of the lines of a histogram's buckets. Each histogram writes over it.
     front: GrowingText,
+    // The labels of the own of states and quantiles, one after the other.
+    own: LabelText,
     // The labels of a sample that has none of its own.
     none: LabelText,
 }
@@ -118,6 +120,7 @@ impl Drop for PointEncoder {
             refused: _,
             bounds: _,
             front: _,
+            own: _,
             none: _,
         } = self;
     }
@@ -163,37 +166,41 @@ impl PointEncoder {
             refused: FirstRefusal { error: None },
             bounds: Vec::new(alloc),
             front: GrowingText::new(alloc),
+            own: LabelText::new(alloc),
             none: LabelText::new(alloc),
         }
     }
 
-    // Goes on to a family of this name, head and timestamp, and appends the lines that come before its samples. The name is swapped with
-    // that of the family before. If memory runs out, that is refused, and the text may end in a part of these lines.
+    // Goes on to a family of this name, head and timestamp, and appends the lines that come before its samples. If memory runs out, that is
+    // refused, and the text may end in a part of these lines.
     pub(crate) fn begin_family(
         &mut self,
-        name: &mut String,
+        name: &str,
         head: FamilyHead<'_>,
         time: Option<u128>,
     ) -> Result<(), EncodeError>
         requires accepting { self.old.refused ≡ None }
-        requires name { IsSnakeCase (string_bytes name.old) }
+        requires name { IsSnakeCase name.now }
         requires time { IfSome time AreMillis }
-        ensures setting { self.new.setting ≡ record {
-          name = string_bytes name.old;
+        ensures setting { OnOk result (self.new.setting ≡ record {
+          name = name.now;
           metric_type = head.entry.metric_type;
           time = time;
-        } }
+        }) }
         ensures output { OnOk result
-            (self.new.output
-            ≡ with_lines self.old.output (head_rows (headed (string_bytes name.old) head.entry))) }
+            (self.new.output ≡ with_lines self.old.output (head_rows (headed name.now head.entry))) }
         ensures returned { result ≡ result_of self.new.refused }
         ensures memory { IfErr result (λ e. e ≡ EncodeError.Memory) }
     {
-        mem::swap(&mut self.name, name);
-        self.time = time;
-        gathering::begin(&mut self.labels, head.metric_type);
+        gathering::begin(&mut self.labels, MetricType::Unknown);
         self.sink.unshare();
         self.deferred = None;
+        self.time = time;
+        self.name.clear();
+        if let Err(_) = self.name.push_str(name) {
+            return self.refused.refuse(EncodeError::Memory);
+        }
+        gathering::begin(&mut self.labels, head.metric_type);
         keep!(
             self.refused,
             self.sink.append_heads(self.name.as_str(), head)
@@ -281,6 +288,20 @@ impl PointEncoder {
             self.refused,
             self.sink.push(self.name.as_str(), &mut sample, None)
         )
+    }
+
+    // The memory of labels of a sample's own. It is given back by `keep_own`.
+    fn take_own(&mut self) -> LabelText
+        ensures { self.new ≡ self.old }
+    {
+        mem::replace(&mut self.own, LabelText::new(self.alloc))
+    }
+
+    // Keeps the memory for the next point.
+    fn keep_own(&mut self, own: LabelText)
+        ensures { self.new ≡ self.old }
+    {
+        self.own = own;
     }
 
     // The first refusal, if there is one.

@@ -18,25 +18,25 @@ use fm_writer::FamilyHead;
 use std::alloc::{AllocError, Global};
 
 // Takes the family of a metric with this printed name and this metadata, in the encoder's registry, or returns the first refusal. A text
-// gets the lines that come before its samples, too. The name is swapped with that of the family before.
+// gets the lines that come before its samples, too.
 fn take_family<M: EncodeMetric>(
     encoder: &mut MetricEncoder,
-    name: &mut String,
+    name: &str,
     metadata: &Metadata,
     metric: &M,
 ) -> Result<(), EncodeError>
-    requires name { IsSnakeCase (string_bytes name.old) }
+    requires name { IsSnakeCase name.now }
     requires accepting { encoder.old.refused ≡ None }
     ensures constants { encoder.new.context.constants ≡ encoder.old.context.constants }
     ensures taken { MatchResult result
         (λ _. (encoder.new.refused ≡ None)
         × Offered (M.offers metric.now) (M.stamps metric.now)
-        (string_bytes name.old) metadata.now.metric_type encoder.old.context.constants
-        (with_lines encoder.old.output (rows_before (string_bytes name.old) metadata.now))
+        name.now metadata.now.metric_type encoder.old.context.constants
+        (with_lines encoder.old.output (rows_before name.now metadata.now))
         encoder.new.output)
         (λ k. (k ≡ EncodeError.Memory)
         ⊎ MetricHasFault k (M.offers metric.now) (M.stamps metric.now) (M.may_fault metric.now)
-        (string_bytes name.old) metadata.now.metric_type encoder.old.context.constants) }
+        name.now metadata.now.metric_type encoder.old.context.constants) }
 {
     let time = whole_millis(metric.timestamp());
     let head = FamilyHead {
@@ -66,28 +66,28 @@ pub(crate) fn add_family<M: EncodeMetric>(
     encoder: &mut MetricEncoder,
     alloc: Global,
     families: &mut Option<Vec<FamilySamples>>,
-    name: &mut String,
+    name: &str,
     metadata: &Metadata,
     metric: &M,
 ) -> Result<(), EncodeError>
-    requires name { IsSnakeCase (string_bytes name.old) }
+    requires name { IsSnakeCase name.now }
     requires ready { IsReady families.old encoder.old }
     ensures constants { encoder.new.context.constants ≡ encoder.old.context.constants }
     ensures added { MatchResult result
         (λ _. IsReady families.new encoder.new
         × ((samples : _) × Formed (M.offers metric.now) (M.stamps metric.now)
-        (string_bytes name.old) metadata.now.metric_type encoder.old.context.constants samples
+        name.now metadata.now.metric_type encoder.old.context.constants samples
         × (collected_in families.new encoder.new.output
         ≡ with_families (collected_in families.old encoder.old.output)
-        (family_of (string_bytes name.old) metadata.now samples ∷ []))))
+        (family_of name.now metadata.now samples ∷ []))))
         (λ k. (k ≡ EncodeError.Memory)
         ⊎ MetricHasFault k (M.offers metric.now) (M.stamps metric.now) (M.may_fault metric.now)
-        (string_bytes name.old) metadata.now.metric_type encoder.old.context.constants) }
+        name.now metadata.now.metric_type encoder.old.context.constants) }
 {
     let Some(families) = families else {
         return take_family(encoder, name, metadata, metric);
     };
-    let printed = String::from_str(alloc, name.as_str())?;
+    let printed = String::from_str(alloc, name)?;
     let help = String::from_str(alloc, metadata.help())?;
     let unit = owned_unit(alloc, metadata)?;
     take_family(encoder, name, metadata, metric)?;

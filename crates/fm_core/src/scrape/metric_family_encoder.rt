@@ -46,7 +46,7 @@ pub struct MetricFamilyEncoder<'a> {
     refused: FirstRefusal,
     // Keeps the samples of one family after the other, or appends the lines of each.
     encoder: MetricEncoder,
-    // The next name that the encoder swaps for its own.
+    // The printed name of the current family.
     name: String,
 }
 
@@ -166,7 +166,7 @@ impl<'a> MetricFamilyEncoder<'a> {
             &mut self.encoder,
             self.alloc,
             &mut self.families,
-            &mut self.name,
+            self.name.as_str(),
             metadata,
             metric,
         ) {
@@ -200,7 +200,7 @@ impl<'a> MetricFamilyEncoder<'a> {
             &mut self.encoder,
             self.alloc,
             &mut self.families,
-            &mut self.name,
+            self.name.as_str(),
             listed.metadata,
             listed.metric,
         ) {

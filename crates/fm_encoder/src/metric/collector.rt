@@ -72,33 +72,32 @@ pub fn enter(encoder: &mut MetricEncoder, constants: &[(String, String)]) -> Res
 }
 
 /// Goes on to the family with this printed name and this head, in the current registry, and appends the lines that come before
-/// its samples, unless the encoder keeps samples. The timestamp, in milliseconds, is written on each sample. `name` is swapped
-/// with the name of the family before. Fails with `Memory` if memory runs out; then that is the encoder's refusal, and the text
-/// may end in a part of these lines. An encoder that has refused something stays as it is, and returns that refusal.
+/// its samples, unless the encoder keeps samples. The timestamp, in milliseconds, is written on each sample. Fails with `Memory` if
+/// memory runs out; then that is the encoder's refusal, and the text may end in a part of these lines. An encoder that has refused
+/// something stays as it is, and returns that refusal.
 pub fn begin_family(
     encoder: &mut MetricEncoder,
-    name: &mut String,
+    name: &str,
     head: FamilyHead<'_>,
     time: Option<u128>,
 ) -> Result<(), EncodeError>
-    requires name { IsSnakeCase (string_bytes name.old) }
+    requires name { IsSnakeCase name.now }
     requires time { IfSome time AreMillis }
     ensures begun { OnOk result (encoder.new ≡ record {
       context = record {
         setting = record {
-          name = string_bytes name.old;
+          name = name.now;
           metric_type = head.entry.metric_type;
           time = time;
         };
         constants = encoder.old.context.constants;
       };
-      output = with_lines encoder.old.output
-          (head_rows (headed (string_bytes name.old) head.entry));
+      output = with_lines encoder.old.output (head_rows (headed name.now head.entry));
       refused = None;
     }) }
     ensures constants { encoder.new.context.constants ≡ encoder.old.context.constants }
     ensures kept { (k : EncodeError) → encoder.old.refused ≡ Some k
-        → (encoder.new ≡ encoder.old) × (name.new ≡ name.old) × (result ≡ Err k) }
+        → (encoder.new ≡ encoder.old) × (result ≡ Err k) }
     ensures returned { result ≡ result_of encoder.new.refused }
     ensures memory { IfErr result
         (λ e. (e ≡ EncodeError.Memory) ⊎ (encoder.old.refused ≡ Some e)) }
@@ -106,8 +105,9 @@ pub fn begin_family(
     if let Some(error) = encoder.points.refusal() {
         return Err(error);
     }
-    encoder.constants.begin(head.metric_type);
-    encoder.points.begin_family(name, head, time)
+    let begun = encoder.points.begin_family(name, head, time);
+    encoder.constants.begin(encoder.points.metric_type());
+    begun
 }
 
 /// Takes a member as `MetricEncoder::encode` does. If its labels were kept, and none has the name of a constant label, the

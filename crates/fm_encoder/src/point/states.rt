@@ -38,7 +38,10 @@ impl PointEncoder {
     {
         self.begin_point(MetricType::StateSet)?;
         self.test_states(states.is_empty())?;
-        self.push_states(&mut LabelText::new(self.alloc), states)
+        let mut own = self.take_own();
+        self.push_states(&mut own, states)?;
+        self.keep_own(own);
+        Ok(())
     }
 
     // Refuses the states if there are any and a common label has the family's name.

@@ -36,8 +36,9 @@ impl PointEncoder {
             NoFault self.old self.new result }
     {
         self.begin_point(MetricType::Summary)?;
-        let mut own = LabelText::new(self.alloc);
+        let mut own = self.take_own();
         self.push_quantiles(&mut own, quantiles)?;
+        self.keep_own(own);
         self.push_totals(count, sum, created)
     }
 
