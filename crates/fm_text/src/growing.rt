@@ -166,34 +166,60 @@ impl GrowingText {
         Ok(())
     }
 
-    // Appends the line of a sample: three pieces, a list of labels without the quote at its end, and a value. It takes room once.
-    // Fails if memory runs out.
+    // Appends the line of a sample: its front, a list of labels without the quote at its end, and a value. It takes room once. Fails if
+    // memory runs out.
     #[inline(always)]
     pub(crate) fn put_row(
         &mut self,
-        first: &[u8],
-        second: &[u8],
-        third: &[u8],
+        front: &[u8],
         list: &[u8],
         value: &[u8],
     ) -> Result<(), AllocError>
-        ensures { OnOk result (Grown self.old self.new (first.now ++ (second.now ++ (third.now
-            ++ (list.now ++ (codes "\"} " ++ (value.now ++ codes "\n"))))))) }
+        ensures { OnOk result (Grown self.old self.new
+            (front.now ++ (list.now ++ (codes "\"} " ++ (value.now ++ codes "\n"))))) }
     {
         let end = self
             .end
-            .saturating_add(first.len())
-            .saturating_add(second.len())
-            .saturating_add(third.len())
+            .saturating_add(front.len())
             .saturating_add(list.len())
             .saturating_add(value.len())
             .saturating_add(4);
         if end > self.bytes.len() {
             lengthen(&mut self.bytes, end)?;
         }
-        let at = write_at(&mut self.bytes, self.end, first);
-        let at = write_at(&mut self.bytes, at, second);
-        let at = write_at(&mut self.bytes, at, third);
+        let at = write_at(&mut self.bytes, self.end, front);
+        let at = write_at(&mut self.bytes, at, list);
+        let at = write_at(&mut self.bytes, at, b"\"} ");
+        let at = write_at(&mut self.bytes, at, value);
+        self.end = write_at(&mut self.bytes, at, b"\n");
+        Ok(())
+    }
+
+    // The same where the front is a name, a suffix and a brace.
+    #[inline(always)]
+    pub(crate) fn put_named_row(
+        &mut self,
+        name: &[u8],
+        suffix: &[u8],
+        list: &[u8],
+        value: &[u8],
+    ) -> Result<(), AllocError>
+        ensures { OnOk result (Grown self.old self.new (name.now ++ (suffix.now ++ (codes "{"
+            ++ (list.now ++ (codes "\"} " ++ (value.now ++ codes "\n"))))))) }
+    {
+        let end = self
+            .end
+            .saturating_add(name.len())
+            .saturating_add(suffix.len())
+            .saturating_add(list.len())
+            .saturating_add(value.len())
+            .saturating_add(5);
+        if end > self.bytes.len() {
+            lengthen(&mut self.bytes, end)?;
+        }
+        let at = write_at(&mut self.bytes, self.end, name);
+        let at = write_at(&mut self.bytes, at, suffix);
+        let at = write_at(&mut self.bytes, at, b"{");
         let at = write_at(&mut self.bytes, at, list);
         let at = write_at(&mut self.bytes, at, b"\"} ");
         let at = write_at(&mut self.bytes, at, value);

@@ -386,28 +386,45 @@ impl LabelText {
         Ok(())
     }
 
-    /// Appends a line: three pieces, the labels with commas between them, the end of their block, and a value. Fails if memory
-    /// runs out.
+    /// Appends a line: its front, the labels with commas between them, the end of their block, and a value. Fails if memory runs out.
     #[inline(always)]
     pub fn append_row(
         &self,
         text: &mut GrowingText,
-        first: &[u8],
-        second: &[u8],
-        third: &[u8],
+        front: &[u8],
         value: &[u8],
     ) -> Result<(), AllocError>
         requires { 0 < length self.now.labels }
-        ensures { OnOk result (Grown text.old text.new (first.now ++ (second.now ++ (third.now
-            ++ (label_list_text self.now.labels
-            ++ (codes "} " ++ (value.now ++ codes "\n"))))))) }
+        ensures { OnOk result (Grown text.old text.new (front.now ++ (label_list_text self.now.labels
+            ++ (codes "} " ++ (value.now ++ codes "\n"))))) }
     {
         if !self.is_listed || self.name.is_some() || self.value.is_some() {
-            text.put_three(first, second, third)?;
+            text.append(front)?;
             append_labels_at(text, self.at(0))?;
             return text.put_three(b"} ", value, b"\n");
         }
-        text.put_row(first, second, third, self.text.as_slice(), value)
+        text.put_row(front, self.text.as_slice(), value)
+    }
+
+    /// The same where the front is a name, a suffix and a brace.
+    #[inline(always)]
+    pub fn append_named_row(
+        &self,
+        text: &mut GrowingText,
+        name: &[u8],
+        suffix: &[u8],
+        value: &[u8],
+    ) -> Result<(), AllocError>
+        requires { 0 < length self.now.labels }
+        ensures { OnOk result (Grown text.old text.new (name.now ++ (suffix.now ++ (codes "{"
+            ++ (label_list_text self.now.labels ++ (codes "} " ++ (value.now ++ codes "\n"))))))) }
+    {
+        if !self.is_listed || self.name.is_some() || self.value.is_some() {
+            text.put_three(name, suffix, b"{")?;
+            append_labels_at(text, self.at(0))?;
+            return text.put_three(b"} ", value, b"\n");
+        }
+        text.put_named_row(name, suffix, self.text.as_slice(), value)
     }
 
     /// A list of the labels. Fails if memory runs out.

@@ -101,11 +101,11 @@ fn append_row(
         let mut digits = Buffer::new();
         let value = digits.format(number).as_bytes();
         if let Some(front) = front {
-            return own.append_row(text, front.as_slice(), b"", b"", value);
+            return own.append_row(text, front.as_slice(), value);
         }
         if own.len() == 0 && common.len() > 0 {
             let suffix = kind.suffix().as_bytes();
-            return common.append_row(text, name.as_bytes(), suffix, b"{", value);
+            return common.append_named_row(text, name.as_bytes(), suffix, value);
         }
     }
     append_sample_row(text, name, kind, common, own, reading)

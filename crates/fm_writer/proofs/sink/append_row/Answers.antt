@@ -34,4 +34,4 @@ returns-then-len-gt0 c =
     let sample : grammar.Sample = record (new_sample taken) { exemplar = option_map exemplar_at c.as_ref.result } in
     let digits : value_text (grammar.Whole c.in-Some.number) ≡ c.as_bytes-value.result.now = search rules in
     let end : value_text sample.value ++ after_value sample ≡ c.as_bytes-value.result.now ++ codes "\n" = c.in-Some.ensures ∙ ap (λ (t : grammar.Text). t ++ codes "\n") digits in
-    on_ok_more c.append_row-then-len-gt0.result _ _ (λ grown. rw (← exemplar) (row_in_braces _ _ c.args.name.now _ taken.common.now.labels taken.own.now.labels sample refl (omega (arith, c.len.ensures, c.if-len-eq0.true)) (omega (arith, c.len-then-len-eq0.ensures, c.if-len-gt0.true)) end (rw (c.as_bytes.ensures.value, c.as_bytes-suffix.ensures.value, c.suffix.ensures) at grown))) c.append_row-then-len-gt0.ensures
+    on_ok_more c.append_named_row.result _ _ (λ grown. rw (← exemplar) (row_in_braces _ _ c.args.name.now _ taken.common.now.labels taken.own.now.labels sample refl (omega (arith, c.len.ensures, c.if-len-eq0.true)) (omega (arith, c.len-then-len-eq0.ensures, c.if-len-gt0.true)) end (rw (c.as_bytes.ensures.value, c.as_bytes-suffix.ensures.value, c.suffix.ensures) at grown))) c.append_named_row.ensures
