@@ -39,9 +39,9 @@ impl PointEncoder {
         self.begin_point(MetricType::StateSet)?;
         self.test_states(states.is_empty())?;
         let mut own = self.take_own();
-        self.push_states(&mut own, states)?;
+        let pushed = self.push_states(&mut own, states);
         self.keep_own(own);
-        Ok(())
+        pushed
     }
 
     // Refuses the states if there are any and a common label has the family's name.

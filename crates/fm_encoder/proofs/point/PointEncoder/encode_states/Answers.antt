@@ -19,4 +19,5 @@ pub returns : goal.returns
 returns c =
     let begun = none_from_answer _ c.begin_point.ensures.returned c.in_ok-begin_point.was in
     let tested = none_from_answer _ c.test_states.ensures.returned c.in_ok-test_states.was in
-    rw (c.push_states-2.ensures.returned) (record { emitted = EmitsPoints-states (map state_of c.args.states.now) c.is_empty.result _ _ _ c.begin_point.ensures.emitted begun c.test_states.ensures.emitted _ (λ empty. (let none : length c.args.states.now ≡ 0 = search rules in ap (map state_of) (nil_from_length _ none))) tested c.push_states-2.ensures.emitted; returned = refl })
+    let pushed = rw (c.take_own-own.ensures) at c.push_states-pushed.ensures.emitted in
+    rw (c.keep_own.ensures, c.push_states-pushed.ensures.returned) (record { emitted = EmitsPoints-states (map state_of c.args.states.now) c.is_empty.result _ _ _ c.begin_point.ensures.emitted begun c.test_states.ensures.emitted _ (λ empty. (let none : length c.args.states.now ≡ 0 = search rules in ap (map state_of) (nil_from_length _ none))) tested pushed; returned = refl })

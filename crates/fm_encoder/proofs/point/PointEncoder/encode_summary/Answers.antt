@@ -17,5 +17,7 @@ returns c =
     let quantiles = c.args.quantiles.now in
     let totals = λ (s : Setting) (ls : List Label). total_samples s ls Count Sum c.args.count c.args.sum ++ created_samples s ls created in
     let begun = c.begin_point.new.self in
-    let all = PushesSamples-then (map (quantile_sample begun.setting begun.common) quantiles) totals begun _ _ c.push_quantiles.ensures.emitted pushed c.push_totals.ensures.emitted in
+    let quantiles_pushed = rw (c.take_own-own.ensures) at c.push_quantiles.ensures.emitted in
+    let totals_pushed = rw (c.keep_own.ensures) at c.push_totals.ensures.emitted in
+    let all = PushesSamples-then (map (quantile_sample begun.setting begun.common) quantiles) totals begun _ _ quantiles_pushed pushed totals_pushed in
     rw (c.push_totals.ensures.returned) (record { emitted = EmitsPoints-made (SummaryPoint quantiles c.args.sum c.args.count created) (λ s ls. map (quantile_sample s ls) quantiles ++ totals s ls) _ _ begun _ begins.same begins.output begins.kept begun_none (begins.same_type begun_none) (begins.no_deferred begun_none) tt refl all; returned = refl })
