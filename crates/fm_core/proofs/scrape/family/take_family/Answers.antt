@@ -1,5 +1,4 @@
 use Rattle.std.proofs.Common.{◌≡◌, None, sym, subst, rules}
-use Rattle.std.specs.String.{string_bytes}
 use Rattle.fm_writer.specs.Output.{with_lines}
 use Rattle.fm_encoder.specs.Offers.{context_at}
 use Rattle.fm_core.specs.inside.Offered.{rows_before}
@@ -12,7 +11,7 @@ returns-clause-taken g c =
     let stamps = declared.stamps c.args.metric.now in
     let stamped = subst stamps (sym c.whole_millis-time.ensures.value) c.timestamp.ensures in
     let told = rw c.in_ok-begin_family.was at c.begin_family.ensures.begun in
-    let name = string_bytes c.args.name.now in
+    let name = c.args.name.now in
     let metadata = c.args.metadata.now in
     let constants = c.args.encoder.now.context.constants in
     let begun : c.begin_family.new.encoder ≡ record {

@@ -12,6 +12,6 @@ returns-in-Ok-clause-added g c =
     let after = c.add_family.new in
     let printed = on_ok c.print_name.result c.in_default.not-Err c.print_name.ensures in
     let constants : before.encoder.context.constants ≡ listed.labels = ap (λ v. v.labels) c.self.view_is ∙ c.requires.labels in
-    let added = rw (printed, constants) at c.in-Ok.ensures.added in
+    let added = rw (c.as_str.ensures.value, printed, constants) at c.in-Ok.ensures.added in
     subst (λ (old : Collected). Adds g.M.EncodeMetric (listed ∷ []) old (collected_in after.families after.encoder.output)) (ap collected c.self.view_is)
     (Adds-family g.M.EncodeMetric listed (collected_in before.families before.encoder.output) (collected_in after.families after.encoder.output) added.1.0 c.requires.listable added.1.1 added.1.2)
