@@ -24,13 +24,15 @@ use fm_registry_rules::RegistryError;
 use fm_registry_rules::label_names::LabelNames;
 use std::alloc::{AllocError, Global};
 use std::fmt::{self, Debug, Formatter};
-use std::sync::{Arc, RwLock, Wait};
+use std::sync::{Arc, Mutex, RwLock, Wait};
 use std::time::Duration;
 
-// What the clones of a family share.
+// What the clones of a family share. Who scrapes, makes a member or removes some takes the turn first, and then `core`: so nobody
+// waits to write while a scrape reads, since readers that come then would wait behind.
 #[derive(Drop)]
 struct Shared<M, MF> {
     names: LabelNames,
+    turn: Mutex<()>,
     core: RwLock<VecMembers<M>>,
     factory: MF,
 }
@@ -39,8 +41,9 @@ struct Shared<M, MF> {
 /// found by its values. The clones of a family share the members. The factory `MF` makes a metric when its values are first used. The
 /// exposition has the members in the order in which they were made.
 ///
-/// A call waits while another thread makes or removes a metric, and a call that makes or removes one waits for all others.
-/// Neither the factory nor a closure that borrows a metric may call the same family: it would wait for ever.
+/// A call that finds its metric waits only while another thread makes or removes one, and not for a scrape. A call that makes or
+/// removes one waits for all others, and for a scrape that goes over this family. Neither the factory nor a closure that borrows a
+/// metric may call the same family: it would wait for ever.
 ///
 /// <!-- cut: crates/calling/src/families.rt -->
 /// ```rust
@@ -85,11 +88,13 @@ impl<M: TypedMetric + Drop, MF: Drop, H: Wait + Drop> MetricVec<M, MF, H> {
         ensures factory { IfOk result (λ v. vec_factory v ≡ factory) }
     {
         let names = tested_label_names(alloc, M::TYPE, names)?;
+        let turn = Mutex::new(());
         let core = RwLock::new(VecMembers::new(alloc, hashing, names.count(), limit));
         let shared = Arc::new(
             alloc,
             Shared {
                 names,
+                turn,
                 core,
                 factory,
             },
@@ -148,6 +153,7 @@ impl<M: Drop, MF: Drop, H: Wait + Drop> MetricVec<M, MF, H> {
         ensures right { IfErr result (λ _. HasOtherCount (vec_names self.now) values.now) }
     {
         self.test_count(values)?;
+        let _turn = self.shared.turn.lock(&self.wait);
         let mut guard = self.shared.core.write(&self.wait);
         let core: &mut VecMembers<M> = &mut guard;
         core.are_different();
@@ -158,6 +164,7 @@ impl<M: Drop, MF: Drop, H: Wait + Drop> MetricVec<M, MF, H> {
     ///
     /// The call waits for all other calls of this family, and takes no memory.
     pub fn clear(&self) {
+        let _turn = self.shared.turn.lock(&self.wait);
         let mut core = self.shared.core.write(&self.wait);
         core.clear();
     }
@@ -171,6 +178,7 @@ impl<M: Drop, MF: Drop, H: Wait + Drop> MetricVec<M, MF, H> {
         ensures { Locked AreVecMembers (λ old new _.
             IsFiltered (CalledAtMember F.FnMut) keep old.entries new.entries) result }
     {
+        let _turn = self.shared.turn.lock(&self.wait);
         let mut guard = self.shared.core.write(&self.wait);
         let core: &mut VecMembers<M> = &mut guard;
         core.are_different();
@@ -211,6 +219,7 @@ impl<M: Drop, MF: MetricFactory<M> + Drop, H: Wait + Drop> MetricVec<M, MF, H> {
             return Ok(f(metric));
         }
         drop(guard);
+        let _turn = shared.turn.lock(&self.wait);
         let mut core = shared.core.write(&self.wait);
         core.expect(values.len());
         core.with_or_new(self.alloc, values, &shared.factory, f)
@@ -282,6 +291,7 @@ impl<
 
     fn encode(&self, encoder: &mut MetricEncoder) -> Result<(), EncodeError> {
         let shared = &*self.shared;
+        let _turn = shared.turn.lock(&self.wait);
         let core = shared.core.read(&self.wait);
         if core.count() != shared.names.count() {
             return Ok(());
