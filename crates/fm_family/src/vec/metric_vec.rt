@@ -43,9 +43,10 @@ struct Shared<M, MF> {
 /// found by its values. The clones of a family share the members. The factory `MF` makes a metric when its values are first used. The
 /// exposition has the members in the order in which they were made.
 ///
-/// A call that finds its metric waits only while another thread makes or removes one, and not for a scrape. A call that makes or
-/// removes one waits for all others, and for a scrape that goes over this family. Neither the factory nor a closure that borrows a
-/// metric may call the same family: it would wait for ever.
+/// A call that finds its metric or makes one waits while another thread makes or removes one, and not for a scrape; if there are as
+/// many metrics as the limit allows, one of which was made during a scrape, it may wait for the end of that scrape. A call that removes
+/// metrics waits for all others and for scrapes, and scrapes wait for each other. Neither the factory nor a closure that borrows a metric
+/// may call the same family: it would wait for ever.
 ///
 /// <!-- cut: crates/calling/src/families.rt -->
 /// ```rust
@@ -137,8 +138,12 @@ impl<M: Drop, MF: Drop, H: Wait + Drop> MetricVec<M, MF, H> {
 
     // Has the young members stand after the others, and returns whether there was memory for that. Who calls it has the turn.
     fn settle(&self) -> bool {
-        let mut core = self.shared.core.write(&self.wait);
-        let mut young = self.shared.young.lock(&self.wait);
+        let shared = &*self.shared;
+        if shared.young.lock(&self.wait).is_empty() {
+            return true;
+        }
+        let mut core = shared.core.write(&self.wait);
+        let mut young = shared.young.lock(&self.wait);
         core.take_in(&mut young)
     }
 
@@ -243,8 +248,8 @@ impl<M: Drop, MF: MetricFactory<M> + Drop, H: Wait + Drop> MetricVec<M, MF, H> {
         let mut young_guard = shared.young.lock(&self.wait);
         let young: &mut VecMembers<M> = &mut young_guard;
         young.are_different();
-        if let Some(metric) = young.get(values) {
-            return Ok(f(metric));
+        if let Some(made) = young.get(values) {
+            return Ok(f(made));
         }
         if young.has_room_beside(core, values.len()) {
             return young.with_or_new(self.alloc, values, &shared.factory, f);
@@ -276,8 +281,8 @@ impl<M: Drop, MF: MetricFactory<M> + Drop, H: Wait + Drop> MetricVec<M, MF, H> {
             return core.with_or_new(self.alloc, values, &shared.factory, f);
         }
         core.are_different();
-        if let Some(metric) = core.get(values) {
-            return Ok(f(metric));
+        if let Some(found) = core.get(values) {
+            return Ok(f(found));
         }
         young.are_different();
         match young.get(values) {

@@ -16,7 +16,7 @@ returns-then-take_in-clause-finds g c = rw (← c.deref-shared.ensures) (record 
 
 pub returns-in-Some-clause-finds : goal.returns-in-Some-clause-finds
 returns-in-Some-clause-finds g c =
-    let members = c.take_in.new.self in let metric = c.in-Some.metric in
+    let members = c.take_in.new.self in let metric = c.in-Some.found in
     let called : FnOnceReturnsAt g.F.FnOnce c.args.f metric.now c.f.result = (metric, c.f.ensures, refl) in
     record {
       old = members;
@@ -26,7 +26,7 @@ returns-in-Some-clause-finds g c =
     }
 
 pub returns-in-Some-clause-called : goal.returns-in-Some-clause-called
-returns-in-Some-clause-called g c = (c.in-Some.metric.now, (c.in-Some.metric, c.f.ensures, refl))
+returns-in-Some-clause-called g c = (c.in-Some.found.now, (c.in-Some.found, c.f.ensures, refl))
 
 pub returns-in-Some-get-clause-finds : goal.returns-in-Some-get-clause-finds
 returns-in-Some-get-clause-finds g c =

@@ -22,11 +22,11 @@ returns-in-Some-clause-finds g c _ =
     }
 
 pub returns-in-Some-get-clause-called : goal.returns-in-Some-get-clause-called
-returns-in-Some-get-clause-called g c = (c.in-Some-get.metric.now, (c.in-Some-get.metric, c.f-in-Some-get.ensures, refl))
+returns-in-Some-get-clause-called g c = (c.in-Some-get.made.now, (c.in-Some-get.made, c.f-in-Some-get.ensures, refl))
 
 pub returns-in-Some-get-clause-finds : goal.returns-in-Some-get-clause-finds
 returns-in-Some-get-clause-finds g c _ =
-    let members = c.deref_mut-young.result.now in let metric = c.in-Some-get.metric in
+    let members = c.deref_mut-young.result.now in let metric = c.in-Some-get.made in
     let called : FnOnceReturnsAt g.F.FnOnce c.args.f metric.now c.f-in-Some-get.result = (metric, c.f-in-Some-get.ensures, refl) in
     record {
       old = members;
