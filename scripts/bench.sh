@@ -14,7 +14,8 @@ set -eu
 top=$(cd "$(dirname "$0")/.." && pwd)
 folder=/tmp/fastmetrics-bench
 [[ ${1:-} == -d ]] && { folder=$2; shift 2; }
-scenes="hand counters named labeled histograms gauges updates lookup lookup_sip values values_fixed series observe register read waits"
+scenes="hand counters named labeled histograms gauges updates lookup lookup_sip values values_fixed series observe register"
+scenes="$scenes read waits"
 # shellcheck disable=SC2086
 [[ $# -gt 0 ]] || set -- $scenes
 

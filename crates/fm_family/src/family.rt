@@ -30,8 +30,8 @@ struct Shared<LS: EncodeLabelSet + Eq + Hash, M, MF, S: BuildHasher> {
 /// metric when its label set is first used. The exposition has the members in the order in which they were made.
 ///
 /// A call that finds its metric waits only while another thread makes or removes one, and not for a scrape. A call that makes or
-/// removes one waits for all others, and for a scrape that goes over this family. Neither the factory nor a closure that borrows a
-/// metric may call the same family: it would wait for ever. For the hasher `S` see `FamilyCore`.
+/// removes one waits for all others, and for a scrape that goes over this family. Neither the factory nor a closure that borrows
+/// a metric may call the same family: it would wait for ever. For the hasher `S` see `FamilyCore`.
 ///
 /// <!-- cut: crates/calling/src/own.rt -->
 /// ```rust

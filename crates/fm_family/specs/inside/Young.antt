@@ -1,4 +1,5 @@
--- The members of a family by label names in two lists: those that a scrape may read, and young ones, which were made while one did.
+-- The members of a family by label names in two lists: those that a scrape may read, and young ones, which were made while one
+-- did.
 use Rattle.std.specs.Prelude.{◌≡◌, ◌<◌, ◌+◌, ℕ, Bool, List, [], ◌∷◌, ◌++◌, length, is_some, if◌then◌else◌}
 use Rattle.std.specs.List.{items_where_true}
 use Rattle.std.specs.List.Retain.{ReturnsInTurn}

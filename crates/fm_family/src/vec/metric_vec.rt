@@ -27,9 +27,9 @@ use std::fmt::{self, Debug, Formatter};
 use std::sync::{Arc, Mutex, RwLock, Wait};
 use std::time::Duration;
 
-// What the clones of a family share. Who scrapes or removes members takes the turn first, and then `core`: so nobody waits to write
-// while a scrape reads, since readers that come then would wait behind. A member that is made while another has the turn is young: it
-// is added to a list of its own, which is locked last and only while `core` is, and whose members go after those of `core`.
+// What the clones of a family share. Who scrapes or removes members takes the turn first, and then `core`: so nobody waits to
+// write while a scrape reads, since readers that come then would wait behind. A member that is made while another has the turn is
+// young: it is added to a list of its own, which is locked last, and whose members go after those of `core`.
 #[derive(Drop)]
 struct Shared<M, MF> {
     names: LabelNames,
@@ -43,10 +43,10 @@ struct Shared<M, MF> {
 /// found by its values. The clones of a family share the members. The factory `MF` makes a metric when its values are first used. The
 /// exposition has the members in the order in which they were made.
 ///
-/// A call that finds its metric or makes one waits while another thread makes or removes one, and not for a scrape; if there are as
-/// many metrics as the limit allows, one of which was made during a scrape, it may wait for the end of that scrape. A call that removes
-/// metrics waits for all others and for scrapes, and scrapes wait for each other. Neither the factory nor a closure that borrows a metric
-/// may call the same family: it would wait for ever.
+/// A call that finds its metric or makes one waits while another thread makes or removes one, and not for a scrape: only where
+/// the family became full during a scrape, one that would make a metric waits for its end. A call that removes metrics waits for
+/// all others and for scrapes, and scrapes wait for each other. Neither the factory nor a closure that borrows a metric may call
+/// the same family: it would wait for ever.
 ///
 /// <!-- cut: crates/calling/src/families.rt -->
 /// ```rust
@@ -215,7 +215,8 @@ impl<M: Drop, MF: MetricFactory<M> + Drop, H: Wait + Drop> MetricVec<M, MF, H> {
     ///
     /// Fails with `WrongValueCount` unless there are as many values as names. If there is no member of these values, it fails with
     /// `TooManyMembers` where there are as many members as the limit allows, with the factory's error, or with `Memory` if memory runs
-    /// out. At an error the members stay as they were. If the metric exists, the call takes no memory, and locks for reading only.
+    /// out. At an error the members stay as they were. If the metric exists, the call takes no memory, and locks for reading only,
+    /// unless it was made during a scrape.
     pub fn with<R, F: FnOnce(&M) -> R>(&self, values: &[&str], f: F) -> Result<R, MetricError>
         // The factory and `f` can be called.
         requires ready { MF.is_ready (vec_factory self.now) }
