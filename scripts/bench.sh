@@ -3,17 +3,19 @@
 # repository (`bash .ci/run`, or `rt ci fastmetrics`, comes first): the libraries are not proved again.
 #
 #   scripts/bench.sh [-d FOLDER] [SCENE..]      scenes: hand counters named labeled histograms gauges updates lookup lookup_sip
-#                                               values values_fixed series observe register read; all without one
+#                                               values values_fixed series observe register read waits; all without one
 #
 # The folder (else /tmp/fastmetrics-bench) is kept, so that only what changed is proved again. Prints a line for each figure:
 # scene, members (threads for `inc` and `set`), what was measured, nanoseconds a sample line or a call; of one `encode` also the
 # requests for memory, a line, and the most bytes at once, over those of the document; of a look-up that finds its member the
-# requests too. docs/PERFORMANCE.md says how to compare. Run it on a machine that does nothing else.
+# requests too. Of `waits`, with and without scrapes, the longest call and that which one in a thousand is longer than.
+# docs/PERFORMANCE.md says how to compare. Run it on a machine that does nothing else.
 set -eu
 top=$(cd "$(dirname "$0")/.." && pwd)
 folder=/tmp/fastmetrics-bench
 [[ ${1:-} == -d ]] && { folder=$2; shift 2; }
-scenes="hand counters named labeled histograms gauges updates lookup lookup_sip values values_fixed series observe register read"
+scenes="hand counters named labeled histograms gauges updates lookup lookup_sip values values_fixed series observe register"
+scenes="$scenes read waits"
 # shellcheck disable=SC2086
 [[ $# -gt 0 ]] || set -- $scenes
 
@@ -57,6 +59,7 @@ for scene; do
         gauges | labeled | named) sizes="1000 100000" lines=1 ;;
         histograms) sizes="1000 100000" lines=15 ;;
         series) sizes="100000 1000000" ;;
+        waits) sizes=100000 ;;
     esac
     for size in $sizes; do
         out/bench "$scene" "$size"

@@ -18,7 +18,7 @@ use Rattle.fm_family.specs.inside.VecCode.{AreCounted}
 use Rattle.fm_family.proofs.MemberLemmas.{keys_of-take}
 
 -- two lists of values are the same, or not
-values_laws : IsEquivalence values_eq
+pub values_laws : IsEquivalence values_eq
 values_laws = on_equiv joined nat_list_eq_equiv
 
 module _ {X : Type 0} (P : X → Type 0) where

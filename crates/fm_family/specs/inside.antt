@@ -2,3 +2,4 @@
 pub mod MemberLabels
 pub mod VecCode
 pub mod Indexed
+pub mod Young

@@ -14,12 +14,14 @@ use fm_raw::{EncodeError, MetricError, MetricType, TryDefault, TypedMetric};
 use std::alloc::{AllocError, Global};
 use std::fmt::{self, Debug, Formatter};
 use std::hash::{BuildHasher, BuildHasherDefault, FoldHasher, Hash};
-use std::sync::{Arc, RwLock, Wait};
+use std::sync::{Arc, Mutex, RwLock, Wait};
 use std::time::Duration;
 
-// What the clones of a family share.
+// What the clones of a family share. Who scrapes, makes a member or removes some takes the turn first, and then `core`: so nobody
+// waits to write while a scrape reads, since readers that come then would wait behind.
 #[derive(Drop)]
 struct Shared<LS: EncodeLabelSet + Eq + Hash, M, MF, S: BuildHasher> {
+    turn: Mutex<()>,
     core: RwLock<FamilyCore<LS, M, S>>,
     factory: MF,
 }
@@ -27,9 +29,9 @@ struct Shared<LS: EncodeLabelSet + Eq + Hash, M, MF, S: BuildHasher> {
 /// Metrics of one type by label set, protected by a lock. The clones of a family share them. The factory `MF` makes a
 /// metric when its label set is first used. The exposition has the members in the order in which they were made.
 ///
-/// A call waits while another thread makes or removes a metric, and a call that makes or removes one waits for all others.
-/// Neither the factory nor a closure that borrows a metric may call the same family: it would wait for ever. For the hasher
-/// `S` see `FamilyCore`.
+/// A call that finds its metric waits only while another thread makes or removes one, and not for a scrape. A call that makes or
+/// removes one waits for all others, and for a scrape that goes over this family. Neither the factory nor a closure that borrows
+/// a metric may call the same family: it would wait for ever. For the hasher `S` see `FamilyCore`.
 ///
 /// <!-- cut: crates/calling/src/own.rt -->
 /// ```rust
@@ -108,8 +110,16 @@ impl<
         ensures factory { IfOk result (λ f. (arc_value f.shared).factory ≡ factory) }
         ensures memory { IfErr result (λ e. e ≡ Memory) }
     {
+        let turn = Mutex::new(());
         let core = RwLock::new(FamilyCore::with_hasher(alloc, hasher));
-        let shared = Arc::new(alloc, Shared { core, factory })?;
+        let shared = Arc::new(
+            alloc,
+            Shared {
+                turn,
+                core,
+                factory,
+            },
+        )?;
         Ok(Family { shared, wait })
     }
 
@@ -149,6 +159,7 @@ impl<
     pub fn remove(&self, labels: &LS) -> bool
         ensures { Locked (AreDifferent {M = M} LS.eq) (Removes (LS.eq labels.now)) result }
     {
+        let _turn = self.shared.turn.lock(&self.wait);
         let mut guard = self.shared.core.write(&self.wait);
         let core: &mut FamilyCore<LS, M, S> = &mut guard;
         core.are_different();
@@ -159,6 +170,7 @@ impl<
     ///
     /// The call waits for all other calls of this family, and takes no memory.
     pub fn clear(&self) {
+        let _turn = self.shared.turn.lock(&self.wait);
         let mut core = self.shared.core.write(&self.wait);
         core.clear();
     }
@@ -172,6 +184,7 @@ impl<
         ensures { Locked (AreDifferent LS.eq)
             (λ old new _. IsFiltered (CalledAtMember F.FnMut) keep old new) result }
     {
+        let _turn = self.shared.turn.lock(&self.wait);
         let mut guard = self.shared.core.write(&self.wait);
         let core: &mut FamilyCore<LS, M, S> = &mut guard;
         core.are_different();
@@ -215,6 +228,7 @@ impl<
             return Ok(f(metric));
         }
         drop(guard);
+        let _turn = shared.turn.lock(&self.wait);
         let mut core = shared.core.write(&self.wait);
         core.with_or_new(labels, &shared.factory, f)
     }
@@ -286,6 +300,7 @@ impl<
     ghost may_fault = { λ _. (pair : LS × M) × MayFault LS.may_fault M.may_fault pair };
 
     fn encode(&self, encoder: &mut MetricEncoder) -> Result<(), EncodeError> {
+        let _turn = self.shared.turn.lock(&self.wait);
         let core = self.shared.core.read(&self.wait);
         core.encode_members(encoder)
     }

@@ -6,3 +6,4 @@ pub mod hashing;
 pub mod members;
 pub mod metric_vec;
 pub mod names;
+mod young;

@@ -1,5 +1,5 @@
 //! The members of a family whose label names are declared.
-ghost use Rattle.std.specs.Prelude.{◌≡◌, ◌<◌, ◌≤◌, ◌↔◌, ◌++◌, ◌⊎◌, IfOk, IfErr, IfSome, OnOk, OnErr, IsTrue, Some, None, Err, Any, [], ◌∷◌, length, MatchOption, option_copied, slice_get, is_some, swap, take};
+ghost use Rattle.std.specs.Prelude.{◌≡◌, ◌<◌, ◌≤◌, ◌↔◌, ◌++◌, ◌⊎◌, IfOk, IfErr, IfSome, OnOk, OnErr, IsTrue, Some, None, Err, Any, [], ◌∷◌, length, MatchOption, option_copied, slice_get, is_some, swap, take, false};
 ghost use Rattle.std.specs.Fn.{FnOnceReturnsAt};
 ghost use Rattle.std.specs.List.Retain.{IsFiltered};
 ghost use Rattle.std.specs.List.{IsDistinct, AllByRecursion};
@@ -11,9 +11,11 @@ ghost use Rattle.fm_labels.specs.LabelValues.{shown_texts, values_eq};
 ghost use Rattle.fm_family.specs.Members.{OffersFirst, MayFault, CalledAtMember};
 ghost use Rattle.fm_family.specs.VecMembers.{named_labels, AddsNew, FindsOrAdds, AreVecMembers};
 ghost use Rattle.fm_family.specs.inside.Indexed.{HoldsMetric};
+ghost use Rattle.fm_family.specs.inside.Young.{AreBeside, FiltersTo};
 
 use crate::factory::MetricFactory;
 use crate::vec::hashing::{LabelHashing, SoughtBlock, SoughtValues};
+use crate::vec::young::move_all;
 use fm_labels::label_values::{LabelValues, ShortValues};
 use fm_raw::MetricError;
 use indexmap::IndexMap;
@@ -71,6 +73,13 @@ impl<M> VecMembers<M> {
         self.count
     }
 
+    // How many members there may be.
+    pub(crate) fn limit(&self) -> usize
+        ensures { result ≡ self.now.limit }
+    {
+        self.limit
+    }
+
     /// How many members there are. No two of them have the same values.
     pub fn len(&self) -> usize
         ensures count { result ≡ length self.now.entries }
@@ -103,6 +112,13 @@ impl<M> VecMembers<M> {
             Some(short) => self.members.get(SoughtBlock { values: short }),
             None => self.members.get(SoughtValues { values }),
         }
+    }
+
+    // Whether there is a member of these values.
+    pub(crate) fn has(&self, values: &LabelValues) -> bool
+        ensures { result ≡ is_some (lookup (values_eq values.now) self.now.entries) }
+    {
+        self.members.contains_key(values)
     }
 
     // The index of the metric of these values, if there is one.
@@ -274,6 +290,29 @@ impl<M: Drop> VecMembers<M> {
         self.members.truncate(len);
     }
 
+    // Takes the young members in as the last ones, and returns whether there was memory for them; else all stay where they were.
+    pub(crate) fn take_in(&mut self, young: &mut VecMembers<M>) -> bool
+        ensures counts { (self.new.count ≡ self.old.count) × (self.new.limit ≡ self.old.limit) }
+        ensures taken { IsTrue result → young.new.entries ≡ [] }
+        ensures beside { AreBeside self.new young.new }
+    {
+        young.keep_beside(self);
+        self.take_all(young)
+    }
+
+    // As `take_in`, where the young members can go after the others.
+    fn take_all(&mut self, young: &mut VecMembers<M>) -> bool
+        requires { AreBeside self.old young.old }
+        ensures counts { (self.new.count ≡ self.old.count) × (self.new.limit ≡ self.old.limit) }
+        ensures young_count { young.new.count ≡ young.old.count }
+        ensures taken { IsTrue result → (young.new.entries ≡ [])
+            × (self.new.entries ≡ self.old.entries ++ young.old.entries) }
+        ensures kept { (result ≡ false) → (young.new.entries ≡ young.old.entries)
+            × (self.new.entries ≡ self.old.entries) }
+    {
+        move_all(&mut young.members, &mut self.members)
+    }
+
     /// Removes each metric at which `keep` returns `false`. The others keep their order and their values.
     ///
     /// `keep` is called once for each metric, in their order, with its values. It takes no memory, and time in proportion to the
@@ -282,6 +321,16 @@ impl<M: Drop> VecMembers<M> {
         requires { F.IsAlwaysCallable keep }
         ensures counts { (self.new.count ≡ self.old.count) × (self.new.limit ≡ self.old.limit) }
         ensures retained { IsFiltered (CalledAtMember F.FnMut) keep self.old.entries self.new.entries }
+    {
+        self.retain_by(&mut keep);
+    }
+
+    // As `retain`, and leaves the closure to the caller.
+    pub(crate) fn retain_by<F: FnMut(&LabelValues, &M) -> bool>(&mut self, keep: &mut F)
+        requires { F.IsAlwaysCallable keep.old }
+        ensures callable { F.IsAlwaysCallable keep.new }
+        ensures counts { (self.new.count ≡ self.old.count) × (self.new.limit ≡ self.old.limit) }
+        ensures retained { FiltersTo (CalledAtMember F.FnMut) keep.old keep.new self.old.entries self.new.entries }
     {
         let mut retained = 0;
         for index in 0..self.len() {

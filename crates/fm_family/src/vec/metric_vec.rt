@@ -24,14 +24,18 @@ use fm_registry_rules::RegistryError;
 use fm_registry_rules::label_names::LabelNames;
 use std::alloc::{AllocError, Global};
 use std::fmt::{self, Debug, Formatter};
-use std::sync::{Arc, RwLock, Wait};
+use std::sync::{Arc, Mutex, RwLock, Wait};
 use std::time::Duration;
 
-// What the clones of a family share.
+// What the clones of a family share. Who scrapes or removes members takes the turn first, and then `core`: so nobody waits to
+// write while a scrape reads, since readers that come then would wait behind. A member that is made while another has the turn is
+// young: it is added to a list of its own, which is locked last, and whose members go after those of `core`.
 #[derive(Drop)]
 struct Shared<M, MF> {
     names: LabelNames,
+    turn: Mutex<()>,
     core: RwLock<VecMembers<M>>,
+    young: Mutex<VecMembers<M>>,
     factory: MF,
 }
 
@@ -39,8 +43,10 @@ struct Shared<M, MF> {
 /// found by its values. The clones of a family share the members. The factory `MF` makes a metric when its values are first used. The
 /// exposition has the members in the order in which they were made.
 ///
-/// A call waits while another thread makes or removes a metric, and a call that makes or removes one waits for all others.
-/// Neither the factory nor a closure that borrows a metric may call the same family: it would wait for ever.
+/// A call that finds its metric or makes one waits while another thread makes or removes one, and not for a scrape: only where
+/// the family became full during a scrape, one that would make a metric waits for its end. A call that removes metrics waits for
+/// all others and for scrapes, and scrapes wait for each other. Neither the factory nor a closure that borrows a metric may call
+/// the same family: it would wait for ever.
 ///
 /// <!-- cut: crates/calling/src/families.rt -->
 /// ```rust
@@ -85,12 +91,16 @@ impl<M: TypedMetric + Drop, MF: Drop, H: Wait + Drop> MetricVec<M, MF, H> {
         ensures factory { IfOk result (λ v. vec_factory v ≡ factory) }
     {
         let names = tested_label_names(alloc, M::TYPE, names)?;
+        let turn = Mutex::new(());
         let core = RwLock::new(VecMembers::new(alloc, hashing, names.count(), limit));
+        let young = Mutex::new(VecMembers::new(alloc, hashing, names.count(), limit));
         let shared = Arc::new(
             alloc,
             Shared {
                 names,
+                turn,
                 core,
+                young,
                 factory,
             },
         )?;
@@ -117,9 +127,24 @@ impl<M: Drop, MF: Drop, H: Wait + Drop> MetricVec<M, MF, H> {
             × AreVecMembers members
             × (result ≡ length members.entries) }
     {
-        let core = self.shared.core.read(&self.wait);
-        core.are_different();
-        core.len()
+        let shared = &*self.shared;
+        let guard = shared.core.read(&self.wait);
+        let core: &VecMembers<M> = &guard;
+        let mut guard = shared.young.lock(&self.wait);
+        let young: &mut VecMembers<M> = &mut guard;
+        young.keep_beside(core);
+        core.len() + young.len()
+    }
+
+    // Has the young members stand after the others, and returns whether there was memory for that. Who calls it has the turn.
+    fn settle(&self) -> bool {
+        let shared = &*self.shared;
+        if shared.young.lock(&self.wait).is_empty() {
+            return true;
+        }
+        let mut core = shared.core.write(&self.wait);
+        let mut young = shared.young.lock(&self.wait);
+        core.take_in(&mut young)
     }
 
     // Fails with `WrongValueCount` unless there are as many values as names.
@@ -148,18 +173,23 @@ impl<M: Drop, MF: Drop, H: Wait + Drop> MetricVec<M, MF, H> {
         ensures right { IfErr result (λ _. HasOtherCount (vec_names self.now) values.now) }
     {
         self.test_count(values)?;
-        let mut guard = self.shared.core.write(&self.wait);
-        let core: &mut VecMembers<M> = &mut guard;
-        core.are_different();
-        Ok(core.remove(values))
+        let shared = &*self.shared;
+        let _turn = shared.turn.lock(&self.wait);
+        let mut core = shared.core.write(&self.wait);
+        let mut young = shared.young.lock(&self.wait);
+        Ok(core.remove_of_both(&mut young, values))
     }
 
     /// Removes each member, as `remove` does.
     ///
     /// The call waits for all other calls of this family, and takes no memory.
     pub fn clear(&self) {
-        let mut core = self.shared.core.write(&self.wait);
+        let shared = &*self.shared;
+        let _turn = shared.turn.lock(&self.wait);
+        let mut core = shared.core.write(&self.wait);
+        let mut young = shared.young.lock(&self.wait);
         core.clear();
+        young.clear();
     }
 
     /// Removes each member at which `keep` returns `false`, as `remove` does.
@@ -171,10 +201,11 @@ impl<M: Drop, MF: Drop, H: Wait + Drop> MetricVec<M, MF, H> {
         ensures { Locked AreVecMembers (λ old new _.
             IsFiltered (CalledAtMember F.FnMut) keep old.entries new.entries) result }
     {
-        let mut guard = self.shared.core.write(&self.wait);
-        let core: &mut VecMembers<M> = &mut guard;
-        core.are_different();
-        core.retain(keep);
+        let shared = &*self.shared;
+        let _turn = shared.turn.lock(&self.wait);
+        let mut core = shared.core.write(&self.wait);
+        let mut young = shared.young.lock(&self.wait);
+        core.retain_both(&mut young, keep);
     }
 }
 
@@ -184,7 +215,8 @@ impl<M: Drop, MF: MetricFactory<M> + Drop, H: Wait + Drop> MetricVec<M, MF, H> {
     ///
     /// Fails with `WrongValueCount` unless there are as many values as names. If there is no member of these values, it fails with
     /// `TooManyMembers` where there are as many members as the limit allows, with the factory's error, or with `Memory` if memory runs
-    /// out. At an error the members stay as they were. If the metric exists, the call takes no memory, and locks for reading only.
+    /// out. At an error the members stay as they were. If the metric exists, the call takes no memory, and locks for reading only,
+    /// unless it was made during a scrape.
     pub fn with<R, F: FnOnce(&M) -> R>(&self, values: &[&str], f: F) -> Result<R, MetricError>
         // The factory and `f` can be called.
         requires ready { MF.is_ready (vec_factory self.now) }
@@ -210,10 +242,54 @@ impl<M: Drop, MF: MetricFactory<M> + Drop, H: Wait + Drop> MetricVec<M, MF, H> {
         if let Some(metric) = core.get(values) {
             return Ok(f(metric));
         }
+        if let Some(_turn) = shared.turn.try_lock() {
+            drop(guard);
+            return self.make(values, f);
+        }
+        let mut young_guard = shared.young.lock(&self.wait);
+        let young: &mut VecMembers<M> = &mut young_guard;
+        young.are_different();
+        if let Some(made) = young.get(values) {
+            return Ok(f(made));
+        }
+        if young.has_room_beside(core, values.len()) {
+            return young.with_or_new(self.alloc, values, &shared.factory, f);
+        }
+        drop(young_guard);
         drop(guard);
-        let mut core = shared.core.write(&self.wait);
+        let _turn = shared.turn.lock(&self.wait);
+        self.make(values, f)
+    }
+
+    // As `with`, where there are as many values as names. Who calls it has the turn.
+    fn make<R, F: FnOnce(&M) -> R>(&self, values: &[&str], f: F) -> Result<R, MetricError>
+        requires ready { MF.is_ready (vec_factory self.now) }
+        requires callable { F.IsAlwaysCallable f }
+        ensures finds { Locked AreVecMembers (λ old new r. FindsOrAdds (MF.promises (vec_factory self.now))
+            old.limit (shown_texts values.now) old.entries new.entries
+            (λ r metric. FnOnceReturnsAt F.FnOnce f metric r) r) result }
+        ensures called { IfOk result (λ r. (metric : M) × FnOnceReturnsAt F.FnOnce f metric r) }
+        ensures refused { IfErr result (λ e. (e ≡ Memory) ⊎ ((e ≡ TooManyMembers)
+            ⊎ MF.promises (vec_factory self.now) (Err e))) }
+    {
+        let shared = &*self.shared;
+        let mut guard = shared.core.write(&self.wait);
+        let core: &mut VecMembers<M> = &mut guard;
         core.expect(values.len());
-        core.with_or_new(self.alloc, values, &shared.factory, f)
+        let mut young_guard = shared.young.lock(&self.wait);
+        let young: &mut VecMembers<M> = &mut young_guard;
+        if core.take_in(young) {
+            return core.with_or_new(self.alloc, values, &shared.factory, f);
+        }
+        core.are_different();
+        if let Some(found) = core.get(values) {
+            return Ok(f(found));
+        }
+        young.are_different();
+        match young.get(values) {
+            Some(metric) => Ok(f(metric)),
+            None => Err(MetricError::Memory),
+        }
     }
 }
 
@@ -282,6 +358,10 @@ impl<
 
     fn encode(&self, encoder: &mut MetricEncoder) -> Result<(), EncodeError> {
         let shared = &*self.shared;
+        let _turn = shared.turn.lock(&self.wait);
+        if !self.settle() {
+            return Err(EncodeError::Memory);
+        }
         let core = shared.core.read(&self.wait);
         if core.count() != shared.names.count() {
             return Ok(());
@@ -298,7 +378,8 @@ impl<
     }
 
     fn is_empty(&self) -> bool {
-        let core = self.shared.core.read(&self.wait);
-        core.is_empty()
+        let shared = &*self.shared;
+        let core = shared.core.read(&self.wait);
+        core.is_empty() && shared.young.lock(&self.wait).is_empty()
     }
 }

@@ -1,7 +1,7 @@
 use Rattle.std.proofs.Common.{◌≡◌}
 use Rattle.fm_family.specs.Members.{CalledAtMember}
 use Rattle.fm_family.proofs.RetainLemmas.{RetainedSoFar}
-use Rattle.fm_family.proofs.vec.members.VecMembers.retain.Given as goal
+use Rattle.fm_family.proofs.vec.members.VecMembers.retain_by.Given as goal
 
 abbrev pub invariant-loop-index : goal.invariant-loop-index
 invariant-loop-index g l =
