@@ -54,8 +54,8 @@ fn write_lines<W: Write>(writer: &mut W, lines: &TextBlocks) -> Result<(), Encod
     lines.write_to(writer)
 }
 
-/// The memory in which documents are rendered, one after the other, for a server that is scraped again and again. From the third
-/// document of the same size on it asks for no memory, but for the labels of infos, state sets, summaries and exemplars.
+/// The memory in which documents are rendered, one after the other, for a server that is scraped again and again. From the second
+/// document of the same size on it asks for no memory, but for the labels of infos and exemplars.
 ///
 /// It keeps the blocks of 64 KiB that the last document filled, and the labels of a few lines. The blocks that a document didn't take
 /// are given back when the next one begins, and all of them when it is dropped. A document that was refused leaves none of its text.
