@@ -1,8 +1,8 @@
 -- The members of a family by label names in two lists: those that a scrape may read, and young ones.
-use Rattle.std.proofs.Common.{◌≡◌, ℕ, ◌<◌, ◌≤◌, ◌+◌, Bool, true, false, cond, if◌then◌else◌, List, [], ◌∷◌, ◌++◌, length, take, get_or, slice_get, refl, sym, ap, ◌∙◌, subst, arith, length-append, append-nil, append_assoc, reverse, Option, None, Some, is_some, MatchOption, Result, Ok, Err, MatchResult, ◌⊎◌, inl, inr}
+use Rattle.std.proofs.Common.{◌≡◌, ℕ, ◌<◌, ◌≤◌, ◌+◌, Bool, true, false, cond, if◌then◌else◌, List, [], ◌∷◌, ◌++◌, length, take, get_or, slice_get, refl, sym, ap, ◌∙◌, subst, arith, length-append, append_assoc, reverse, Option, None, Some, is_some, Result, Ok, Err, MatchResult, ◌⊎◌, inl, inr}
 use Rattle.std.proofs.lemmas.List.{take_more, reverse-append}
 use Rattle.std.proofs.lemmas.Option.{slice_get_within, get_or_from_slice_get}
-use Rattle.std.proofs.lemmas.Map.{NonePasses, lookup-none, none_passes_from_lookup}
+use Rattle.std.proofs.lemmas.Map.{lookup-none, none_passes_from_lookup}
 use Rattle.std.proofs.lemmas.Map.Keys.{IsDistinct-head, IsDistinct-tail, IsDistinct-cons}
 use Rattle.std.specs.List.{AllByRecursion, IsDistinct, items_where_true}
 use Rattle.std.specs.List.Retain.{ReturnsInTurn, IsFiltered}
@@ -170,12 +170,6 @@ module _ {M : Type 0} where
           values = joined_all P others.entries young.entries sound.values (subst (λ n. AllByRecursion (λ (e : List Text × M). length e.0 ≡ n) young.entries) (has.young_count ∙ sym has.others_count) young_sound.values);
           within = omega arith;
         }
-
-  -- no young members
-  pub beside_nothing : (others young : VecState M) → AreVecMembers others → young.count ≡ others.count → young.entries ≡ [] → AreBeside others young
-  beside_nothing others young sound count none =
-      let same : others.entries ++ young.entries ≡ others.entries = ap (λ t. others.entries ++ t) none ∙ append-nil others.entries in
-      record { count = count; members = record { different = rw same sound.different; values = rw same sound.values; within = rw same sound.within } }
 
   -- what adds a young member adds it to the family
   module _ {A : Type 0} (promises : Result M MetricError → Type 0) (limit young_limit : ℕ) (values : List Text) (es ys new : List (List Text × M)) (tells : A → M → Type 0) (none : lookup (values_eq values) es ≡ None) (young_none : lookup (values_eq values) ys ≡ None) (same_limit : young_limit ≡ limit) (room : length es + length ys < limit) where
